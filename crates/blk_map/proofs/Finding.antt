@@ -87,3 +87,37 @@ searched_one map found count number free room s =
       ];
       many = omega (arith, s.many, free_end map number, more);
     }
+
+-- a row of blocks in use is passed over
+pub searched_row : (map found : List ℕ) (count number n : ℕ) → ((block : ℕ) → number ≤ block → block < number + n → bit_of map block ≡ 1) → Searched map found count number → Searched map found count (number + n)
+searched_row map found count number zero used s = let at : number ≡ number + 0 = omega arith in subst (λ (k : ℕ). Searched map found count k) at s
+searched_row map found count number (suc n) used s =
+    let before = searched_row map found count number n (λ block from to. used block from (omega (arith, to))) s in
+    let at : number + n + 1 ≡ number + suc n = omega arith in
+    subst (λ (k : ℕ). Searched map found count k) at (searched_past map found count (number + n) (used (number + n) (omega arith) (omega arith)) before)
+
+pub searched_to : (map found : List ℕ) (count number to : ℕ) → number ≤ to → ((block : ℕ) → number ≤ block → block < to → bit_of map block ≡ 1) → Searched map found count number → Searched map found count to
+searched_to map found count number to le used s =
+    let at : number + (to - number) ≡ to = omega (arith, le) in
+    subst (λ (k : ℕ). Searched map found count k) at (searched_row map found count number (to - number) (λ block from lt. used block from (omega (arith, lt, at))) s)
+
+-- and so is one that is counted
+free_row : (map : List ℕ) (number n : ℕ) → ((block : ℕ) → number ≤ block → block < number + n → bit_of map block ≡ 1) → free_below map (number + n) ≡ free_below map number
+free_row map number zero used = let at : number + 0 ≡ number = omega arith in ap (free_below map) at
+free_row map number (suc n) used =
+    let before = free_row map number n (λ block from to. used block from (omega (arith, to))) in
+    let at : number + suc n ≡ number + n + 1 = omega arith in
+    let none : one (not (eqb (bit_of map (number + n)) 1)) ≡ 0 = ap (λ (b : Bool). one (not b)) (eq-eqb (bit_of map (number + n)) 1 (used (number + n) (omega arith) (omega arith))) in
+    let same : free_below map (number + suc n) ≡ free_below map (number + n + 1) = ap (free_below map) at in
+    omega (arith, same, free_end map (number + n), none, before)
+
+pub free_to : (map : List ℕ) (number to : ℕ) → number ≤ to → ((block : ℕ) → number ≤ block → block < to → bit_of map block ≡ 1) → free_below map to ≡ free_below map number
+free_to map number to le used =
+    let at : number + (to - number) ≡ to = omega (arith, le) in
+    let same : free_below map to ≡ free_below map (number + (to - number)) = ap (free_below map) (sym at) in
+    same ∙ free_row map number (to - number) (λ block from lt. used block from (omega (arith, lt, at)))
+
+pub free_one : (map : List ℕ) (number : ℕ) → bit_of map number ≢ 1 → free_below map (number + 1) ≡ free_below map number + 1
+free_one map number free =
+    let more : one (not (eqb (bit_of map number) 1)) ≡ 1 = ap (λ (b : Bool). one (not b)) (ne_eqb (bit_of map number) 1 free) in
+    omega (arith, free_end map number, more)

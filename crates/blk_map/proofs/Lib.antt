@@ -6,7 +6,6 @@ pub mod Forgetting
 pub mod Giving
 pub mod Growth
 pub mod Inodes
-pub mod NewFile
 pub mod SameBlocks
 pub mod Taking
 pub mod Taken

@@ -2,7 +2,7 @@
 use Rattle.std.proofs.Common.{◌≡◌, ◌≢◌, ℕ, ◌+◌, ◌-◌, ◌*◌, ◌<◌, ◌≤◌, inl, inr, List, length, get_or, refl, sym, ap, subst, ◌∙◌, arith}
 use Rattle.std.proofs.lemmas.Bool.{cases_lt}
 use Rattle.kabi_types.specs.declared.inodes.Inode.{Inode}
-use Rattle.posix_defs.specs.DiskFormat.{block_size, table_end, data_blocks, IsForFiles, inode_bytes, IsPointer, needs_pointer, pointer_blocks, most_blocks}
+use Rattle.posix_defs.specs.DiskFormat.{block_size, table_end, data_blocks, IsForFiles, inode_bytes, IsPointer, needs_pointer, most_blocks}
 use Rattle.posix_defs.specs.SoundDisk.{block_bytes, table_block, table_bytes, HasInode, pointer_at, Place, Data, Pointers, HasPlace, named_at, bit_of, IsMarked, Sound, pointer_block}
 use Rattle.posix_defs.specs.NodeChange.{Names, Replaces, Resizes}
 use Rattle.disk_laws.proofs.FreeBlocks.{named_is_for_files, direct_at, behind_at, of_each}

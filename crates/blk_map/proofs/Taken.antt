@@ -1,5 +1,5 @@
 -- What calls take of the free blocks, one after the other.
-use Rattle.std.proofs.Common.{◌≡◌, ◌≢◌, ℕ, ◌<◌, inl, inr, List, length, sym, ap, ◌∙◌, subst, arith}
+use Rattle.std.proofs.Common.{◌≡◌, ◌≢◌, ℕ, inl, inr, List, length, sym, ap, ◌∙◌, subst, arith}
 use Rattle.std.proofs.lemmas.Bool.{cases_eq}
 use Rattle.posix_defs.specs.DiskTree.{ChangesNode}
 use Rattle.posix_defs.specs.SoundDisk.{block_bytes, bit_of, map_bit, IsFreeBlock, IsMarked, Sound}

@@ -5,7 +5,7 @@ ghost use Rattle.posix_defs.specs.DiskFormat.{block_size};
 ghost use Rattle.posix_defs.specs.SoundDisk.{bit_of};
 ghost use Rattle.blk_map.specs.Found.{free_below};
 
-use disk_layout::{is_marked, mark, unmark};
+use disk_layout::{mark, next_free, unmark};
 
 /// Blocks that a node drops.
 #[derive(Clone, Copy)]
@@ -26,12 +26,32 @@ pub fn lowest_free(map: &[u8; 1024], blocks: u32, wanted: usize, found: &mut [u3
 {
     let mut count = 0;
     let mut number = 0;
-    while number < blocks && count < wanted {
-        if !is_marked(map, number) {
-            found[count] = number;
-            count += 1;
+    while count < wanted {
+        let free = next_free(map, number, blocks);
+        if free == blocks {
+            return count;
         }
-        number += 1;
+        found[count] = free;
+        count += 1;
+        number = free + 1;
+    }
+    count
+}
+
+/// How many blocks a map has as free, of so many; it is counted up to what is wanted.
+pub fn free_up_to(map: &[u8; 1024], blocks: u32, wanted: u32) -> u32
+    requires { blocks ≤ 8 * block_size }
+    ensures { result ≡ min wanted (free_below map.now blocks) }
+{
+    let mut count = 0;
+    let mut number = 0;
+    while count < wanted {
+        let free = next_free(map, number, blocks);
+        if free == blocks {
+            return count;
+        }
+        count += 1;
+        number = free + 1;
     }
     count
 }

@@ -14,6 +14,7 @@ mod settling;
 mod shrinking;
 
 pub use counts::{DIRECT_POINTERS, block_count, data_count};
+pub use found::free_up_to;
 pub use growing::{grow, grow_but};
 pub use laws::growing_and_shrinking_back_changes_nothing;
 pub use locating::block_at;

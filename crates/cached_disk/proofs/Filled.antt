@@ -142,10 +142,6 @@ absent_if objects cache number keeps none = (elim (block_slot cache number) as (
       absurd (cc)
 ]) refl
 
-pub some_slot : (o : Option ℕ) → IsSome o → (slot : ℕ) × (o ≡ Some slot)
-some_slot None some = absurd (cc)
-some_slot (Some slot) some = (slot, refl)
-
 pub no_slot : (o : Option ℕ) → (IsSome o → ⊥) → o ≡ None
 no_slot None none = refl
 no_slot (Some slot) none = absurd (none refl)

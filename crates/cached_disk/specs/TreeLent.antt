@@ -36,10 +36,6 @@ abbrev pub tree_parts : Heap → Purse → Order NameKey → Nodes → Order ℕ
 tree_parts heap purse names vnodes blocks disk =
     record { heap = heap; purse = purse; names = names; vnodes = vnodes; blocks = blocks; disk = disk }
 
--- those of them that the blocks are reached by
-abbrev pub block_parts : TreeParts → Parts
-block_parts p = parts p.heap p.purse p.blocks p.disk
-
 -- The cache of names keeps just the Names of the heap. The purse has a Name left, or has filled one that may go; and there
 -- is room for as many as the heap has.
 pub record NamesLent (heap : Heap) (purse : Purse) (names : Order NameKey) : Type 0 where

@@ -51,13 +51,14 @@ pub fn make_through(
     ensures goes_on { GoesOn (parts heap.old purse.old cache.old disk.old)
         (parts heap.new purse.new cache.new disk.new) }
 {
+    let full = disk.full_blocks();
     let mut blocks = CachedBlocks {
         heap,
         purse,
         cache,
         disk,
     };
-    make_named(&mut blocks, parent, dir, name, new)
+    make_named(&mut blocks, parent, dir, name, new, full)
 }
 
 /// Writes bytes into a file from `at` on, as many as there is room for, and answers how many; a gap before `at` is zeros. The

@@ -2,7 +2,7 @@
 use Rattle.std.proofs.Common.{◌≡◌, ℕ, ◌≤◌, arith}
 use Rattle.kabi_types.specs.declared.scripts.Script.{Script}
 use Rattle.kheap_slabs.specs.Heap.{IsWellFormed, live_bytes}
-use Rattle.machine_keeps.proofs.Turning.{killed_reached}
+use Rattle.machine_laws.proofs.Turning.{killed_reached}
 use Rattle.posix_defs.specs.Killing.{sigkill}
 use Rattle.posix_defs.specs.Relief.{Kills}
 use Rattle.posix_defs.specs.World.{World, live_of}

@@ -15,8 +15,6 @@ pub mod Killing
 pub mod Ends
 pub mod Naming
 pub mod Needing
-pub mod Waking
-pub mod Forgetting
 pub mod Telling
 pub mod Resting
 pub mod BytesCached

@@ -3,10 +3,10 @@ use Rattle.std.proofs.Common.{◌≡◌, ℕ, ◌<◌, true, sym, subst}
 use Rattle.kabi_types.specs.declared.calls.Call.{Call}
 use Rattle.kabi_types.specs.declared.calls.Call.TheVariants as call
 use Rattle.kabi_types.specs.declared.scripts.Script.{Script}
-use Rattle.machine_keeps.specs.Texts.{HasTexts}
-use Rattle.machine_keeps.proofs.Texting.{valid_texts}
-use Rattle.machine_keeps.proofs.Unnamed.{reached_unnamed}
-use Rattle.machine_keeps.proofs.Wholeness.{is_whole, stands_between}
+use Rattle.machine_laws.specs.Texts.{HasTexts}
+use Rattle.machine_laws.proofs.Texting.{valid_texts}
+use Rattle.machine_laws.proofs.Unnamed.{reached_unnamed}
+use Rattle.machine_laws.proofs.Wholeness.{is_whole, stands_between}
 use Rattle.machine_laws.specs.Reached.{IsReached}
 use Rattle.posix_defs.specs.Control.{settled, statement_of}
 use Rattle.posix_defs.specs.Files.Descriptions.{OnNode}

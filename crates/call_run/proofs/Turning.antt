@@ -12,8 +12,8 @@ use Rattle.kheap_slabs.specs.declared.objects.Proc.{Proc}
 use Rattle.posix_defs.specs.Control as program
 use Rattle.posix_defs.specs.Control.{call_at, settled, statement_of, value_of}
 use Rattle.posix_defs.specs.Made.{made}
-use Rattle.machine_keeps.specs.Texts.{ArePathBytes}
-use Rattle.machine_keeps.proofs.Texting.{valid_texts}
+use Rattle.machine_laws.specs.Texts.{ArePathBytes}
+use Rattle.machine_laws.proofs.Texting.{valid_texts}
 use Rattle.posix_defs.specs.Plain.{Plain, call_of, control_of}
 use Rattle.posix_defs.specs.Reaching.{paths_of}
 use Rattle.posix_defs.specs.ValidScript.{IsValid}

@@ -6,7 +6,7 @@ use Rattle.kabi_types.specs.declared.calls.Call.TheVariants as call
 use Rattle.kabi_types.specs.declared.calls.CallKind.{CallKind}
 use Rattle.kabi_types.specs.declared.calls.CallKind.TheVariants as kind
 use Rattle.kheap_slabs.specs.Heap.{Heap}
-use Rattle.machine_keeps.specs.Texts.{ArePathBytes}
+use Rattle.machine_laws.specs.Texts.{ArePathBytes}
 use Rattle.posix_defs.specs.Calls.Opened.{opened_at}
 use Rattle.posix_defs.specs.Files.State.{Files}
 use Rattle.posix_defs.specs.Files.Whole.{is_queue_in}

@@ -1,7 +1,5 @@
 -- What the store keeps in mind of the calls that sleep.
 use Rattle.std.specs.Prelude.{ℕ, ◌≡◌, ◌==◌, ◌%◌, Bool, true, false, List, Option, None, Some, slice_get}
-use Rattle.kabi_types.specs.declared.calls.Call.{Call}
-use Rattle.kabi_types.specs.declared.calls.Call.TheVariants as call
 use Rattle.kabi_types.specs.declared.scripts.Script.{Script}
 use Rattle.posix_defs.specs.Machine.{would_block}
 use Rattle.posix_defs.specs.Plain.{Plain}
@@ -20,9 +18,9 @@ is_there (Some (Some it)) pid = it == pid
 abbrev pub is_told : List (Option ℕ) → ℕ → Bool
 is_told known pid = is_there (slice_get known (pid % 64)) pid
 
--- what is known of a process is so, where it is alive
+-- of whom it is known, that process is alive, and its next call would block
 abbrev pub AreTold : Script → Plain → List (Option ℕ) → Type 0
-AreTold script plain known = (pid : ℕ) → is_told known pid ≡ true → is_alive plain.table pid ≡ true → would_block script plain pid ≡ true
+AreTold script plain known = (pid : ℕ) → is_told known pid ≡ true → (is_alive plain.table pid ≡ true) × (would_block script plain pid ≡ true)
 
 -- What was seen of a process is so in each world that the objects stand for. Nothing is known of who has ended, or would go on.
 abbrev pub IsTrulyTold : Script → Objects → ℕ → Option ℕ → Type 0
@@ -30,10 +28,3 @@ IsTrulyTold script objects pid None =
     (world : World) → StandsFor script objects world → is_alive world.plain.table pid ≡ true → would_block script world.plain pid ≡ false
 IsTrulyTold script objects pid (Some it) =
     (it ≡ pid) × ((world : World) → StandsFor script objects world → (is_alive world.plain.table pid ≡ true) × (would_block script world.plain pid ≡ true))
-
--- the calls that change nothing but how far their own process is
-abbrev pub wakes_nobody : Call → Bool
-wakes_nobody call.Getpid = true
-wakes_nobody call.Getppid = true
-wakes_nobody call.SchedYield = true
-wakes_nobody _ = false

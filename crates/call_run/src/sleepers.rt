@@ -1,19 +1,21 @@
 //! What the store keeps in mind of calls that sleep, so that it looks at each again only where a turn or a kill may have woken it.
 
-ghost use Rattle.std.specs.Prelude.{◌≡◌, ◌%◌, ℕ, true, false, not};
+ghost use Rattle.std.specs.Prelude.{◌≡◌, ◌%◌, ◌⊎◌, ℕ, true, false, not};
 ghost use Rattle.kabi_types.specs.declared.calls.Call.{Call};
+ghost use Rattle.machine_laws.specs.Reached.{IsReached};
 ghost use Rattle.posix_defs.specs.Machine.{would_block};
 ghost use Rattle.posix_defs.specs.Process.{is_alive};
 ghost use Rattle.posix_defs.specs.Turn.{TurnsTo};
 ghost use Rattle.posix_defs.specs.World.{World};
 ghost use Rattle.posix_defs.specs.declared.turner.Turned.{Turned};
 ghost use Rattle.store_objects.specs.Standing.{StandsFor};
-ghost use Rattle.call_run.specs.Sleepers.{AreTold, IsTrulyTold, is_told, wakes_nobody};
+ghost use Rattle.waking_laws.specs.Waking.{passes_by, wakes_nobody};
+ghost use Rattle.call_run.specs.Sleepers.{AreTold, IsTrulyTold, is_told};
 
 use crate::calls::would_block;
 use crate::turns::waits_for;
 use arrayvec::ArrayVec;
-use kabi_types::{Call, Script};
+use kabi_types::{Call, Reply, Script};
 use posix_defs::Turned;
 use store_objects::Objects;
 
@@ -41,7 +43,8 @@ pub fn is_told(known: &[Option<u32>], pid: u32) -> bool
 #[cold]
 #[inline(never)]
 fn note(known: &mut ArrayVec<Option<u32>, 64>, pid: u32)
-    ensures { is_told known.new.items pid ≡ true }
+    ensures there { is_told known.new.items pid ≡ true }
+    ensures others { (other : ℕ) → is_told known.new.items other ≡ true → (other ≡ pid) ⊎ (is_told known.old.items other ≡ true) }
 {
     let place = place_of(pid);
     while known.len() <= place {
@@ -60,11 +63,54 @@ pub fn forget(known: &mut ArrayVec<Option<u32>, 64>, pid: u32)
     }
 }
 
-/// Whether a turn of this call changes nothing but how far its own process is.
+/// Whether a turn of this call changes nothing that another process's call may wait for: no queue, no child that is there, and of a
+/// description nothing but its offset.
 fn wakes_nobody(call: &Call) -> bool
     ensures { result ≡ wakes_nobody call.now }
 {
-    matches!(call, Call::Getpid | Call::Getppid | Call::SchedYield)
+    matches!(
+        call,
+        Call::Getpid
+            | Call::Getppid
+            | Call::SchedYield
+            | Call::Fork
+            | Call::Mmap { .. }
+            | Call::Munmap { .. }
+            | Call::Store { .. }
+            | Call::Load { .. }
+            | Call::OpenFile { .. }
+            | Call::Dup { .. }
+            | Call::Pread { .. }
+            | Call::Pwrite { .. }
+            | Call::Lseek { .. }
+            | Call::Readdir { .. }
+            | Call::Ftruncate { .. }
+            | Call::Fstat { .. }
+            | Call::Stat { .. }
+            | Call::Chdir { .. }
+            | Call::Mkdir { .. }
+            | Call::Rmdir { .. }
+            | Call::Unlink { .. }
+            | Call::Link { .. }
+            | Call::Rename { .. }
+            | Call::Pipe
+            | Call::Socket
+            | Call::Bind { .. }
+            | Call::Poll { .. }
+    )
+}
+
+/// Whether a turn of this call, which came to this, wakes nobody: it did nothing, it failed, or its call is one that wakes nobody.
+/// All else makes stale what is known of calls that sleep, and this is the one place that says so of a turn.
+fn passes_by(call: &Call, turned: &Turned) -> bool
+    ensures { result ≡ passes_by call.now turned.now }
+{
+    match turned {
+        Turned::Sleep | Turned::Gone => true,
+        Turned::Done(Reply::Fail(_)) => true,
+        Turned::Done(_) => wakes_nobody(call),
+        Turned::Part(_) | Turned::Ended(_) => false,
+    }
 }
 
 /// Whether a live process's next call wouldn't block now. It stands by itself, since it is large and asked at two places.
@@ -113,7 +159,7 @@ fn trim(known: &mut ArrayVec<Option<u32>, 64>)
     }
 }
 
-/// Behind a turn of a process that wakes nobody: what is known of others is so still, and is looked at again where it was stale.
+/// Behind a turn of a process that passed by: what is known of others is so still, and is looked at again where it was stale.
 #[cold]
 #[inline(never)]
 fn refresh(
@@ -125,7 +171,7 @@ fn refresh(
 )
     requires { (world : World) × StandsFor script.now objects.now world }
     ensures { (old new : World) (call : Call) (told : Turned) → (stale.old ≡ false → AreTold script.now old.plain known.old.items) → StandsFor script.now objects.now new
-        → wakes_nobody call ≡ true → TurnsTo script.now old pid call told new → AreTold script.now new.plain known.new.items }
+        → IsReached script.now old.plain → passes_by call told ≡ true → TurnsTo script.now old pid call told new → AreTold script.now new.plain known.new.items }
 {
     if *stale {
         look_again(script, objects, known);
@@ -136,7 +182,28 @@ fn refresh(
     }
 }
 
-/// Behind a turn of this call of a process, which came to this: what is known of others is stale, but where the call wakes nobody;
+/// Behind a turn of a process that came to a sleep, which changed nothing: it is known with the others from now on. Where what is
+/// known is stale it is looked at with the others.
+#[cold]
+#[inline(never)]
+fn fall_asleep(
+    script: &Script,
+    objects: &Objects,
+    known: &mut ArrayVec<Option<u32>, 64>,
+    stale: bool,
+    pid: u32,
+)
+    requires { (world : World) × StandsFor script.now objects.now world }
+    ensures { (old new : World) (call : Call) (told : Turned) → AreTold script.now old.plain known.old.items → StandsFor script.now objects.now new
+        → IsReached script.now old.plain → passes_by call told ≡ true → TurnsTo script.now old pid call told new → stale ≡ false → AreTold script.now new.plain known.new.items }
+{
+    note(known, pid);
+    if !stale {
+        known[place_of(pid)] = look_at(script, objects, pid);
+    }
+}
+
+/// Behind a turn of this call of a process, which came to this: what is known of others is stale, but where the turn passed by;
 /// whose call sleeps is kept in mind. Where nothing may be known but of the first process it is stale too, since that one is as soon
 /// asked.
 pub fn keep_in_mind(
@@ -150,14 +217,13 @@ pub fn keep_in_mind(
 )
     requires { (world : World) × StandsFor script.now objects.now world }
     ensures { (old new : World) → (stale.old ≡ false → AreTold script.now old.plain known.old.items) → StandsFor script.now objects.now new
-        → TurnsTo script.now old pid call.now turned.now new → stale.new ≡ false → AreTold script.now new.plain known.new.items }
+        → IsReached script.now old.plain → TurnsTo script.now old pid call.now turned.now new → stale.new ≡ false → AreTold script.now new.plain known.new.items }
 {
-    if wakes_nobody(call) && known.len() > FIRST {
+    if matches!(turned, Turned::Sleep) {
+        fall_asleep(script, objects, known, *stale, pid);
+    } else if known.len() > FIRST && passes_by(call, turned) {
         refresh(script, objects, known, stale, pid);
     } else {
         *stale = true;
-        if matches!(turned, Turned::Sleep) {
-            note(known, pid);
-        }
     }
 }

@@ -5,7 +5,7 @@ ghost use Rattle.kheap_slabs.specs.Owners.{OwnsItsObjects};
 ghost use Rattle.kheap_slabs.specs.Paid.{TakesNothing};
 ghost use Rattle.posix_defs.specs.Files.Descriptions.{may_write as plain_may_write};
 ghost use Rattle.posix_defs.specs.Files.State.{Files};
-ghost use Rattle.place_laws.specs.Placed.{Numbers};
+ghost use Rattle.open_laws.specs.Placed.{Numbers};
 ghost use Rattle.open_laws.specs.Closing.{IsClosable, IsDroppable, Drops, TargetCloses, EndCloses, SocketCloses, QueuesChange};
 ghost use Rattle.open_laws.specs.Described.{CountedList, access_in, counting, after_share, after_drop, node_in, node_left, descs_left};
 ghost use Rattle.open_laws.specs.Open.{AreOpen, files_dropped};

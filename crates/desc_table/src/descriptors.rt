@@ -4,7 +4,7 @@ ghost use Rattle.kabi_types.specs.Arguments.{most_descriptors};
 ghost use Rattle.posix_defs.specs.Calls.Polling.{polled_at};
 ghost use Rattle.posix_defs.specs.Files.Descriptors.{Descriptor as PlainDescriptor, descriptor_at, descriptor_of, with_descriptor, lowest_free_from, is_cloexec, open_count};
 ghost use Rattle.posix_defs.specs.Files.State.{Files, descriptors_of};
-ghost use Rattle.place_laws.specs.Placed.{Numbers};
+ghost use Rattle.open_laws.specs.Placed.{Numbers};
 ghost use Rattle.open_laws.specs.Described.{CountedList, access_in};
 ghost use Rattle.open_laws.specs.Open.{AreOpen, renumbered};
 ghost use Rattle.open_laws.specs.Polled.{IsOpenIn, IsTargetIn, TellsTarget, TellsOpen};

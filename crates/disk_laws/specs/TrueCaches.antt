@@ -1,8 +1,8 @@
 -- Caches that are true of a disk: each cached name, inode and block is what the disk says now.
-use Rattle.std.specs.Prelude.{ℕ, ◌≡◌, List, Option, Some, slice_get}
+use Rattle.std.specs.Prelude.{ℕ, ◌≡◌, List, Option, Some}
 use Rattle.kabi_types.specs.declared.inodes.Inode.{Inode}
 use Rattle.kabi_types.specs.declared.inodes.DirEntry.{DirEntry}
-use Rattle.posix_defs.specs.SoundDisk.{HasInode, HasNode}
+use Rattle.posix_defs.specs.SoundDisk.{HasInode}
 use Rattle.posix_defs.specs.DiskContents.{HasEntries, Finds}
 
 -- a look for the name in the directory finds this node
@@ -16,11 +16,3 @@ pub record HasName (disk : List (List ℕ)) (dir : ℕ) (name : List ℕ) (node 
 -- a cache of names: it may have the node that is called so in a directory
 abbrev pub TrueNames : List (List ℕ) → (ℕ → List ℕ → Option ℕ) → Type 0
 TrueNames disk cached = (dir : ℕ) (name : List ℕ) (node : ℕ) → cached dir name ≡ Some node → HasName disk dir name node
-
--- a cache of inodes: it may have the inode of a node in use
-abbrev pub TrueInodes : List (List ℕ) → (ℕ → Option Inode) → Type 0
-TrueInodes disk cached = (node : ℕ) (inode : Inode) → cached node ≡ Some inode → HasNode disk node inode
-
--- a cache of blocks: it may have the bytes of a block
-abbrev pub TrueBlocks : List (List ℕ) → (ℕ → Option (List ℕ)) → Type 0
-TrueBlocks disk cached = (number : ℕ) (bytes : List ℕ) → cached number ≡ Some bytes → slice_get disk number ≡ Some bytes

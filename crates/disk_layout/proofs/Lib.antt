@@ -4,3 +4,5 @@ pub mod EntryBytes
 pub mod MapBits
 pub mod NewDisk
 pub mod RegionBlocks
+pub mod FullBytes
+pub mod TableBlocks

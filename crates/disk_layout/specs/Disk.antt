@@ -1,5 +1,5 @@
 -- What a caller sees of a disk in memory.
-use Rattle.std.specs.Prelude.{ℕ, ◌+◌, ◌-◌, ◌^◌, ◌≡◌, ◌≤◌, ◌++◌, min, List, length, replicate}
+use Rattle.std.specs.Prelude.{ℕ, ◌+◌, ◌-◌, ◌^◌, ◌≡◌, ◌++◌, min, List, length, replicate}
 use Rattle.posix_defs.specs.DiskContents.{zeros}
 
 -- its blocks in order, and how often one was read

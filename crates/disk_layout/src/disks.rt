@@ -1,15 +1,19 @@
 //! A disk in memory that counts its reads.
 
-ghost use Rattle.std.specs.Prelude.{◌≡◌, ℕ, ◌+◌, ◌-◌, ◌<◌, ◌≤◌, ◌++◌, ◌∷◌, [], min, length, slice_get, slice_set, slice_index, Some, IfOk};
+ghost use Rattle.std.specs.Prelude.{◌≡◌, ◌≢◌, ℕ, ◌+◌, ◌-◌, ◌<◌, ◌≤◌, ◌++◌, ◌∷◌, [], min, length, slice_get, slice_set, slice_index, Some, IfOk};
 ghost use Rattle.disk_layout.specs.Disk.{IsRead};
-ghost use Rattle.posix_defs.specs.SoundDisk.{Sound};
+ghost use Rattle.posix_defs.specs.DiskFormat.{table_end};
+ghost use Rattle.posix_defs.specs.SoundDisk.{bit_of, Sound};
+ghost use Rattle.disk_layout.specs.Vacant.{HasNoneFree, NoneFreeIn};
 ghost use Rattle.posix_defs.specs.DiskContents.{zeros, first_marked, new_root, entry_for, new_entries, IsDirectoryOf, IsFormatted};
 ghost use Rattle.posix_defs.specs.Tree.{new_tree};
 ghost use Rattle.posix_defs.specs.DiskTree.{StandsFor};
 
 use crate::entries::bytes_of_entry;
 use crate::inodes::bytes_of;
+use crate::maps::{mark, next_free, unmark};
 use crate::regions::{Region, zero_block};
+use crate::slots::free_slot;
 use crate::words::put;
 use kabi_types::{DirEntry, Inode, Memory, Name27};
 use posix_defs::{Blocks, blank_inode};
@@ -24,17 +28,20 @@ pub struct RamDisk {
     table: Region,
     contents: Region,
     reads: u64,
+    // A bit for each block of the table, the first of them first, which is 1 where all nodes of that block are in use.
+    full: [u8; 32],
 }
 
 impl Model for RamDisk {
     ghost use Rattle.std.specs.Prelude.{length, ◌++◌, ◌+◌, ◌≤◌};
     ghost use Rattle.disk_layout.specs.Disk.{Disk};
+    ghost use Rattle.disk_layout.specs.Vacant.{IsNoted};
 
     ghost Value = { Disk };
 
     ghost view = { λ disk. record { blocks = disk.table ++ disk.contents; reads = disk.reads } };
 
-    ghost invariant = { λ disk. length disk.table + length disk.contents ≤ 4096 };
+    ghost invariant = { λ disk. (length disk.table + length disk.contents ≤ 4096) × IsNoted disk.full disk.table disk.contents };
 }
 
 impl RamDisk {
@@ -59,6 +66,7 @@ impl RamDisk {
             table,
             contents,
             reads: 0,
+            full: [0; 32],
         })
     }
 
@@ -85,6 +93,14 @@ impl RamDisk {
         self.reads
     }
 
+    /// How many of the first blocks of the table have no free node.
+    pub fn full_blocks(&self) -> u32
+        ensures within { result ≤ table_end (length self.now.blocks) }
+        ensures full { NoneFreeIn self.now.blocks result }
+    {
+        next_free(&self.full, 0, self.table.count() - 1)
+    }
+
     /// Writes a block, and no other.
     pub fn write(&mut self, number: u32, bytes: &[u8; 1024])
         requires { number < length self.old.blocks }
@@ -94,6 +110,7 @@ impl RamDisk {
         let first = self.table.count();
         if number < first {
             self.table.write(number, bytes);
+            note_free(&mut self.full, number, bytes);
         } else {
             self.contents.write(number - first, bytes);
         }
@@ -129,6 +146,22 @@ impl Blocks for RamDisk {
         ensures reads { self.new.reads ≡ self.old.reads }
     {
         self.write(number, bytes);
+    }
+}
+
+/// Notes of a block whether it is one of the table that has no free node.
+fn note_free(full: &mut [u8; 32], number: u32, bytes: &[u8; 1024])
+    requires { number ≤ 256 }
+    ensures this { (index : ℕ) → index + 1 ≡ number → bit_of full.new index ≡ 1 → HasNoneFree bytes.now }
+    ensures others { (index : ℕ) → index + 1 ≢ number → bit_of full.new index ≡ bit_of full.old index }
+{
+    if number == 0 {
+        return;
+    }
+    if free_slot(bytes).is_some() {
+        unmark(full, number - 1);
+    } else {
+        mark(full, number - 1);
     }
 }
 

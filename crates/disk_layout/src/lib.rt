@@ -15,6 +15,6 @@ pub use disks::RamDisk;
 pub use entries::{bytes_of_entry, entry_of};
 pub use faults::{BadEntry, BadInode};
 pub use inodes::{GREATEST_SIZE, bytes_of, inode_of};
-pub use maps::{is_marked, mark, unmark};
+pub use maps::{is_marked, mark, next_free, unmark};
 pub use pointers::{block_of_pointers, pointer_in, pointers_in};
-pub use slots::{inode_in, put_inode};
+pub use slots::{free_slot, inode_in, put_inode};

@@ -9,7 +9,7 @@ use Rattle.memfs_ops.specs.FileTree.{TreeView}
 use Rattle.posix_defs.specs.declared.turner.Turned.{Turned}
 use Rattle.posix_defs.specs.declared.turner.Turned.TheVariants as turned
 use Rattle.proc_files.specs.Reading.{KeepsRead, SavesRead, moved_by}
-use Rattle.proc_pipes.specs.Answering.{value_of}
+use Rattle.proc_numbers.specs.Answering.{value_of}
 use Rattle.store_objects.specs.declared.objects.Objects.{Objects}
 use Rattle.file_calls.specs.Bytes.{AreBytesCached, ReadsCached, told_count}
 

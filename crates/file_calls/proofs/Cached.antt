@@ -19,7 +19,7 @@ use Rattle.proc_files.specs.Answering.{StaysOffNodes}
 use Rattle.store_objects.specs.declared.objects.Objects.{Objects}
 use Rattle.store_objects.specs.Standing.{StandsFor}
 use Rattle.store_objects.specs.Trees.{kept_by}
-use Rattle.file_moves.specs.Worlds.{LeavesCached}
+use Rattle.store_objects.specs.FileWorlds.{LeavesCached}
 
 -- A call names one number and no path.
 pub record NamesNumber (which : Call) (fd : ℤ) : Type 0 where

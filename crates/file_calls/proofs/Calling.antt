@@ -9,7 +9,7 @@ use Rattle.kheap_slabs.specs.declared.objects.Sock.{Sock}
 use Rattle.kheap_slabs.specs.Heap.{Heap, IsWellFormed}
 use Rattle.memfs_ops.specs.FileTree.{TreeView}
 use Rattle.open_laws.specs.Owned.{HasItsOwners}
-use Rattle.place_laws.specs.Placed.{Numbers}
+use Rattle.open_laws.specs.Placed.{Numbers}
 use Rattle.posix_defs.specs.Account.{Account}
 use Rattle.posix_defs.specs.Answer.{Answer}
 use Rattle.posix_defs.specs.Memory.{Frames}
@@ -18,15 +18,15 @@ use Rattle.posix_defs.specs.Plain.{Plain, with_files}
 use Rattle.posix_defs.specs.World.{World}
 use Rattle.posix_defs.specs.declared.turner.Turned.{Turned}
 use Rattle.posix_defs.specs.declared.turner.Turned.TheVariants as turned
-use Rattle.proc_descs.specs.Having.{AreListed}
-use Rattle.proc_descs.proofs.Fronts.{queues_same}
+use Rattle.proc_numbers.specs.Having.{AreListed}
+use Rattle.proc_numbers.proofs.Fronts.{queues_same}
 use Rattle.proc_files.specs.Answering.{AnswersHolding, StaysOffNodes}
 use Rattle.proc_files.specs.Holding.{HoldFiles, HoldSome}
-use Rattle.holding_laws.specs.Holders.{holders}
+use Rattle.proc_files.specs.Holders.{holders}
 use Rattle.proc_files.specs.Reading.{LeadsHolding}
-use Rattle.holding_laws.specs.Names.{AreBound, name_of}
-use Rattle.proc_names.specs.Holding.{HoldNames}
-use Rattle.proc_queues.specs.Standing.{IsKept, StandsFor as QueuesStandFor}
+use Rattle.proc_files.specs.Names.{AreBound, name_of}
+use Rattle.proc_files.specs.NameHolding.{HoldNames}
+use Rattle.proc_numbers.specs.Standing.{IsKept, StandsFor as QueuesStandFor}
 use Rattle.proc_table.specs.Procs.{IsAlive}
 use Rattle.proc_table.specs.Table.{key_of}
 use Rattle.store_objects.specs.declared.objects.Objects.{Objects}
@@ -34,16 +34,16 @@ use Rattle.store_objects.specs.Objects.{AreKept, Runs, procs_of}
 use Rattle.store_objects.specs.Standing.{IsSound, StandsFor}
 use Rattle.store_objects.specs.Trees.{KeepsTree, others_in}
 use Rattle.store_objects.specs.Walking.{Serves}
-use Rattle.file_moves.proofs.StoreFiles.{holds_names}
+use Rattle.store_objects.proofs.StoreFiles.{holds_names}
 use Rattle.store_objects.proofs.Keeping.{listed_in}
 use Rattle.store_objects.proofs.Replies.{GoesOn}
 use Rattle.store_objects.proofs.RunningProcs.{has_key}
-use Rattle.file_moves.specs.Moves.{CachesWithin, FileMoves}
-use Rattle.file_moves.specs.Worlds.{LeavesKin}
-use Rattle.file_moves.proofs.Answered.{answered_holding, answered_leading}
-use Rattle.file_moves.proofs.Moving.{kept_turned, runs_turned}
-use Rattle.file_moves.proofs.Serving.{serves}
-use Rattle.file_moves.proofs.Staying.{holds_elsewhere, memory_elsewhere, moves_elsewhere}
+use Rattle.store_objects.specs.FileMoves.{CachesWithin, FileMoves}
+use Rattle.store_objects.specs.FileWorlds.{LeavesKin}
+use Rattle.store_objects.proofs.Answered.{answered_holding, answered_leading}
+use Rattle.store_objects.proofs.FileMoving.{kept_turned, runs_turned}
+use Rattle.store_objects.proofs.Serving.{serves}
+use Rattle.store_objects.proofs.Staying.{holds_elsewhere, memory_elsewhere, moves_elsewhere}
 use Rattle.file_calls.proofs.Cached.{NamesNumber, leaves_cached}
 
 -- ---- what calls ask

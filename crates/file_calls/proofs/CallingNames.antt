@@ -18,7 +18,7 @@ use Rattle.disk_layout.specs.Disk.{Disk}
 use Rattle.disk_laws.proofs.DiskNodes.{one_tree}
 use Rattle.memfs_ops.specs.FileTree.{KeepsLed, KnowsWay, Stands, TreeView, in_call}
 use Rattle.open_laws.specs.Owned.{HasItsOwners}
-use Rattle.place_laws.specs.Placed.{Numbers}
+use Rattle.open_laws.specs.Placed.{Numbers}
 use Rattle.path_calls.proofs.NamesKept.{walk_left}
 use Rattle.path_calls.proofs.Stated.{knows_it}
 use Rattle.path_calls.proofs.Walked.{holds_directory, works_there}
@@ -38,13 +38,13 @@ use Rattle.posix_defs.specs.Tree.{Tree, is_directory}
 use Rattle.posix_defs.specs.World.{Kept, World}
 use Rattle.posix_defs.specs.declared.turner.Turned.{Turned}
 use Rattle.posix_defs.specs.declared.turner.Turned.TheVariants as turned
-use Rattle.proc_descs.specs.Having.{AreListed}
-use Rattle.proc_descs.specs.Queues.{QueuesStand}
-use Rattle.holding_laws.specs.Holders.{holders}
-use Rattle.proc_names.specs.Answering.{AnswersConnecting, AnswersNaming, NamesChange}
-use Rattle.proc_names.specs.Holding.{HoldNames, WorksAt}
-use Rattle.proc_pipes.specs.Answering.{zero_of}
-use Rattle.proc_socks.proofs.Told.{keeps_same}
+use Rattle.proc_numbers.specs.Having.{AreListed}
+use Rattle.proc_numbers.specs.Queues.{QueuesStand}
+use Rattle.proc_files.specs.Holders.{holders}
+use Rattle.proc_files.specs.NameAnswering.{AnswersConnecting, AnswersNaming, NamesChange}
+use Rattle.proc_files.specs.NameHolding.{HoldNames, WorksAt}
+use Rattle.proc_numbers.specs.Answering.{zero_of}
+use Rattle.proc_numbers.proofs.Told.{keeps_same}
 use Rattle.proc_table.specs.Procs.{IsAlive, process_of}
 use Rattle.proc_table.specs.Table.{key_of}
 use Rattle.proc_table.proofs.FamilyLemmas.{process_is}
@@ -53,18 +53,18 @@ use Rattle.store_objects.specs.Objects.{AreKept, Runs, procs_of}
 use Rattle.store_objects.specs.Standing.{IsSound, StandsFor}
 use Rattle.store_objects.specs.Trees.{kept_by, others_in, pins_in}
 use Rattle.store_objects.specs.Walking.{Serves}
-use Rattle.file_moves.proofs.StoreFiles.{holds_names}
+use Rattle.store_objects.proofs.StoreFiles.{holds_names}
 use Rattle.store_objects.proofs.HoldsFiles.{works_in_directory}
 use Rattle.store_objects.proofs.Replies.{GoesOn}
 use Rattle.tree_laws.proofs.PathLeads.{path_led}
 use Rattle.store_objects.proofs.RunningProcs.{has_key}
-use Rattle.file_moves.specs.Moves.{FileMoves}
-use Rattle.file_moves.specs.Worlds.{LeavesCached}
-use Rattle.file_moves.proofs.Answered.{answered_holding}
-use Rattle.file_moves.proofs.Moving.{kept_turned, runs_turned}
-use Rattle.file_moves.proofs.Serving.{serves}
-use Rattle.file_moves.proofs.Staying.{holds_elsewhere, memory_elsewhere, moves_elsewhere}
-use Rattle.file_moves.proofs.Within.{within_paid}
+use Rattle.store_objects.specs.FileMoves.{FileMoves}
+use Rattle.store_objects.specs.FileWorlds.{LeavesCached}
+use Rattle.store_objects.proofs.Answered.{answered_holding}
+use Rattle.store_objects.proofs.FileMoving.{kept_turned, runs_turned}
+use Rattle.store_objects.proofs.Serving.{serves}
+use Rattle.store_objects.proofs.Staying.{holds_elsewhere, memory_elsewhere, moves_elsewhere}
+use Rattle.store_objects.proofs.Within.{within_paid}
 
 -- ---- what calls ask
 

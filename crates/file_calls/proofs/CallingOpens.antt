@@ -10,7 +10,7 @@ use Rattle.kheap_slabs.specs.Heap.{Heap, IsWellFormed}
 use Rattle.kheap_slabs.specs.Paid.{TakesNothing}
 use Rattle.memfs_ops.specs.FileTree.{TreeView}
 use Rattle.open_laws.specs.Owned.{HasItsOwners}
-use Rattle.place_laws.specs.Placed.{Numbers}
+use Rattle.open_laws.specs.Placed.{Numbers}
 use Rattle.posix_defs.specs.Answer.{Answer}
 use Rattle.posix_defs.specs.Memory.{Frames}
 use Rattle.posix_defs.specs.MemoryCalls.{frames_after}
@@ -18,18 +18,18 @@ use Rattle.posix_defs.specs.Plain.{Plain, with_files}
 use Rattle.posix_defs.specs.World.{World}
 use Rattle.posix_defs.specs.declared.turner.Turned.{Turned}
 use Rattle.posix_defs.specs.declared.turner.Turned.TheVariants as turned
-use Rattle.proc_descs.specs.Having.{AreListed}
-use Rattle.proc_descs.specs.Queues.{QueuesStand}
+use Rattle.proc_numbers.specs.Having.{AreListed}
+use Rattle.proc_numbers.specs.Queues.{QueuesStand}
 use Rattle.proc_files.specs.Answering.{AnswersHolding}
 use Rattle.proc_files.specs.Closing.{ChangesHolding}
 use Rattle.proc_files.specs.Holding.{HoldFiles, HoldSome}
-use Rattle.holding_laws.specs.Holders.{holders}
+use Rattle.proc_files.specs.Holders.{holders}
 use Rattle.proc_files.specs.Opening.{AnswersAnew}
 use Rattle.proc_files.proofs.Changing.{holding_of}
-use Rattle.proc_pipes.proofs.Changes.{changes_nothing}
-use Rattle.proc_names.specs.Answering.{AnswersNaming}
-use Rattle.holding_laws.specs.Names.{AreBound, name_of}
-use Rattle.proc_names.specs.Holding.{HoldNames, HoldSomeNames}
+use Rattle.proc_numbers.proofs.Changes.{changes_nothing}
+use Rattle.proc_files.specs.NameAnswering.{AnswersNaming}
+use Rattle.proc_files.specs.Names.{AreBound, name_of}
+use Rattle.proc_files.specs.NameHolding.{HoldNames, HoldSomeNames}
 use Rattle.proc_table.specs.Procs.{IsAlive}
 use Rattle.proc_table.specs.Standing.{IsTable}
 use Rattle.proc_table.specs.Table.{key_of}
@@ -38,16 +38,16 @@ use Rattle.store_objects.specs.Objects.{AreKept, Runs, procs_of}
 use Rattle.store_objects.specs.Standing.{IsSound, StandsFor}
 use Rattle.store_objects.specs.Trees.{KeepsTree, others_in}
 use Rattle.store_objects.specs.Walking.{Serves}
-use Rattle.file_moves.proofs.StoreFiles.{holds_files, holds_names}
+use Rattle.store_objects.proofs.StoreFiles.{holds_files, holds_names}
 use Rattle.store_objects.proofs.Keeping.{listed_in}
 use Rattle.store_objects.proofs.Replies.{GoesOn}
 use Rattle.store_objects.proofs.RunningProcs.{has_key}
-use Rattle.file_moves.specs.Moves.{CachesWithin, FileMoves}
-use Rattle.file_moves.specs.Worlds.{LeavesCached}
-use Rattle.file_moves.proofs.Answered.{answered_holding}
-use Rattle.file_moves.proofs.Moving.{kept_turned, runs_turned}
-use Rattle.file_moves.proofs.Serving.{serves}
-use Rattle.file_moves.proofs.Staying.{memory_holding, moves_holding}
+use Rattle.store_objects.specs.FileMoves.{CachesWithin, FileMoves}
+use Rattle.store_objects.specs.FileWorlds.{LeavesCached}
+use Rattle.store_objects.proofs.Answered.{answered_holding}
+use Rattle.store_objects.proofs.FileMoving.{kept_turned, runs_turned}
+use Rattle.store_objects.proofs.Serving.{serves}
+use Rattle.store_objects.proofs.Staying.{memory_holding, moves_holding}
 
 -- ---- what calls ask
 

@@ -24,7 +24,7 @@ use Rattle.memfs_ops.specs.FileTree.{KeepsLed, Pays, Stands, TreeView}
 use Rattle.memfs_ops.proofs.CachedLemmas.{on_disk_of}
 use Rattle.name_cache.specs.Names.{name_slot}
 use Rattle.vnode_cache.specs.Nodes.{node_slot}
-use Rattle.place_laws.specs.Placed.{Numbers}
+use Rattle.open_laws.specs.Placed.{Numbers}
 use Rattle.posix_defs.specs.Calls.Starting.{exec, starts}
 use Rattle.posix_defs.specs.Files.State.{Files}
 use Rattle.posix_defs.specs.Memory.{Frames}
@@ -44,7 +44,7 @@ use Rattle.posix_defs.specs.declared.walked.Walked.TheVariants as walked
 use Rattle.tree_laws.proofs.PathLeads.{path_led}
 use Rattle.tree_laws.proofs.TreeFacts.{found_in_use}
 use Rattle.proc_files.specs.Holding.{HoldFiles}
-use Rattle.holding_laws.specs.Holders.{holders}
+use Rattle.proc_files.specs.Holders.{holders}
 use Rattle.proc_table.specs.Procs.{proc_of}
 use Rattle.proc_table.specs.Standing.{IsTable}
 use Rattle.store_objects.specs.declared.objects.Objects.{Objects}
@@ -58,7 +58,7 @@ use Rattle.store_objects.specs.Walking.{WorldReached}
 use Rattle.store_objects.proofs.Forgetting.{forgotten}
 use Rattle.store_objects.proofs.HeldNodes.{pins_split}
 use Rattle.store_objects.proofs.HoldsFiles.{works_in_directory}
-use Rattle.file_moves.proofs.StoreFiles.{holds_files}
+use Rattle.store_objects.proofs.StoreFiles.{holds_files}
 use Rattle.store_objects.proofs.KeptNow.{as_many_blocks, as_many_names, as_many_vnodes}
 use Rattle.store_objects.proofs.Leading.{settled_account}
 use Rattle.store_objects.proofs.Paying.{purse_fits}

@@ -12,7 +12,7 @@ use Rattle.kern_laws.proofs.Remembering.{remembers_family}
 use Rattle.proc_table.specs.Accounting.{HasAccount}
 use Rattle.proc_table.specs.Changes.{cleared}
 use Rattle.proc_table.specs.Moves.{TableMoves}
-use Rattle.proc_descs.specs.Having.{HaveDescriptors}
+use Rattle.proc_numbers.specs.Having.{HaveDescriptors}
 use Rattle.proc_table.specs.Opening.{HaveOpen as TableOpen}
 use Rattle.proc_table.specs.Procs.{no_nodes, numbers_in, proc_of}
 use Rattle.proc_table.proofs.OpenLemmas.{have_nodes}

@@ -23,7 +23,7 @@ use Rattle.posix_defs.specs.Sockets.{after_read as socket_after_read, sock_read,
 use Rattle.posix_defs.specs.Tree.{Tree, is_directory}
 use Rattle.posix_defs.specs.TreeChanges.{write as tree_write}
 use Rattle.store_objects.proofs.WorkingOn.{works_remembered}
-use Rattle.file_moves.specs.Worlds.{LeavesKin}
+use Rattle.store_objects.specs.FileWorlds.{LeavesKin}
 
 module _ (script : Script) (plain : Plain) (pid : ℕ) where
   abbrev Left : Answer → Type 0

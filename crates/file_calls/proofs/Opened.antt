@@ -31,10 +31,10 @@ use Rattle.posix_defs.specs.declared.walked.Walked.TheVariants as walked
 use Rattle.tree_laws.proofs.FoundAfter.{made_found}
 use Rattle.tree_laws.proofs.OtherNodes.{resize_names}
 use Rattle.tree_laws.proofs.TreeKeeps.{err-ok, same_Ok}
-use Rattle.holding_laws.specs.Holders.{openings, times}
-use Rattle.holding_laws.proofs.Openings.{nodes_made, times_here}
+use Rattle.proc_files.specs.Holders.{openings, times}
+use Rattle.proc_files.proofs.Openings.{nodes_made, times_here}
 use Rattle.store_objects.specs.Trees.{kept_by}
-use Rattle.open_moves.proofs.Leaving.{files_in}
+use Rattle.store_objects.proofs.Leaving.{files_in}
 use Rattle.path_calls.proofs.NamesKept.{node_kept, slot_kept}
 
 -- ---- what an open that told a number has opened

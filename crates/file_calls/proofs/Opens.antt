@@ -13,7 +13,7 @@ use Rattle.kheap_slabs.specs.declared.objects.Proc.{Proc}
 use Rattle.disk_layout.specs.Disk.{Disk}
 use Rattle.memfs_ops.specs.FileTree.{KeepsLast, KnowsWay, Stands, in_call}
 use Rattle.memfs_ops.proofs.PinLemmas.{held_cached}
-use Rattle.place_laws.specs.Placed.{Numbers}
+use Rattle.open_laws.specs.Placed.{Numbers}
 use Rattle.posix_defs.specs.Answer.{replied}
 use Rattle.posix_defs.specs.Calls.OnFiles.{open_file, opening_of}
 use Rattle.posix_defs.specs.Files.Descriptions.{has_flag, o_creat, o_trunc}
@@ -29,15 +29,15 @@ use Rattle.posix_defs.specs.Tree.{Tree}
 use Rattle.posix_defs.specs.World.{Kept, World}
 use Rattle.tree_laws.proofs.PathLeads.{path_led}
 use Rattle.proc_files.specs.Answering.{AnswersHolding}
-use Rattle.holding_laws.specs.Holders.{holders, openings}
-use Rattle.proc_pipes.specs.Answering.{value_of}
+use Rattle.proc_files.specs.Holders.{holders, openings}
+use Rattle.proc_numbers.specs.Answering.{value_of}
 use Rattle.proc_table.specs.Procs.{proc_of}
 use Rattle.store_objects.specs.declared.objects.Objects.{Objects}
 use Rattle.store_objects.specs.Objects.{procs_of}
 use Rattle.store_objects.specs.Standing.{StandsFor}
 use Rattle.store_objects.specs.Trees.{kept_by, others_in, pins_in}
 use Rattle.store_objects.proofs.HoldsFiles.{works_in_directory}
-use Rattle.file_moves.specs.Worlds.{LeavesCached}
+use Rattle.store_objects.specs.FileWorlds.{LeavesCached}
 use Rattle.path_calls.proofs.Stated.{knows_it}
 use Rattle.path_calls.proofs.Walked.{holds_directory, works_there}
 use Rattle.file_calls.proofs.Opened.{HasOpened, has_opened, known_open, leads_there, open_left, opens_it}

@@ -18,7 +18,7 @@ use Rattle.kheap_slabs.specs.Heap.{Heap}
 use Rattle.memfs_ops.specs.FileTree.{TreeView}
 use Rattle.open_laws.specs.Described.{node_in, node_left}
 use Rattle.open_laws.specs.Owned.{HasItsOwners}
-use Rattle.place_laws.specs.Placed.{Numbers}
+use Rattle.open_laws.specs.Placed.{Numbers}
 use Rattle.posix_defs.specs.Answer.{Answer, Done, failed, replied}
 use Rattle.posix_defs.specs.Calls.OnDescriptors.{dup2, duplicated_to}
 use Rattle.posix_defs.specs.Calls.Opened.{Opened, answer_on, opened_at}
@@ -29,14 +29,14 @@ use Rattle.posix_defs.specs.Process.{directory_of}
 use Rattle.posix_defs.specs.Reaching.{IsLeft, descriptors_in, ends_node, is_on_node, knows, last_of, names_node, path_to_leave, path_to_walk, paths_of, reaches_node}
 use Rattle.posix_defs.specs.World.{World}
 use Rattle.proc_table.specs.Table.{TableView}
-use Rattle.proc_descs.specs.Having.{AreListed, HaveOpen, node_closed, node_dropped}
-use Rattle.proc_descs.specs.Naming.{named_at, named_by}
-use Rattle.proc_descs.proofs.NumberNames.{desc_named_by, opened_so}
+use Rattle.proc_numbers.specs.Having.{AreListed, HaveOpen, node_closed, node_dropped}
+use Rattle.proc_numbers.specs.Naming.{named_at, named_by}
+use Rattle.proc_numbers.proofs.NumberNames.{desc_named_by, opened_so}
 use Rattle.proc_files.proofs.Finding.{tells_target}
-use Rattle.proc_pipes.specs.Answering.{node_replaced, value_of}
+use Rattle.proc_numbers.specs.Answering.{node_replaced, value_of}
 use Rattle.store_objects.specs.declared.objects.Objects.{Objects}
 use Rattle.store_objects.specs.Trees.{kept_by}
-use Rattle.file_moves.specs.Worlds.{LeavesCached}
+use Rattle.store_objects.specs.FileWorlds.{LeavesCached}
 
 -- A call names numbers and no path.
 pub record NamesNumbers (which : Call) : Type 0 where

@@ -11,24 +11,24 @@ use Rattle.kheap_slabs.specs.Paid.{IsPaid, TakesNothing}
 use Rattle.memfs_ops.specs.Closing.{KeepsCached}
 use Rattle.memfs_ops.specs.FileTree.{TreeView}
 use Rattle.open_laws.specs.Owned.{HasItsOwners}
-use Rattle.place_laws.specs.Placed.{Numbers}
+use Rattle.open_laws.specs.Placed.{Numbers}
 use Rattle.posix_defs.specs.Files.Closing.{after_exec_of}
 use Rattle.posix_defs.specs.Files.State.{Files}
 use Rattle.posix_defs.specs.World.{World}
-use Rattle.proc_descs.specs.Having.{AreListed}
-use Rattle.proc_descs.specs.Queues.{QueuesStand}
+use Rattle.proc_numbers.specs.Having.{AreListed}
+use Rattle.proc_numbers.specs.Queues.{QueuesStand}
 use Rattle.proc_files.specs.Closing.{ChangesHolding}
-use Rattle.proc_names.specs.Holding.{HoldNames, HoldSomeNames}
+use Rattle.proc_files.specs.NameHolding.{HoldNames, HoldSomeNames}
 use Rattle.proc_table.specs.Procs.{IsAlive}
 use Rattle.store_objects.specs.declared.objects.Objects.{Objects}
 use Rattle.store_objects.specs.Objects.{AreKept, procs_of}
 use Rattle.store_objects.specs.Standing.{IsSound, StandsFor}
 use Rattle.store_objects.specs.Trees.{others_in}
-use Rattle.file_moves.proofs.StoreFiles.{holds_names}
-use Rattle.file_moves.specs.Moves.{FileMoves}
-use Rattle.file_moves.proofs.Answered.{turned_files}
-use Rattle.file_moves.proofs.Moving.{stands_turned}
-use Rattle.file_moves.proofs.Staying.{memory_holding, moves_holding}
+use Rattle.store_objects.proofs.StoreFiles.{holds_names}
+use Rattle.store_objects.specs.FileMoves.{FileMoves}
+use Rattle.store_objects.proofs.Answered.{turned_files}
+use Rattle.store_objects.proofs.FileMoving.{stands_turned}
+use Rattle.store_objects.proofs.Staying.{memory_holding, moves_holding}
 use Rattle.file_calls.specs.Starting.{CachesShed, shed_in}
 use Rattle.file_calls.proofs.CallingOpens.{keeps_some}
 

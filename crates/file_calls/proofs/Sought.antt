@@ -14,7 +14,7 @@ use Rattle.posix_defs.specs.Calls.Opened.{Opened, answer_on, moved_to, opened_at
 use Rattle.posix_defs.specs.Files.Descriptions.{Target, OnNode, OnPipe, OnSocket}
 use Rattle.posix_defs.specs.Files.State.{Files}
 use Rattle.posix_defs.specs.Plain.{Plain, with_files}
-use Rattle.proc_pipes.specs.Answering.{value_of}
+use Rattle.proc_numbers.specs.Answering.{value_of}
 
 -- what a reply tells as a number is no more than the greatest offset
 abbrev TellsWithin : Reply → Type 0

@@ -9,7 +9,7 @@ use Rattle.posix_defs.specs.Files.Closing.{after_exec_of}
 use Rattle.posix_defs.specs.Memory.{after_clear, no_memory}
 use Rattle.posix_defs.specs.Plain.{Plain, control_of, with_control, with_files}
 use Rattle.posix_defs.specs.World.{World}
-use Rattle.proc_descs.specs.Queues.{fronts_on}
+use Rattle.proc_numbers.specs.Queues.{fronts_on}
 use Rattle.store_objects.specs.declared.objects.Objects.{Objects}
 use Rattle.store_objects.specs.Standing.{remembered_in}
 use Rattle.store_objects.specs.Trees.{kept_by}

@@ -17,7 +17,7 @@ use crate::replies::zero;
 use kabi_types::{Control, Script};
 use kheap_slabs::Purse;
 use posix_defs::Turned;
-use proc_names::bind_number;
+use proc_files::bind_number;
 use store_objects::{Objects, go_on};
 
 /// Gives the socket that a number is open on a new name in the tree of files.

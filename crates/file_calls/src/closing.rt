@@ -14,7 +14,7 @@ ghost use Rattle.store_objects.specs.Walking.{Serves};
 use crate::replies::{value, zero};
 use kabi_types::{Control, Script};
 use posix_defs::Turned;
-use proc_names::{close_number, dup_number};
+use proc_files::{close_number, dup_number};
 use store_objects::{Objects, go_on, kept_back};
 
 /// Closes a number; with the last that names it a description goes, and what it was open on. A file without links goes with the last

@@ -16,7 +16,7 @@ use crate::replies::zero;
 use kabi_types::{Control, Script};
 use kheap_slabs::Purse;
 use posix_defs::Turned;
-use proc_names::connect_number;
+use proc_files::connect_number;
 use store_objects::{Objects, go_on};
 
 /// Connects the socket that a number is open on to a new one, which waits behind the others for the socket that listens under a

@@ -2,7 +2,7 @@
 
 ghost use Rattle.std.specs.Prelude.{◌≡◌, ◌≤◌, IfOk};
 ghost use Rattle.posix_defs.specs.Calls.OnFiles.{greatest_offset};
-ghost use Rattle.proc_pipes.specs.Answering.{stat_of, value_of, zero_of};
+ghost use Rattle.proc_numbers.specs.Answering.{stat_of, value_of, zero_of};
 
 use kabi_types::{Errno, Reply, StatInfo};
 

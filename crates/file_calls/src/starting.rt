@@ -25,8 +25,7 @@ ghost use Rattle.file_calls.specs.Starting.{CachesShed, begun_in, forgotten_in, 
 use kabi_types::{Control, Reply, Script};
 use kheap_slabs::Purse;
 use posix_defs::Turned;
-use proc_files::program_for;
-use proc_names::close_at_exec;
+use proc_files::{close_at_exec, program_for};
 use store_objects::{Objects, go_on, kept_back};
 
 /// Has the caller start the program whose line (`#!`, its name and a newline) the file begins with to which a path leads: from then on

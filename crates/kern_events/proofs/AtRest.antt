@@ -8,7 +8,7 @@ use Rattle.kabi_types.specs.declared.scripts.Script.{Script}
 use Rattle.posix_defs.specs.declared.phases.Phase.{Phase}
 use Rattle.posix_defs.specs.declared.phases.Phase.TheVariants.{User, Waiting, Admitted, Asleep, Stranded, Dead}
 use Rattle.posix_defs.specs.declared.phases.Task.{Task}
-use Rattle.posix_defs.specs.CoreState.{CoreState, held, is_admitted, lives, none_admitted, reserved_in}
+use Rattle.posix_defs.specs.CoreState.{CoreState, held, is_admitted, lives, reserved_in}
 use Rattle.posix_defs.specs.Ends.{all_asleep, end_of, sleeps_on, starved_or, vain_need}
 use Rattle.posix_defs.specs.Licence.{can_evict_any}
 use Rattle.posix_defs.specs.CoreState as state

@@ -1,18 +1,15 @@
 -- What caches keep, where nothing stands twice and every pinned node is there.
-use Rattle.std.proofs.Common.{◌≡◌, ◌≢◌, ℕ, zero, suc, ◌+◌, ◌*◌, ◌<◌, ◌≤◌, ◌==◌, not, ◌||◌, cond, Bool, true, false, List, [], ◌∷◌, ◌++◌, length, refl, ap, sym, ◌∙◌, subst, arith, ◌⊎◌, inl, inr, Option, None, Some}
+use Rattle.std.proofs.Common.{◌≡◌, ◌≢◌, ℕ, ◌+◌, ◌*◌, ◌<◌, ◌≤◌, ◌==◌, not, ◌||◌, cond, Bool, true, false, List, [], ◌∷◌, ◌++◌, length, refl, ap, sym, ◌∙◌, subst, arith, ◌⊎◌, inl, inr, None}
 use Rattle.std.specs.List.{AllByRecursion, list_any}
 use borrow.Author.Tests.{eqb-true, eq-eqb}
 use Rattle.kabi_types.specs.declared.entries.Cached.{Cached}
 use Rattle.kabi_types.specs.declared.entries.Cached.TheVariants.{Name, Block, Vnode}
 use Rattle.posix_defs.specs.Plain.{Plain, root}
-use Rattle.posix_defs.specs.World.{AreOnce, IsTrueName, Kept, MayKeep, World, base, boot_kept, cached, can_evict, directories_of, distinct, is_in, live_of, pinned_nodes, pins}
+use Rattle.posix_defs.specs.World.{AreOnce, IsTrueName, Kept, MayKeep, World, base, cached, can_evict, directories_of, distinct, is_in, live_of, pinned_nodes, pins}
 use Rattle.posix_defs.specs.Licence.{can_evict_any}
 use Rattle.posix_defs.specs.Relief.{Evicts, LosesFrom, LosesOne}
-use Rattle.posix_defs.specs.Process.{Process, Table, runs}
-use Rattle.posix_defs.specs.Tree.{Tree, is_in_use, new_tree}
-use Rattle.posix_defs.specs.Files.State.{Files, nodes_among, opened_nodes}
-use Rattle.posix_defs.specs.Files.Bare.{IsBare}
-use Rattle.kern_laws.specs.AtHome.{AllAtHome}
+use Rattle.posix_defs.specs.Tree.{is_in_use}
+use Rattle.posix_defs.specs.Files.State.{opened_nodes}
 use Rattle.std.proofs.lemmas.Bool.Decides.{eqb_tells}
 
 -- the number that is in a list is its first, or is behind it
@@ -305,48 +302,3 @@ less_live old what new evicts =
     go Name sizes same = omega (arith, sizes.0, sizes.1, sizes.2)
     go Block sizes same = omega (arith, sizes.0, sizes.1, sizes.2)
     go Vnode sizes same = omega (arith, sizes.0, sizes.1, sizes.2)
-
--- everybody works in the root, so it alone is pinned
-one_pinned : (nodes : List ℕ) → AllByRecursion (λ node. node ≡ root) nodes → distinct (root ∷ nodes) ≡ root ∷ []
-one_pinned [] all = refl
-one_pinned (node ∷ nodes) all = ap (λ n. distinct (root ∷ n ∷ nodes)) all.0 ∙ one_pinned nodes all.1
-
--- a shorter table
-further : (there : Option Process) (table : Table) → AllAtHome (there ∷ table) → AllAtHome table
-further there table home zero process e = cc
-further there table home (suc i) process e = home (suc (suc i)) process e
-
-roots : (table : Table) → AllAtHome table → AllByRecursion (λ node. node ≡ root) (directories_of table)
-roots [] home = tt
-roots (None ∷ table) home = roots table (further None table home)
-roots (Some process ∷ table) home = go (runs process.status) (roots table (further (Some process) table home))
-  where
-    go : (b : Bool) → AllByRecursion (λ node. node ≡ root) (directories_of table)
-        → AllByRecursion (λ node. node ≡ root) (cond b (process.directory ∷ directories_of table) (directories_of table))
-    go true rest = (home 1 process refl, rest)
-    go false rest = rest
-
--- and where nothing is open no description opens a node
-none_opened : (files : Files) → files.descriptions ≡ [] → opened_nodes files ≡ []
-none_opened files none = ap (nodes_among files) none
-
-pub root_pinned : (plain : Plain) → AllAtHome plain.table → IsBare plain.files → pinned_nodes plain ≡ root ∷ []
-root_pinned plain home bare =
-    ap (λ opened. distinct (root ∷ opened ++ directories_of plain.table)) (none_opened plain.files bare.descriptions)
-    ∙ one_pinned (directories_of plain.table) (roots plain.table home)
-
--- the root of a new tree is in use
-root_in_use : (tree : Tree) → tree ≡ new_tree tree.blocks → is_in_use tree root ≡ true
-root_in_use tree new = ap (λ t. is_in_use t root) new
-
--- where everybody works in the root, and nothing is open, a store may keep the root alone
-pub root_may_keep : (plain : Plain) → AllAtHome plain.table → IsBare plain.files → MayKeep plain boot_kept
-root_may_keep plain home bare = record {
-  names = tt;
-  blocks = tt;
-  vnodes = (tt, tt);
-  pinned = λ node e. subst (λ nodes. is_in node nodes ≡ true) (root_pinned plain home bare) e;
-  true_names = tt;
-  on_disk = tt;
-  in_use = (root_in_use plain.files.tree bare.tree, tt);
-}

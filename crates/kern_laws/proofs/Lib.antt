@@ -7,12 +7,10 @@ pub mod Families
 pub mod Errors
 pub mod TwoRun
 pub mod Nexts
-pub mod AtHome
 pub mod Tasks
 pub mod BuriedTasks
 pub mod Caches
 pub mod Sounds
-pub mod MadePids
 pub mod Charged
 pub mod EnabledEvents
 pub mod Sleepers

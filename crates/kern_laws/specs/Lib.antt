@@ -1,4 +1,3 @@
-pub mod AtHome
 pub mod Sleeping
 pub mod WorkedFamily
 pub mod TwoProcesses

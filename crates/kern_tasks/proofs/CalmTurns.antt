@@ -13,7 +13,7 @@ use Rattle.posix_defs.specs.declared.turner.Turned.TheVariants as turned
 use Rattle.posix_defs.specs.Process.{is_alive, process_at}
 use Rattle.posix_defs.specs.Memory.{no_memory}
 use Rattle.posix_defs.specs.Plain.{Plain}
-use Rattle.posix_defs.specs.Answer.{Answer, Blocked, Done, Part, failed, replied}
+use Rattle.posix_defs.specs.Answer.{Answer, Blocked, Done, Part}
 use Rattle.posix_defs.specs.Answer as answer
 use Rattle.posix_defs.specs.Forking.{child_of}
 use Rattle.posix_defs.specs.Machine.{machine}

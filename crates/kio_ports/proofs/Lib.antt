@@ -1,2 +1,1 @@
 mod Given
-pub mod Rising

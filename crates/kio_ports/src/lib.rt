@@ -1,8 +1,7 @@
 //! The outside of the program: a stream of bytes that comes in and one that goes out.
 //!
-//! Whoever reads or writes is generic over `Source` and `Sink`. The streams in memory fail and stop
-//! short where a test wants it, the clean ones never do, and the standard streams are the edge of
-//! what contracts see.
+//! Whoever reads or writes is generic over `Source` and `Sink`. The streams in memory fail and stop short where a test wants it,
+//! the clean ones never do, and the standard streams are the edge of what contracts see.
 #![tactic(auto)]
 
 mod calls;

@@ -4,3 +4,10 @@ pub mod Sharing
 pub mod Placed
 pub mod Described
 pub mod Reached
+pub mod Piped
+pub mod Joined
+pub mod Bytes
+pub mod Texts
+pub mod Own
+pub mod Followed
+pub mod Framed

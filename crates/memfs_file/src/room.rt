@@ -1,45 +1,31 @@
 //! Room for bytes that are to be written: how many of them fit, and the growth that they take.
 
-ghost use Rattle.std.specs.Prelude.{◌≡◌, ℕ, ◌+◌, ◌*◌, ◌/◌, ◌<◌, ◌≤◌, IfErr, IfOk, max};
+ghost use Rattle.std.specs.Prelude.{◌≡◌, ℕ, ◌+◌, ◌*◌, ◌/◌, ◌<◌, ◌≤◌, IfErr, IfOk, max, min};
 ghost use Rattle.kabi_types.specs.declared.errnos.Errno.TheVariants.{ENOSPC};
 ghost use Rattle.posix_defs.specs.DiskFormat.{block_size, greatest_size, data_blocks, blocks_of};
 ghost use Rattle.posix_defs.specs.FileBytes.{fitting};
 ghost use Rattle.posix_defs.specs.SoundDisk.{HasNode, Sound, free_in_map};
-ghost use Rattle.blk_map.specs.Found.{free_below};
 ghost use Rattle.blk_map.specs.Growing.{GrowsBut};
 ghost use Rattle.blk_map.specs.Named.{file};
 ghost use Rattle.memfs_file.specs.FileChange.{blocks_for, IsInUse, Clears};
 
 use crate::counts::{BLOCK_SIZE, most_bytes};
 use crate::putting::put_bytes;
-use blk_map::{block_count, data_count, grow_but};
-use disk_layout::is_marked;
+use blk_map::{block_count, data_count, free_up_to, grow_but};
 use kabi_types::{Errno, Inode};
 use posix_defs::Blocks;
 
-/// How many of the first blocks a map has as free.
-fn free_in(map: &[u8; 1024], blocks: u32) -> u32
-    requires { blocks ≤ 8 * block_size }
-    ensures { result ≡ free_below map.now blocks }
-{
-    let mut free = 0;
-    for number in 0..blocks {
-        if !is_marked(map, number) {
-            free += 1;
-        }
-    }
-    free
-}
-
-/// How many blocks of a disk are free.
-pub fn free_count<B: Blocks>(b: &mut B) -> u32
+/// How many blocks of a disk are free, counted up to what is wanted.
+///
+/// It costs a `get` of the map.
+pub fn free_count<B: Blocks>(b: &mut B, wanted: u32) -> u32
     requires { Sound (B.blocks b.old) }
-    ensures value { result ≡ free_in_map (B.blocks b.old) }
+    ensures value { result ≡ min wanted (free_in_map (B.blocks b.old)) }
     ensures kept { B.blocks b.new ≡ B.blocks b.old }
     ensures follows { B.follows b.old b.new }
 {
     let map = b.get(0);
-    free_in(&map, b.count())
+    free_up_to(&map, b.count(), wanted)
 }
 
 /// Gives a file the size that so many bytes at a place take, or as many of them as there is room for, and answers how
@@ -98,7 +84,9 @@ fn grow_to_most<B: Blocks>(
         × (fitting (blocks_for (B.blocks b.old) inode.old) at wanted ≡ 0) × (B.blocks b.new ≡ B.blocks b.old) × (inode.new ≡ inode.old)) }
     ensures follows { B.follows b.old b.new }
 {
-    let most = most_bytes(block_count(inode.size) + free_count(b));
+    let had = block_count(inode.size);
+    let more = block_count(at + wanted) - had;
+    let most = most_bytes(had + free_count(b, more));
     if most <= at {
         return Err(Errno::ENOSPC);
     }

@@ -1,20 +1,19 @@
 -- A directory gets its first two entries, `.` and `..`.
-use Rattle.std.proofs.Common.{◌≡◌, ◌≢◌, ℕ, zero, suc, ◌+◌, ◌-◌, ◌*◌, ◌^◌, ◌<◌, ◌≤◌, inl, inr, List, [], ◌∷◌, length, get_or, set, replicate, sym, ap, subst, ◌∙◌, arith}
+use Rattle.std.proofs.Common.{◌≡◌, ◌≢◌, ℕ, zero, suc, ◌+◌, ◌*◌, ◌^◌, ◌<◌, inl, inr, List, [], ◌∷◌, length, get_or, set, replicate, sym, ap, subst, ◌∙◌, arith}
 use Rattle.std.proofs.lemmas.Bool.{cases_lt}
 use Rattle.std.proofs.lemmas.List.{get_or-replicate, get_or_past, length-replicate, get_or-set_other, length-set}
 use Rattle.std.specs.List.{All}
 use Rattle.kabi_types.specs.declared.inodes.DirEntry.{DirEntry}
 use Rattle.kabi_types.specs.declared.inodes.Inode.{Inode}
-use Rattle.posix_defs.specs.DiskFormat.{blocks_of, IsForFiles, IsName, IsEntry, entry_bytes}
-use Rattle.posix_defs.specs.SoundDisk.{block_bytes, HasInode, Data, Sound, free_in_map}
-use Rattle.posix_defs.specs.DiskContents.{data_block, byte_at, HasEntries, entry_for, own_name, parent_name}
+use Rattle.posix_defs.specs.DiskFormat.{blocks_of, IsForFiles, IsEntry, entry_bytes}
+use Rattle.posix_defs.specs.SoundDisk.{block_bytes, Data}
+use Rattle.posix_defs.specs.DiskContents.{data_block, byte_at, entry_for, own_name, parent_name}
 use Rattle.posix_defs.specs.NodeChange.{Grows, WritesBlock}
 use Rattle.posix_defs.specs.TreeChanges.{no_entry}
 use Rattle.disk_laws.proofs.FreeBlocks.{named_is_for_files, direct_at}
 use Rattle.disk_laws.proofs.BlockWritten.{block_written}
-use Rattle.blk_map.specs.Named.{TakesLowest}
 use Rattle.blk_map.proofs.AndBack.{changes_follow}
-use Rattle.memfs_dir.proofs.DirectoryBytes.{Begins, lists, byte_at_slot}
+use Rattle.memfs_dir.proofs.DirectoryBytes.{lists, byte_at_slot}
 use Rattle.memfs_node.specs.Dots.{HasDots, PutsDots}
 use Rattle.memfs_node.proofs.Lowest.{SameMap}
 

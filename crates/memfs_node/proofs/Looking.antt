@@ -1,6 +1,6 @@
 -- What is asked of a tree of directories, answered from its disk.
-use Rattle.std.proofs.Common.{◌≡◌, ◌≢◌, ℕ, ◌*◌, ◌+◌, ◌<◌, ◌≤◌, true, List, [], ◌∷◌, length, Option, Some, None, is_some, slice_get, Result, Ok, Err, refl, sym, ap, subst, ◌∙◌, arith}
-use Rattle.std.proofs.lemmas.Option.{same_Some, none-some}
+use Rattle.std.proofs.Common.{◌≡◌, ◌≢◌, ℕ, ◌*◌, ◌<◌, ◌≤◌, true, List, length, Option, Some, None, slice_get, Result, Ok, Err, refl, sym, ap, subst, ◌∙◌, arith}
+use Rattle.std.proofs.lemmas.Option.{same_Some}
 use Rattle.kabi_types.specs.declared.inodes.DirEntry.{DirEntry}
 use Rattle.kabi_types.specs.declared.inodes.Inode.{Inode}
 use Rattle.kabi_types.specs.declared.errnos.Errno.{Errno}
@@ -9,7 +9,7 @@ use Rattle.posix_defs.specs.DiskFormat.{table_nodes}
 use Rattle.posix_defs.specs.SoundDisk.{HasInode, HasNode}
 use Rattle.posix_defs.specs.DiskContents.{HasEntries, entry_for, own_name, parent_name}
 use Rattle.posix_defs.specs.DiskTree.{StandsFor}
-use Rattle.posix_defs.specs.Tree.{Node, Tree, IsInodeAt, IsInodeIn, node_at, is_directory, is_in_use, entries_at, parent_at, found, found_among}
+use Rattle.posix_defs.specs.Tree.{Node, Tree, IsInodeAt, IsInodeIn, is_directory, is_in_use, entries_at, parent_at, found}
 use Rattle.posix_defs.specs.TreeChanges.{no_entry, place_of}
 use Rattle.posix_defs.specs.IsTree.{IsTree}
 use Rattle.posix_defs.specs.Paths.{IsLed}
@@ -22,11 +22,11 @@ use Rattle.tree_laws.proofs.TreeSteps.{node_of}
 use Rattle.tree_laws.proofs.TreeFacts.{found_in_use}
 use Rattle.tree_laws.proofs.TreeKeeps.{entries_are, same_Ok, err-ok}
 use Rattle.disk_laws.proofs.FormattedDisk.{one_inode}
-use Rattle.disk_laws.proofs.DirectoryEntries.{one_list, size_of_entries}
+use Rattle.disk_laws.proofs.DirectoryEntries.{size_of_entries}
 use Rattle.disk_laws.proofs.DiskNodes.{inode_of_node, node_of_inode, one_tree}
 use Rattle.memfs_dir.specs.Listed.{place_called}
 use Rattle.memfs_node.specs.NodeOnDisk.{AnswersAs, HasTree}
-use Rattle.memfs_dir.proofs.InTree.{OnDisk, on_disk, listed, looked_up, not_there}
+use Rattle.memfs_dir.proofs.InTree.{on_disk, listed, looked_up, not_there}
 
 -- ---- a node
 

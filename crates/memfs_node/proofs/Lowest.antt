@@ -1,5 +1,5 @@
 -- The blocks that are taken are the lowest of those that were free, through steps that leave the map.
-use Rattle.std.proofs.Common.{◌≡◌, ℕ, ◌<◌, List, length, sym, ap, ◌∙◌, arith}
+use Rattle.std.proofs.Common.{◌≡◌, ℕ, List, length, sym, ap, ◌∙◌, arith}
 use Rattle.posix_defs.specs.SoundDisk.{block_bytes, bit_of}
 use Rattle.blk_map.specs.Named.{TakesLowest}
 

@@ -1,8 +1,8 @@
 -- A free node that is made a new one.
-use Rattle.std.proofs.Common.{◌≡◌, ◌≢◌, ℕ, ◌+◌, ◌<◌, ◌≤◌, List, [], map, refl, sym, ap, subst, ◌∙◌, arith}
+use Rattle.std.proofs.Common.{◌≡◌, ◌≢◌, ℕ, ◌<◌, ◌≤◌, List, [], map, refl, ap, ◌∙◌, arith}
 use Rattle.std.specs.List.{range_with_len}
 use Rattle.kabi_types.specs.declared.inodes.Inode.{Inode}
-use Rattle.posix_defs.specs.DiskFormat.{IsOfKind, blocks_of}
+use Rattle.posix_defs.specs.DiskFormat.{IsOfKind}
 use Rattle.posix_defs.specs.SoundDisk.{HasInode, IsFreeNode}
 use Rattle.posix_defs.specs.DiskContents.{byte_at, node_bytes}
 use Rattle.posix_defs.specs.Tree.{kind_of}

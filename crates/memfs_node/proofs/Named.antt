@@ -1,12 +1,12 @@
 -- A node that is made under a name of a directory, on the disk and in the tree.
-use Rattle.std.proofs.Common.{◌≡◌, ◌≢◌, ℕ, ◌+◌, ◌-◌, ◌<◌, ◌≤◌, Bool, true, false, cond, inl, inr, List, [], ◌∷◌, ◌++◌, length, Option, Some, None, Result, Ok, Err, is_ok, refl, sym, ap, subst, ◌∙◌, arith}
+use Rattle.std.proofs.Common.{◌≡◌, ◌≢◌, ℕ, Bool, true, false, inl, inr, List, [], ◌∷◌, ◌++◌, length, Option, Some, None, Result, Ok, Err, refl, sym, ap, subst, ◌∙◌, arith}
 use Rattle.std.specs.Prelude.{IsOk, IfErr}
 use Rattle.std.proofs.lemmas.Bool.{cases_Bool, cond-true, cond-false, false≢true}
 use Rattle.kabi_types.specs.declared.errnos.Errno.{Errno}
 use Rattle.kabi_types.specs.declared.errnos.Errno.TheVariants.{ENOSPC}
 use Rattle.kabi_types.specs.declared.inodes.Inode.{Inode}
-use Rattle.posix_defs.specs.DiskFormat.{blocks_of, greatest_size}
-use Rattle.posix_defs.specs.SoundDisk.{HasInode, HasNode, IsFreeNode, IsLowestFreeNode, free_in_map}
+use Rattle.posix_defs.specs.DiskFormat.{blocks_of}
+use Rattle.posix_defs.specs.SoundDisk.{HasInode, HasNode, IsFreeNode, IsLowestFreeNode}
 use Rattle.posix_defs.specs.DiskContents.{entry_for}
 use Rattle.posix_defs.specs.DiskTree.{StandsFor, ChangesNode}
 use Rattle.posix_defs.specs.Tree.{Content, Tree, with_node, is_directory, is_directory_in, free_node, size_of}

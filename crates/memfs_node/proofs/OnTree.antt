@@ -1,16 +1,14 @@
 -- What a made, linked or freed node of the disk is in the tree.
-use Rattle.std.proofs.Common.{◌≡◌, ◌≢◌, ℕ, ◌+◌, ◌-◌, ◌≤◌, Bool, true, false, cond, not, ◌&&◌, eqb, List, Option, Some, None, refl, sym, ap, subst, ◌∙◌, arith}
+use Rattle.std.proofs.Common.{◌≡◌, ◌≢◌, ℕ, ◌+◌, ◌-◌, ◌≤◌, Bool, true, false, cond, not, ◌&&◌, eqb, List, Option, Some, None, sym, ap, subst, ◌∙◌}
 use Rattle.std.specs.Option.{option_map}
 use Rattle.std.proofs.lemmas.Bool.{cond-true, cond-false, eq-eqb, ne_eqb}
 use Rattle.kabi_types.specs.declared.inodes.Inode.{Inode}
 use Rattle.posix_defs.specs.DiskFormat.{table_nodes}
 use Rattle.posix_defs.specs.SoundDisk.{HasInode, HasNode}
-use Rattle.posix_defs.specs.DiskContents.{HasEntries}
-use Rattle.posix_defs.specs.DiskTree.{HasContent, HasNodeOf, HasThere, StandsFor, ChangesNode}
+use Rattle.posix_defs.specs.DiskTree.{HasContent, HasThere, StandsFor, ChangesNode}
 use Rattle.posix_defs.specs.Tree.{Content, File, Directory, SocketName, Node, Tree, node_at, with_node, links_in, IsInodeOf}
-use Rattle.posix_defs.specs.TreeChanges.{closed, link_added, link_dropped, left_in, left_of}
+use Rattle.posix_defs.specs.TreeChanges.{closed, link_added, link_dropped, left_in}
 use Rattle.posix_defs.specs.DiskContents.{node_bytes}
-use Rattle.disk_laws.specs.NodesInUse.{IsNodeIn}
 use Rattle.disk_laws.proofs.DiskNodes.{node_of_inode}
 use Rattle.disk_laws.proofs.DiskStands.{changed_stands}
 use Rattle.memfs_node.specs.NodeOnDisk.{DropsLink, Frees, Makes, Retags, new_node}

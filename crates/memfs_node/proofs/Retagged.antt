@@ -1,8 +1,8 @@
 -- A node of which the table has another kind and other links, and all else as before.
-use Rattle.std.proofs.Common.{◌≡◌, ◌≢◌, ℕ, ◌+◌, ◌-◌, ◌*◌, ◌<◌, ◌≤◌, inl, inr, List, length, ltb, refl, sym, ap, subst, ◌∙◌, arith}
+use Rattle.std.proofs.Common.{◌≡◌, ◌≢◌, ℕ, ◌-◌, ◌<◌, inl, inr, List, length, refl, sym, ap, subst, ◌∙◌, arith}
 use Rattle.std.proofs.lemmas.Bool.{cases_lt}
 use Rattle.kabi_types.specs.declared.inodes.Inode.{Inode}
-use Rattle.posix_defs.specs.DiskFormat.{block_size, table_end, data_blocks, IsForFiles, IsOfKind, IsPointer, IsInode, inode_bytes, needs_pointer}
+use Rattle.posix_defs.specs.DiskFormat.{table_end, IsForFiles, IsOfKind, IsPointer, IsInode, inode_bytes, needs_pointer}
 use Rattle.posix_defs.specs.SoundDisk.{block_bytes, table_block, table_bytes, HasInode, pointer_at, Place, Data, Pointers, HasPlace, named_at, bit_of, IsMarked, Sound, pointer_block}
 use Rattle.posix_defs.specs.NodeChange.{Names, Replaces}
 use Rattle.disk_laws.proofs.FreeBlocks.{named_is_for_files, direct_at, behind_at}

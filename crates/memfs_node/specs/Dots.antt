@@ -1,5 +1,5 @@
 -- The first two entries of a directory.
-use Rattle.std.specs.Prelude.{ℕ, ◌+◌, ◌<◌, ◌≡◌, List, [], ◌∷◌}
+use Rattle.std.specs.Prelude.{ℕ, ◌+◌, ◌≡◌, List, [], ◌∷◌}
 use Rattle.kabi_types.specs.declared.inodes.Inode.{Inode}
 use Rattle.posix_defs.specs.SoundDisk.{HasInode, free_in_map}
 use Rattle.posix_defs.specs.DiskContents.{HasEntries, entry_for, own_name, parent_name}

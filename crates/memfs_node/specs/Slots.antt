@@ -9,11 +9,3 @@ pub record HasSlot (blocks : ℕ) (block : List ℕ) (slot : ℕ) (inode : Inode
   pub within : slot < inodes_in_block
   pub valid : IsInode blocks inode
   pub bytes : slot_bytes block slot ≡ inode_bytes inode
-
--- each slot has an inode
-abbrev pub IsTableBlock : ℕ → List ℕ → Type 0
-IsTableBlock blocks block = (slot : ℕ) → slot < inodes_in_block → (inode : Inode) × HasSlot blocks block slot inode
-
--- a slot has that of a free node
-abbrev pub IsFreeSlot : ℕ → List ℕ → ℕ → Type 0
-IsFreeSlot blocks block slot = (inode : Inode) × HasSlot blocks block slot inode × (inode.kind ≡ 0)

@@ -1,11 +1,11 @@
 //! The table of inodes: the inode of a number, and the free node of the lowest one.
 
-ghost use Rattle.std.specs.Prelude.{◌≡◌, ℕ, ◌<◌, ◌≤◌, ◌↔◌, IsTrue, IfSome, IfNone, length};
-ghost use Rattle.posix_defs.specs.DiskFormat.{inodes_in_block, table_nodes};
+ghost use Rattle.std.specs.Prelude.{◌≡◌, ℕ, ◌<◌, ◌≤◌, IfSome, IfNone, length};
+ghost use Rattle.posix_defs.specs.DiskFormat.{table_end, table_nodes};
 ghost use Rattle.posix_defs.specs.SoundDisk.{HasInode, IsFreeNode, IsLowestFreeNode, Sound, table_block};
-ghost use Rattle.memfs_node.specs.Slots.{IsFreeSlot, IsTableBlock};
+ghost use Rattle.disk_layout.specs.Vacant.{NoneFreeIn};
 
-use disk_layout::inode_in;
+use disk_layout::{free_slot, inode_in};
 use kabi_types::Inode;
 use posix_defs::Blocks;
 
@@ -31,43 +31,23 @@ pub fn inode_at<B: Blocks>(b: &mut B, number: u32) -> Inode
 
 /// The free node of the lowest number; None exactly where no node is free.
 ///
-/// It looks at the blocks of the table one after another, up to that of the node.
-pub fn lowest_node<B: Blocks>(b: &mut B) -> Option<u32>
-    requires { Sound (B.blocks b.old) }
+/// It looks at the blocks of the table one after another, up to that of the node, but for the first ones, of which it is
+/// known that they have none.
+pub fn lowest_node<B: Blocks>(b: &mut B, full: u32) -> Option<u32>
+    requires sound { Sound (B.blocks b.old) }
+    requires within { full ≤ table_end (length (B.blocks b.old)) }
+    requires full { NoneFreeIn (B.blocks b.old) full }
     ensures found { IfSome result (λ number. IsLowestFreeNode (B.blocks b.old) number) }
     ensures none { IfNone result ((number : ℕ) → ¬ (IsFreeNode (B.blocks b.old) number)) }
     ensures kept { B.blocks b.new ≡ B.blocks b.old }
     ensures follows { B.follows b.old b.new }
 {
     let blocks = b.count();
-    for index in 0..blocks / 16 {
+    for index in full..blocks / 16 {
         let block = b.get(1 + index);
-        if let Some(slot) = free_slot(&block, blocks) {
+        if let Some(slot) = free_slot(&block) {
             return Some(INODES_IN_BLOCK * index + slot + 1);
         }
     }
     None
-}
-
-/// The first slot of a block of the table that has a free inode.
-fn free_slot(block: &[u8; 1024], blocks: u32) -> Option<u32>
-    requires { IsTableBlock blocks block.now }
-    ensures found { IfSome result (λ slot. IsFreeSlot blocks block.now slot × ((before : ℕ) → before < slot → ¬ (IsFreeSlot blocks block.now before))) }
-    ensures none { IfNone result ((slot : ℕ) → ¬ (IsFreeSlot blocks block.now slot)) }
-{
-    for slot in 0..INODES_IN_BLOCK {
-        if is_free(block, slot, blocks) {
-            return Some(slot);
-        }
-    }
-    None
-}
-
-/// Whether a slot of a block of the table has a free inode.
-fn is_free(block: &[u8; 1024], slot: u32, blocks: u32) -> bool
-    requires slot { slot < inodes_in_block }
-    requires table { IsTableBlock blocks block.now }
-    ensures { IsTrue result ↔ IsFreeSlot blocks block.now slot }
-{
-    inode_in(block, slot, blocks).unwrap().kind == 0
 }

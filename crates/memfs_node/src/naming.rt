@@ -1,11 +1,12 @@
 //! A new node under a new name of a directory.
 
-ghost use Rattle.std.specs.Prelude.{◌≡◌, true};
-ghost use Rattle.posix_defs.specs.DiskFormat.{IsName};
+ghost use Rattle.std.specs.Prelude.{◌≡◌, ◌≤◌, true, length};
+ghost use Rattle.posix_defs.specs.DiskFormat.{IsName, table_end};
 ghost use Rattle.posix_defs.specs.SoundDisk.{HasNode, Sound};
 ghost use Rattle.posix_defs.specs.DiskTree.{StandsFor};
 ghost use Rattle.posix_defs.specs.Tree.{Tree, is_directory};
 ghost use Rattle.posix_defs.specs.TreeChanges.{make};
+ghost use Rattle.disk_layout.specs.Vacant.{NoneFreeIn};
 ghost use Rattle.blk_map.specs.Named.{TakesLowest};
 ghost use Rattle.memfs_dir.specs.Listed.{IsDirectory};
 ghost use Rattle.memfs_node.specs.NodeOnDisk.{AnswersAs, HasParent, KeepsOthers, content_of};
@@ -21,18 +22,23 @@ use posix_defs::Blocks;
 ///
 /// ENOSPC exactly where no node is free, the directory has the greatest size, or fewer blocks are free than the node and
 /// the growth of the directory take; nothing is written then. The blocks that it takes are the lowest of those that are free.
+///
+/// The table isn't looked at where its first blocks are known to have no free node.
 pub fn make_named<B: Blocks>(
     b: &mut B,
     parent: u32,
     dir: &mut Inode,
     name: Name27,
     new: NewNode,
+    full: u32,
 ) -> Result<u32, Errno>
     requires sound { Sound (B.blocks b.old) }
     requires node { HasNode (B.blocks b.old) parent dir.old }
     requires entries { IsDirectory (B.blocks b.old) dir.old }
     requires name { IsName name }
     requires parent { HasParent new }
+    requires within { full ≤ table_end (length (B.blocks b.old)) }
+    requires full { NoneFreeIn (B.blocks b.old) full }
     ensures answer { (tree : Tree) → StandsFor (B.blocks b.old) tree → is_directory tree parent ≡ true
         → AnswersAs (B.blocks b.old) (B.blocks b.new) (make tree parent name (content_of new)) result }
     ensures node { HasNode (B.blocks b.new) parent dir.new }
@@ -43,7 +49,7 @@ pub fn make_named<B: Blocks>(
     if !has_room_for_entry(b, dir, new.blocks()) {
         return Err(Errno::ENOSPC);
     }
-    let Some(number) = lowest_node(b) else {
+    let Some(number) = lowest_node(b, full) else {
         return Err(Errno::ENOSPC);
     };
     make_node(b, number, new);

@@ -16,14 +16,14 @@ const ENTRY_SIZE: u32 = 32;
 
 /// Whether so many blocks are free.
 ///
-/// It costs a `get` of the map.
+/// It costs a `get` of the map, and nothing where none is wanted.
 pub fn has_room<B: Blocks>(b: &mut B, blocks: u32) -> bool
     requires { Sound (B.blocks b.old) }
     ensures value { IsTrue result ↔ (blocks ≤ free_in_map (B.blocks b.old)) }
     ensures kept { B.blocks b.new ≡ B.blocks b.old }
     ensures follows { B.follows b.old b.new }
 {
-    blocks <= free_count(b)
+    blocks == 0 || free_count(b, blocks) == blocks
 }
 
 /// Whether a directory has room for one entry more, and so many blocks are free beside those that it grows by.

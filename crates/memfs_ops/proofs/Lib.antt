@@ -8,7 +8,6 @@ pub mod WriteLemmas
 pub mod OpenLemmas
 pub mod EvictLemmas
 pub mod BootLemmas
-pub mod KindLemmas
 pub mod PurseLemmas
 pub mod ForgetLemmas
 pub mod CloseLemmas

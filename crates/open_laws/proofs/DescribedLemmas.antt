@@ -5,8 +5,8 @@ use Rattle.kheap_slabs.specs.Objects.{object, InUse, put, without}
 use Rattle.kheap_slabs.specs.declared.objects.Desc.{Desc}
 use Rattle.kheap_slabs.specs.Heap.{Heap}
 use Rattle.posix_defs.specs.Files.Descriptions.{with_description}
-use Rattle.place_laws.specs.Placed.{Numbers}
-use Rattle.place_laws.proofs.PlaceLemmas.{law_changes, law_goes}
+use Rattle.open_laws.specs.Placed.{Numbers}
+use Rattle.open_laws.proofs.PlaceLemmas.{law_changes, law_goes}
 use Rattle.open_laws.specs.Described.{Counted, CountedList, counted_in, AreDescribed, named_more, named_less, after_share, after_drop, uncounted}
 use Rattle.open_laws.specs.Described.{counting, descs_left, node_in, node_left}
 

@@ -21,8 +21,8 @@ use Rattle.usock_core.specs.Standing.{IsClosableIn}
 use Rattle.usock_core.proofs.StandingLemmas.{stands_on as sockets_stand_on, found}
 use Rattle.usock_core.proofs.OneTable.{nowhere_in}
 use Rattle.kheap_slabs.proofs.ObjectLemmas.{object_of}
-use Rattle.place_laws.specs.Placed.{Numbers}
-use Rattle.place_laws.proofs.PlaceLemmas.{placed_unchanged}
+use Rattle.open_laws.specs.Placed.{Numbers}
+use Rattle.open_laws.proofs.PlaceLemmas.{placed_unchanged}
 use Rattle.open_laws.specs.Described.{Counted, CountedList, counted_in, access_in, target_in, AreDescribed, after_share, after_drop, counting, descs_left, uncounted}
 use Rattle.open_laws.specs.Piped.{ArePiped, end_closed}
 use Rattle.open_laws.specs.Socketed.{AreSocketed}

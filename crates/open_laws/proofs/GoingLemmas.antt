@@ -38,7 +38,7 @@ use Rattle.usock_core.specs.Standing.{IsHeldIn}
 use Rattle.usock_core.proofs.HeldLemmas.{closable_held, socket_held}
 use Rattle.usock_core.proofs.OneTable.{empty_held}
 use Rattle.usock_core.proofs.StandingLemmas.{found, free_from, held_on}
-use Rattle.place_laws.specs.Placed.{ArePlaced, Numbers}
+use Rattle.open_laws.specs.Placed.{ArePlaced, Numbers}
 use Rattle.open_laws.specs.Closing.{IsClosable, IsDroppable}
 use Rattle.open_laws.specs.Described.{CountedList, access_in, AreDescribed, counted_in}
 use Rattle.open_laws.specs.Open.{AreOpen}

@@ -1,3 +1,4 @@
+pub mod PlaceLemmas
 pub mod CloseLemmas
 pub mod DescribedLemmas
 pub mod DropLemmas

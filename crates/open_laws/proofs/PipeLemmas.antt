@@ -11,8 +11,8 @@ use Rattle.posix_defs.specs.Pipe.{Pipe, new_pipe, after_close}
 use Rattle.chunk_queue.proofs.HeldLemmas.{HasBytes-same}
 use Rattle.pipe_ends.specs.Standing.{StandsFor}
 use Rattle.pipe_ends.proofs.StandingLemmas.{stands_on}
-use Rattle.place_laws.specs.Placed.{Numbers, OthersStay}
-use Rattle.place_laws.proofs.PlaceLemmas.{placed_changed, placed_gone, put_at}
+use Rattle.open_laws.specs.Placed.{Numbers, OthersStay}
+use Rattle.open_laws.proofs.PlaceLemmas.{placed_changed, placed_gone, put_at}
 use Rattle.open_laws.specs.Closing.{EndCloses}
 use Rattle.open_laws.specs.Piped.{ArePiped, end_closed}
 use Rattle.open_laws.proofs.CloseLemmas.{described}

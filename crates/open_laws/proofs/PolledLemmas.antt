@@ -22,7 +22,7 @@ use Rattle.posix_defs.specs.Files.Descriptors.{Descriptor, Descriptors, descript
 use Rattle.posix_defs.specs.Files.State.{Files, descriptors_of}
 use Rattle.socket_laws.proofs.SocketLaws.{peer_there}
 use Rattle.usock_core.proofs.StandingLemmas.{found}
-use Rattle.place_laws.specs.Placed.{Numbers}
+use Rattle.open_laws.specs.Placed.{Numbers}
 use Rattle.open_laws.specs.Described.{Counted, CountedList, access_in, counted_in, target_in}
 use Rattle.open_laws.specs.Open.{AreOpen, descriptor_by, descriptors_by, placed_by, renumbered}
 use Rattle.open_laws.specs.Polled.{IsTargetIn, IsOpenIn, TellsTarget, TellsOpen}

@@ -12,7 +12,7 @@ use Rattle.kheap_slabs.specs.Heap.{Heap}
 use Rattle.kheap_slabs.specs.Paid.{TakesNothing}
 use Rattle.kheap_laws.proofs.PaidLemmas.{TakesNothing-refl, TakesNothing-trans}
 use Rattle.posix_defs.specs.Files.State.{Files}
-use Rattle.place_laws.specs.Placed.{Numbers}
+use Rattle.open_laws.specs.Placed.{Numbers}
 use Rattle.open_laws.specs.Described.{CountedList, counting, after_share}
 use Rattle.open_laws.specs.Open.{AreOpen}
 use Rattle.open_laws.specs.Owned.{names_desc, desc_count, desc_count_at, HasItsOwners}

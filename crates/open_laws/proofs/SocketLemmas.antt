@@ -8,7 +8,7 @@ use Rattle.posix_defs.specs.SocketLinks.{AreLinked, AreLoose, WaitsNowhere}
 use Rattle.socket_laws.proofs.SocketTable.{sock_at-with_other, there_within}
 use Rattle.socket_laws.proofs.SocketLaws.{peer_there, peers_differ}
 use Rattle.socket_laws.proofs.SocketCalls.{gone_linked, first_loose, rest_loose, waiting_loose}
-use Rattle.place_laws.proofs.PlaceLemmas.{law_changes, law_goes}
+use Rattle.open_laws.proofs.PlaceLemmas.{law_changes, law_goes}
 use Rattle.open_laws.specs.Socketed.{stage_by, socket_by, AreRenamed}
 
 -- ---- a socket at its place

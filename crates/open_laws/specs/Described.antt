@@ -8,7 +8,7 @@ use Rattle.kheap_slabs.specs.declared.objects.Desc.{Desc}
 use Rattle.kheap_slabs.specs.declared.objects.Target.{Target as HeldTarget}
 use Rattle.kheap_slabs.specs.declared.objects.Target.TheVariants as target
 use Rattle.posix_defs.specs.Files.Descriptions.{Target, OnNode, OnPipe, OnSocket, Access, ReadOnly, WriteOnly, ReadWrite, Description, Descriptions}
-use Rattle.place_laws.specs.Placed.{Numbers, ArePlaced}
+use Rattle.open_laws.specs.Placed.{Numbers, ArePlaced}
 
 -- an open description, and how many descriptors name it
 pub record Counted : Type 0 where

@@ -1,3 +1,4 @@
+pub mod Placed
 pub mod Described
 pub mod Piped
 pub mod Socketed

@@ -10,7 +10,7 @@ use Rattle.posix_defs.specs.Account.{Account}
 use Rattle.posix_defs.specs.Files.Closing.{description_gone}
 use Rattle.posix_defs.specs.Files.Descriptors.{Descriptor, Descriptors}
 use Rattle.posix_defs.specs.Files.State.{Files}
-use Rattle.place_laws.specs.Placed.{Numbers}
+use Rattle.open_laws.specs.Placed.{Numbers}
 use Rattle.open_laws.specs.Described.{Counted, CountedList, uncounted, AreDescribed}
 use Rattle.open_laws.specs.Piped.{ArePiped}
 use Rattle.open_laws.specs.Socketed.{AreSocketed}

@@ -4,7 +4,7 @@ use Rattle.kheap_slabs.specs.Objects.{object}
 use Rattle.kheap_slabs.specs.Heap.{Heap}
 use Rattle.posix_defs.specs.Pipe.{Pipe, new_pipe, after_close}
 use Rattle.pipe_ends.specs.Standing.{StandsFor}
-use Rattle.place_laws.specs.Placed.{Numbers, ArePlaced}
+use Rattle.open_laws.specs.Placed.{Numbers, ArePlaced}
 
 -- the pipes of the heap stand for these
 abbrev pub ArePiped : Numbers → Heap → List (Option Pipe) → Type 0

@@ -7,7 +7,7 @@ use Rattle.kheap_slabs.specs.declared.objects.Target.TheVariants as target
 use Rattle.kheap_slabs.specs.Heap.{Heap}
 use Rattle.posix_defs.specs.Calls.Polling.{polled_node}
 use Rattle.posix_defs.specs.Files.Descriptions.{Access, may_write}
-use Rattle.posix_defs.specs.Files.Descriptors.{Descriptor, Descriptors, descriptor_at}
+use Rattle.posix_defs.specs.Files.Descriptors.{Descriptor}
 use Rattle.posix_defs.specs.Pipe.{Pipe, polled_to_read, polled_to_write}
 use Rattle.posix_defs.specs.Sockets.{Sockets, sock_polled}
 use Rattle.pipe_ends.specs.Standing.{StandsFor as PipeStandsFor, IsPipeAt}
@@ -37,8 +37,3 @@ abbrev pub TellsOpen : Heap → ℤ → ℕ → Option Descriptor → Type 0
 TellsOpen h events told None = told ≡ 32
 TellsOpen h events told (Some descriptor) =
     (desc : Desc) → object h.descs descriptor.description ≡ Some desc → TellsTarget h (access_in desc.access) events told desc.target
-
--- nothing of a number below 0
-abbrev pub TellsNumber : Heap → Descriptors → ℤ → ℕ → Option ℕ → Type 0
-TellsNumber h descriptors events told None = told ≡ 0
-TellsNumber h descriptors events told (Some fd) = TellsOpen h events told (descriptor_at descriptors fd)

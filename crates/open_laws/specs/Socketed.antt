@@ -7,7 +7,7 @@ use Rattle.kheap_slabs.specs.Heap.{Heap}
 use Rattle.posix_defs.specs.Socket.{Stage, Idle, Listening, Connected, Socket}
 use Rattle.posix_defs.specs.Sockets.{Sockets}
 use Rattle.usock_core.specs.Standing.{StandsFor}
-use Rattle.place_laws.specs.Placed.{Numbers, ArePlaced}
+use Rattle.open_laws.specs.Placed.{Numbers, ArePlaced}
 
 -- the same stage, where each key has a place as its number
 abbrev pub stage_by : (ℕ → ℕ) → Stage → Stage

@@ -5,8 +5,8 @@ use Rattle.std.specs.List.{list_any}
 use Rattle.std.proofs.lemmas.Bool.{lt-ltb, ltb-true}
 use Rattle.std.proofs.lemmas.Bool.Decides.{eqb_tells}
 use Rattle.std.proofs.lemmas.List.Folds.{list_any-append}
-use Rattle.machine_keeps.proofs.NodesAfter.{dir_or_sock}
-use Rattle.machine_keeps.proofs.Openers.{opens_by}
+use Rattle.machine_laws.proofs.NodesAfter.{dir_or_sock}
+use Rattle.machine_laws.proofs.Openers.{opens_by}
 use Rattle.memfs_ops.specs.Removing.{HoldsNoSocket, TellsHeld, TellsOpened, is_held}
 use Rattle.posix_defs.specs.Calls.OnNames.{is_busy, works_in}
 use Rattle.posix_defs.specs.Files.Descriptions.{Descriptions}
@@ -17,7 +17,7 @@ use Rattle.posix_defs.specs.Plain.{Plain, root}
 use Rattle.posix_defs.specs.Process.{Table, runs}
 use Rattle.posix_defs.specs.Tree.{Tree, is_directory, node_at}
 use Rattle.posix_defs.specs.World.{directories_of, is_in}
-use Rattle.holding_laws.specs.Holders.{AreOpenNodes}
+use Rattle.proc_files.specs.Holders.{AreOpenNodes}
 use Rattle.store_objects.specs.Trees.{held_nodes, pins_in}
 use Rattle.store_objects.specs.Working.{AreDirectories}
 use Rattle.store_objects.proofs.HeldNodes.{counts_in, held_same, in_counts}

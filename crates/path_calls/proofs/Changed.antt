@@ -32,7 +32,7 @@ use Rattle.posix_defs.specs.Tree.{Tree}
 use Rattle.posix_defs.specs.World.{World, directories_of}
 use Rattle.posix_defs.specs.declared.turner.Turned.{Turned}
 use Rattle.posix_defs.specs.declared.turner.Turned.TheVariants as turned
-use Rattle.holding_laws.specs.Holders.{AreOpenNodes, HaveNamesBut}
+use Rattle.proc_files.specs.Holders.{AreOpenNodes, HaveNamesBut}
 use Rattle.store_objects.specs.declared.objects.Objects.{Objects}
 use Rattle.store_objects.specs.Objects.{AreKept, Runs}
 use Rattle.store_objects.specs.Standing.{StandsFor, answered_in}

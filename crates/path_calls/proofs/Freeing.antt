@@ -15,7 +15,7 @@ use Rattle.kheap_slabs.specs.Heap.{Heap, IsWellFormed}
 use Rattle.memfs_ops.specs.FileTree.{Pays, Stands, TreeView}
 use Rattle.open_laws.specs.Open.{HaveFronts}
 use Rattle.open_laws.specs.Owned.{HasItsOwners}
-use Rattle.place_laws.specs.Placed.{Numbers}
+use Rattle.open_laws.specs.Placed.{Numbers}
 use Rattle.posix_defs.specs.Account.{Account, account_on, forget_dead, fronts_after, pipe_lengths, socket_lengths, unread_in_socket, with_frames}
 use Rattle.posix_defs.specs.Answer.{Answer}
 use Rattle.posix_defs.specs.DiskFormat.{table_nodes}
@@ -28,12 +28,12 @@ use Rattle.posix_defs.specs.Sockets.{Sockets}
 use Rattle.posix_defs.specs.World.{World, directories_of}
 use Rattle.posix_defs.specs.declared.turner.Turned.{Turned}
 use Rattle.posix_defs.specs.declared.turner.Turned.TheVariants as turned
-use Rattle.proc_descs.specs.Queues.{QueuesStand, fronts_on}
-use Rattle.proc_descs.proofs.Fronts.{fronts_follow}
+use Rattle.proc_numbers.specs.Queues.{QueuesStand, fronts_on}
+use Rattle.proc_numbers.proofs.Fronts.{fronts_follow}
 use Rattle.proc_files.specs.Holding.{HoldFiles}
-use Rattle.holding_laws.specs.Holders.{AreOpenNodes, HaveNamesBut, holders}
-use Rattle.holding_laws.specs.Names.{AreBound, freed_from, name_of}
-use Rattle.proc_names.specs.Holding.{HoldNames}
+use Rattle.proc_files.specs.Holders.{AreOpenNodes, HaveNamesBut, holders}
+use Rattle.proc_files.specs.Names.{AreBound, freed_from, name_of}
+use Rattle.proc_files.specs.NameHolding.{HoldNames}
 use Rattle.proc_table.specs.Table.{TableView}
 use Rattle.store_objects.specs.declared.objects.Objects.{Objects}
 use Rattle.store_objects.specs.Files.{AreSettled}

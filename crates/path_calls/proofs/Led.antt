@@ -6,7 +6,7 @@ use Rattle.kabi_types.specs.declared.errnos.Errno.{Errno}
 use Rattle.kabi_types.specs.declared.replies.Reply.{Reply}
 use Rattle.kabi_types.specs.declared.replies.Reply.TheVariants as reply
 use Rattle.kheap_slabs.specs.Heap.{Heap}
-use Rattle.machine_keeps.proofs.NodesAfter.{Turns, link_path_turns, mkdir_turns, rename_path_turns, rmdir_turns, unlink_path_turns}
+use Rattle.machine_laws.proofs.NodesAfter.{Turns, link_path_turns, mkdir_turns, rename_path_turns, rmdir_turns, unlink_path_turns}
 use Rattle.memfs_ops.specs.Changing.{ChangedTo, DoneAs}
 use Rattle.memfs_ops.specs.FileTree.{Stands, TreeView}
 use Rattle.memfs_ops.specs.Removing.{TellsHeld, TellsOpened, ToldTo}

@@ -1,13 +1,13 @@
 -- What is open, and what has a name, once a name of the tree has gone or changed.
 use Rattle.std.proofs.Common.{◌≡◌, ℕ, Bool, true, false, Option, None, Some, is_some, refl, sym, ◌∙◌, inl, inr}
-use Rattle.machine_keeps.proofs.NodesAfter.{Turns}
-use Rattle.machine_keeps.proofs.Openers.{Opener, by_opener, opener_busy}
+use Rattle.machine_laws.proofs.NodesAfter.{Turns}
+use Rattle.machine_laws.proofs.Openers.{Opener, by_opener, opener_busy}
 use Rattle.posix_defs.specs.Calls.OnNames.{is_busy}
 use Rattle.posix_defs.specs.Files.State.{opens, with_tree}
 use Rattle.posix_defs.specs.PathCalls.{is_socket, is_socket_kind, kind_in}
 use Rattle.posix_defs.specs.Plain.{Plain}
 use Rattle.posix_defs.specs.Tree.{Node, Tree, is_directory, is_in_use, node_at}
-use Rattle.holding_laws.specs.Holders.{AreOpenNodes, HaveNamesBut, IsOpenNode}
+use Rattle.proc_files.specs.Holders.{AreOpenNodes, HaveNamesBut, IsOpenNode}
 use Rattle.store_objects.specs.Standing.{IsSound}
 
 -- a socket's name is in use

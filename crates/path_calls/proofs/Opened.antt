@@ -12,17 +12,17 @@ use Rattle.kheap_slabs.specs.declared.objects.Proc.{Proc}
 use Rattle.kheap_slabs.specs.declared.objects.Target.{Target as HeldTarget}
 use Rattle.kheap_slabs.specs.declared.objects.Target.TheVariants as target
 use Rattle.kheap_slabs.specs.Heap.{Heap}
-use Rattle.machine_keeps.proofs.Openers.{Opener, by_opener, opens_by}
+use Rattle.machine_laws.proofs.Openers.{Opener, by_opener, opens_by}
 use Rattle.open_laws.specs.Described.{Counted, CountedList, counted_in, node_in, target_in, uncounted}
 use Rattle.open_laws.specs.Owned.{HasItsOwners, desc_count_at, names_desc, namings_in, namings_of}
 use Rattle.open_laws.proofs.DropLemmas.{description_in}
 use Rattle.open_laws.proofs.GoingLemmas.{named_there}
-use Rattle.place_laws.specs.Placed.{Numbers}
+use Rattle.open_laws.specs.Placed.{Numbers}
 use Rattle.posix_defs.specs.Files.Descriptions.{Description, Descriptions, OnNode, Target, description_at}
 use Rattle.posix_defs.specs.Files.State.{Files, is_number, opens}
-use Rattle.proc_descs.specs.Having.{AreListed, HaveOpen}
-use Rattle.proc_descs.proofs.Sums.{one_if, part_of_sum, some_adds}
-use Rattle.proc_queues.proofs.Opening.{described_so}
+use Rattle.proc_numbers.specs.Having.{AreListed, HaveOpen}
+use Rattle.proc_numbers.proofs.Sums.{one_if, part_of_sum, some_adds}
+use Rattle.proc_numbers.proofs.NamedOpen.{described_so}
 use Rattle.proc_table.specs.Procs.{numbers_in}
 use Rattle.proc_table.specs.Table.{AreStored, TableView, keys_of, processes, procs_at}
 use Rattle.proc_table.specs.declared.places.Listed.{Listed}

@@ -1,7 +1,7 @@
 -- Who works in a directory works in one still once a call on names is over: none of them takes a directory that is worked in.
 use Rattle.std.proofs.Common.{◌≡◌, ℕ, ◌==◌, ◌||◌, Bool, true, false, List, [], ◌∷◌, Option, refl, ap, sym, ◌∙◌, inl, inr}
-use Rattle.machine_keeps.proofs.NodesAfter.{Turns}
-use Rattle.machine_keeps.proofs.Openers.{works_busy}
+use Rattle.machine_laws.proofs.NodesAfter.{Turns}
+use Rattle.machine_laws.proofs.Openers.{works_busy}
 use Rattle.posix_defs.proofs.TreeNodes.{directory_in_use}
 use Rattle.posix_defs.specs.Calls.OnNames.{is_busy}
 use Rattle.posix_defs.specs.Plain.{Plain}

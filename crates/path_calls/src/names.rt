@@ -18,7 +18,7 @@ use crate::replies::{done, freed, gone_reply};
 use kabi_types::{Control, Script};
 use kheap_slabs::Purse;
 use posix_defs::Turned;
-use proc_names::name_freed;
+use proc_files::name_freed;
 use store_objects::{Objects, directory_of, go_on};
 
 /// Takes a name away, and with the last one its node, but for a file that a description opens. A socket that was bound to the node

@@ -11,21 +11,21 @@ use Rattle.kheap_slabs.specs.Owners.{IsOwned, Owners, pipe_queues, sock_queues, 
 use Rattle.open_laws.specs.Open.{HaveFronts, descriptors_by}
 use Rattle.open_laws.specs.Owned.{HasItsOwners, namings_of}
 use Rattle.open_laws.proofs.GoingLemmas.{held_open_on, named_on, open_on}
-use Rattle.place_laws.specs.Placed.{Numbers}
+use Rattle.open_laws.specs.Placed.{Numbers}
 use Rattle.posix_defs.specs.Account.{Account}
 use Rattle.posix_defs.specs.Files.State.{Files}
 use Rattle.posix_defs.specs.Memory.{Frames}
 use Rattle.posix_defs.specs.Process.{Table}
-use Rattle.proc_descs.specs.Having.{AreListed, HaveOpen, places_in}
-use Rattle.proc_descs.proofs.NumberCloses.{listed_on}
+use Rattle.proc_numbers.specs.Having.{AreListed, HaveOpen, places_in}
+use Rattle.proc_numbers.proofs.NumberCloses.{listed_on}
 use Rattle.proc_table.specs.Accounting.{HasAccount}
 use Rattle.proc_table.specs.Procs.{numbers_in, proc_of}
 use Rattle.proc_table.specs.Standing.{IsTable}
 use Rattle.proc_table.specs.Table.{TableView, procs_at, processes, with_procs}
 use Rattle.proc_table.proofs.LawLemmas.{elsewhere_account, elsewhere_holds, elsewhere_table}
-use Rattle.proc_queues.specs.Spaces.{HasSpace}
-use Rattle.proc_queues.specs.Standing.{IsKept}
-use Rattle.proc_queues.proofs.Remembering.{space_on}
+use Rattle.proc_numbers.specs.Spaces.{HasSpace}
+use Rattle.proc_numbers.specs.Standing.{IsKept}
+use Rattle.proc_numbers.proofs.Remembering.{space_on}
 use Rattle.proc_files.specs.Closing.{CachesChange}
 
 module _ (old new : Heap) (e : CachesChange old new) where

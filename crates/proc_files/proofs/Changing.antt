@@ -6,9 +6,9 @@ use Rattle.kheap_slabs.specs.Heap.{Heap}
 use Rattle.proc_table.specs.Procs.{with_numbers}
 use Rattle.proc_table.specs.Table.{TableView, key_of}
 use Rattle.proc_table.proofs.PlaceLemmas.{some_same}
-use Rattle.proc_descs.specs.Naming.{ChangesNumbers}
-use Rattle.proc_descs.proofs.Listing.{put_same}
-use Rattle.proc_pipes.proofs.Changes.{changes_closed}
+use Rattle.proc_numbers.specs.Naming.{ChangesNumbers}
+use Rattle.proc_numbers.proofs.Listing.{put_same}
+use Rattle.proc_numbers.proofs.Changes.{changes_closed}
 use Rattle.proc_files.specs.Closing.{CachesChange, ChangesHolding, ClosesHolding}
 
 -- the heap with what is open and what is cached in another

@@ -11,7 +11,7 @@ use Rattle.kheap_slabs.specs.Heap.{Heap}
 use Rattle.kheap_slabs.specs.Paid.{AreFills, HasFills, TakesNothing}
 use Rattle.memfs_ops.specs.Closing.{HeldToClose, left_tree, one_less}
 use Rattle.memfs_ops.specs.FileTree.{Pays, Stands, TreeView}
-use Rattle.place_laws.specs.Placed.{Numbers}
+use Rattle.open_laws.specs.Placed.{Numbers}
 use Rattle.posix_defs.specs.Files.Descriptions.{Description, OnNode}
 use Rattle.posix_defs.specs.Files.Closing.{after_close}
 use Rattle.posix_defs.specs.Files.State.{Files, opens}
@@ -19,16 +19,16 @@ use Rattle.posix_defs.specs.IsTree.{IsTree}
 use Rattle.posix_defs.specs.PathCalls.{is_socket_kind, kind_in}
 use Rattle.posix_defs.specs.Tree.{Node, Tree, is_directory, is_directory_in, links_at, links_in, node_at, root, with_node}
 use Rattle.posix_defs.specs.TreeChanges.{closed}
-use Rattle.proc_descs.specs.Having.{ClosesNumber, HaveOpen}
+use Rattle.proc_numbers.specs.Having.{ClosesNumber, HaveOpen}
 use Rattle.proc_table.specs.Table.{TableView}
 use Rattle.tree_laws.proofs.OtherNodes.{closed_nodes}
 use Rattle.proc_files.specs.Closing.{CachesChange, MayClose}
 use Rattle.proc_files.specs.Holding.{CachesStay, HoldFiles}
-use Rattle.holding_laws.specs.Holders.{AreOpenNodes, HoldDirectories, holders, IsOpenNode, openings, times}
+use Rattle.proc_files.specs.Holders.{AreOpenNodes, HoldDirectories, holders, IsOpenNode, openings, times}
 use Rattle.proc_files.proofs.Closings.{Goes, opens_so}
 use Rattle.proc_files.proofs.Beside.{have_beside}
 use Rattle.proc_files.proofs.Holding.{same_pins, stands_on}
-use Rattle.holding_laws.proofs.Openings.{opens_once, times_apart, times_here}
+use Rattle.proc_files.proofs.Openings.{opens_once, times_apart, times_here}
 
 -- a directory is never closed away
 pub closed_directory : (tree : Tree) (number : ℕ) → IsTree tree → is_directory tree number ≡ true → closed tree number ≡ tree

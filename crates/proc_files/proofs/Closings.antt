@@ -18,7 +18,7 @@ use Rattle.kheap_slabs.specs.Heap.{Heap}
 use Rattle.open_laws.specs.Described.{counted_in, node_in, target_in}
 use Rattle.open_laws.specs.Open.{descriptor_by}
 use Rattle.open_laws.specs.Owned.{HasItsOwners, desc_count, names_desc, namings_in, namings_of}
-use Rattle.place_laws.specs.Placed.{Numbers}
+use Rattle.open_laws.specs.Placed.{Numbers}
 use Rattle.posix_defs.specs.Files.Closing.{after_close, close_in, description_gone, gone_in, released, target_closed}
 use Rattle.posix_defs.specs.Files.Descriptions.{Access, Description, Descriptions, OnNode, OnPipe, OnSocket, Target, description_at, with_description}
 use Rattle.posix_defs.specs.Files.Descriptors.{Descriptors, is_named}
@@ -28,15 +28,15 @@ use Rattle.posix_defs.specs.TreeChanges.{closed}
 use Rattle.proc_table.specs.Procs.{numbers_in, proc_of, with_numbers}
 use Rattle.proc_table.specs.Table.{TableView, processes}
 use Rattle.proc_table.proofs.PlaceLemmas.{eqb_same}
-use Rattle.proc_descs.specs.Having.{AreListed, ClosesNumber, HaveOpen, node_closed, node_dropped, places_in}
-use Rattle.proc_descs.specs.Naming.{named_at}
-use Rattle.proc_descs.proofs.Listing.{found_before}
-use Rattle.proc_descs.proofs.Named.{named_by_none, named_by_some}
-use Rattle.proc_descs.proofs.NumberNames.{desc_named, descriptor_at_is}
-use Rattle.proc_descs.proofs.Sums.{one_if}
-use Rattle.proc_queues.proofs.Opening.{described_so}
-use Rattle.holding_laws.specs.Holders.{openings, times}
-use Rattle.holding_laws.proofs.Openings.{nodes_gone, same_nodes, times_apart, times_cons}
+use Rattle.proc_numbers.specs.Having.{AreListed, ClosesNumber, HaveOpen, node_closed, node_dropped, places_in}
+use Rattle.proc_numbers.specs.Naming.{named_at}
+use Rattle.proc_numbers.proofs.Listing.{found_before}
+use Rattle.proc_numbers.proofs.Named.{named_by_none, named_by_some}
+use Rattle.proc_numbers.proofs.NumberNames.{desc_named, descriptor_at_is}
+use Rattle.proc_numbers.proofs.Sums.{one_if}
+use Rattle.proc_numbers.proofs.NamedOpen.{described_so}
+use Rattle.proc_files.specs.Holders.{openings, times}
+use Rattle.proc_files.proofs.Openings.{nodes_gone, same_nodes, times_apart, times_cons}
 
 -- ---- who opens a node
 

@@ -8,13 +8,13 @@ use Rattle.kheap_slabs.specs.declared.objects.Target.{Target}
 use Rattle.kheap_slabs.specs.declared.objects.Target.TheVariants as target
 use Rattle.kheap_slabs.specs.Heap.{Heap}
 use Rattle.open_laws.specs.Described.{node_in, target_in}
-use Rattle.place_laws.specs.Placed.{Numbers}
+use Rattle.open_laws.specs.Placed.{Numbers}
 use Rattle.posix_defs.specs.Files.State.{Files, node_of}
 use Rattle.proc_table.specs.Procs.{numbers_in}
 use Rattle.proc_table.specs.Table.{TableView, key_of}
-use Rattle.proc_descs.specs.Having.{AreListed, places_in}
-use Rattle.proc_descs.specs.Naming.{named_by, places_of}
-use Rattle.proc_descs.proofs.Listing.{found_before}
+use Rattle.proc_numbers.specs.Having.{AreListed, places_in}
+use Rattle.proc_numbers.specs.Naming.{named_by, places_of}
+use Rattle.proc_numbers.proofs.Listing.{found_before}
 use Rattle.proc_table.proofs.PlaceLemmas.{key_of-proc, some_same}
 use Rattle.proc_files.specs.Reading.{IsOffNodes, IsOnNode}
 

@@ -9,7 +9,7 @@ use Rattle.kabi_types.specs.declared.errnos.Errno.{Errno}
 use Rattle.memfs_ops.specs.FileTree.{Stands, TreeView, one_more}
 use Rattle.memfs_ops.specs.Opening.{OpenedAs}
 use Rattle.open_laws.specs.Described.{CountedList, uncounted}
-use Rattle.place_laws.specs.Placed.{Numbers}
+use Rattle.open_laws.specs.Placed.{Numbers}
 use Rattle.posix_defs.specs.Calls.OnFiles.{description_for}
 use Rattle.posix_defs.specs.Files.Descriptions.{Description, Descriptions, OnNode, access_of, description_at, o_cloexec, has_flag}
 use Rattle.posix_defs.specs.Files.State.{Files, beside, node_of, nodes_among, opened_as, with_tree}
@@ -17,13 +17,13 @@ use Rattle.posix_defs.specs.Tree.{Tree}
 use Rattle.posix_defs.proofs.TreeNodes.{directory_in_use}
 use Rattle.proc_table.specs.Table.{TableView}
 use Rattle.proc_table.proofs.PlaceLemmas.{some_same}
-use Rattle.proc_descs.specs.Having.{HaveOpen}
-use Rattle.proc_descs.proofs.Sums.{one_if}
-use Rattle.proc_pipes.proofs.Made.{longer}
+use Rattle.proc_numbers.specs.Having.{HaveOpen}
+use Rattle.proc_numbers.proofs.Sums.{one_if}
+use Rattle.proc_numbers.proofs.Made.{longer}
 use Rattle.proc_files.specs.Holding.{HoldFiles}
-use Rattle.holding_laws.specs.Holders.{AreOpenNodes, holders, IsOpenNode, times}
+use Rattle.proc_files.specs.Holders.{AreOpenNodes, holders, IsOpenNode, times}
 use Rattle.proc_files.proofs.Holding.{same_pins}
-use Rattle.holding_laws.proofs.Openings.{nodes_made, times_beside, times_cons}
+use Rattle.proc_files.proofs.Openings.{nodes_made, times_beside, times_cons}
 use Rattle.proc_files.proofs.OpenLeads.{LeadsTo}
 
 -- ---- the answer of the tree

@@ -18,7 +18,7 @@ use Rattle.cached_disk.specs.TreeLent.{HasPins}
 use Rattle.memfs_ops.specs.FileTree.{HasRoom, HeldSome, Stands, TreeView}
 use Rattle.open_laws.specs.Described.{counted_in, node_in, target_in}
 use Rattle.open_laws.specs.Owned.{HasItsOwners}
-use Rattle.place_laws.specs.Placed.{Numbers}
+use Rattle.open_laws.specs.Placed.{Numbers}
 use Rattle.posix_defs.specs.Calls.Opened.{Opened, opened_at}
 use Rattle.posix_defs.specs.Files.Descriptions.{Description, OnNode, at_offset, description_at}
 use Rattle.posix_defs.specs.Files.State.{Files, described_as, node_of}
@@ -26,18 +26,18 @@ use Rattle.posix_defs.specs.Reaching.{is_on_node}
 use Rattle.posix_defs.specs.SoundDisk.{HasNode}
 use Rattle.posix_defs.specs.Tree.{Tree, found, is_directory}
 use Rattle.proc_table.specs.Table.{TableView, key_of}
-use Rattle.proc_descs.specs.Having.{AreListed, HaveOpen}
-use Rattle.proc_descs.specs.Naming.{named_by}
-use Rattle.proc_descs.proofs.NumberNames.{desc_named_by, opened_nothing, opened_so}
+use Rattle.proc_numbers.specs.Having.{AreListed, HaveOpen}
+use Rattle.proc_numbers.specs.Naming.{named_by}
+use Rattle.proc_numbers.proofs.NumberNames.{desc_named_by, opened_nothing, opened_so}
 use Rattle.proc_table.proofs.PlaceLemmas.{some_same}
-use Rattle.proc_queues.specs.Found.{opened_in}
-use Rattle.proc_queues.specs.declared.lookups.Found.{Found}
-use Rattle.proc_queues.proofs.Opening.{described_so}
+use Rattle.proc_numbers.specs.Found.{opened_in}
+use Rattle.proc_numbers.specs.declared.lookups.Found.{Found}
+use Rattle.proc_numbers.proofs.NamedOpen.{described_so}
 use Rattle.proc_files.specs.Reading.{IsOnNode}
 use Rattle.proc_files.specs.Holding.{CachesStay, HoldFiles, HoldSome, IsHeldIn}
-use Rattle.holding_laws.specs.Holders.{AreOpenNodes, holders, IsOpenNode, times}
+use Rattle.proc_files.specs.Holders.{AreOpenNodes, holders, IsOpenNode, times}
 use Rattle.proc_files.proofs.Moved.{have_moved, with_it}
-use Rattle.holding_laws.proofs.Openings.{nodes_set, opens_once}
+use Rattle.proc_files.proofs.Openings.{nodes_set, opens_once}
 
 -- ---- the tree
 

@@ -6,7 +6,7 @@ use Rattle.kabi_types.specs.declared.scripts.Script.{Script}
 use Rattle.kheap_slabs.specs.Heap.{Heap}
 use Rattle.memfs_ops.specs.FileTree.{TreeView}
 use Rattle.open_laws.specs.Open.{HaveFronts}
-use Rattle.place_laws.specs.Placed.{Numbers}
+use Rattle.open_laws.specs.Placed.{Numbers}
 use Rattle.posix_defs.specs.Account.{Account, forget_dead}
 use Rattle.posix_defs.specs.Answer.{Answer, replied}
 use Rattle.posix_defs.specs.Memory.{Frames}
@@ -15,9 +15,9 @@ use Rattle.posix_defs.specs.Plain.{Plain}
 use Rattle.proc_table.specs.Accounting.{HasAccount}
 use Rattle.proc_table.specs.Standing.{IsTable}
 use Rattle.proc_table.specs.Table.{TableView}
-use Rattle.proc_queues.specs.Standing.{IsKept, StandsFor}
-use Rattle.proc_queues.proofs.Fronts.{pipe_fronts, socket_fronts}
-use Rattle.proc_queues.proofs.Settled.{forgotten}
+use Rattle.proc_numbers.specs.Standing.{IsKept, StandsFor}
+use Rattle.proc_numbers.proofs.FrontsMoved.{pipe_fronts, socket_fronts}
+use Rattle.proc_numbers.proofs.Settled.{forgotten}
 use Rattle.proc_files.specs.Holding.{HoldFiles}
 use Rattle.proc_files.specs.Reading.{LeadsHolding}
 

@@ -26,19 +26,19 @@ use Rattle.open_laws.specs.Owned.{CountsItsNames, HasItsOwners, IsHeldOpen, IsTh
 use Rattle.open_laws.proofs.DropLemmas.{piped_on, socketed_on}
 use Rattle.open_laws.proofs.OwnerLemmas.{named_by, names}
 use Rattle.pipe_ends.proofs.StandingLemmas.{stands_same as pipe_stands_same}
-use Rattle.place_laws.specs.Placed.{Numbers, numbered}
+use Rattle.open_laws.specs.Placed.{Numbers, numbered}
 use Rattle.posix_defs.specs.Calls.OnFiles.{description_for}
 use Rattle.posix_defs.specs.Files.Descriptions.{Descriptions, ReadOnly, ReadWrite, WriteOnly, access_of, has_flag}
 use Rattle.posix_defs.specs.Files.Descriptors.{Descriptors}
 use Rattle.posix_defs.specs.Files.State.{Files}
 use Rattle.proc_table.specs.Table.{TableView}
 use Rattle.proc_table.proofs.PlaceLemmas.{some_same}
-use Rattle.proc_descs.specs.Having.{AreListed, HaveOpen}
-use Rattle.proc_descs.specs.Naming.{places_of}
-use Rattle.proc_descs.proofs.NumberCloses.{listed_on}
-use Rattle.proc_descs.proofs.NumberNames.{desc_named}
-use Rattle.proc_descs.proofs.Sums.{count_cons, one_if}
-use Rattle.proc_pipes.proofs.Made.{length_uncounted, made_count, made_described, made_here, made_named, made_others, made_sock, uncounted_more, used_apart}
+use Rattle.proc_numbers.specs.Having.{AreListed, HaveOpen}
+use Rattle.proc_numbers.specs.Naming.{places_of}
+use Rattle.proc_numbers.proofs.NumberCloses.{listed_on}
+use Rattle.proc_numbers.proofs.NumberNames.{desc_named}
+use Rattle.proc_numbers.proofs.Sums.{count_cons, one_if}
+use Rattle.proc_numbers.proofs.Made.{length_uncounted, made_count, made_described, made_here, made_named, made_others, made_sock, uncounted_more, used_apart}
 use Rattle.usock_core.proofs.HeldLemmas.{held_moved}
 use Rattle.usock_core.proofs.StandingLemmas.{held_on}
 use Rattle.proc_files.specs.Opening.{MakesDesc, described_more, desc_on, mode_of, with_desc}

@@ -14,8 +14,8 @@ use Rattle.open_laws.specs.Owned.{CountsItsNames, HasItsOwners, IsThereFor, desc
 use Rattle.open_laws.proofs.CloseLemmas.{described}
 use Rattle.open_laws.proofs.DropLemmas.{piped_beside, socketed_beside}
 use Rattle.open_laws.proofs.OwnerLemmas.{held_beside, set_here, set_other}
-use Rattle.place_laws.specs.Placed.{Numbers}
-use Rattle.place_laws.proofs.PlaceLemmas.{law_changes}
+use Rattle.open_laws.specs.Placed.{Numbers}
+use Rattle.open_laws.proofs.PlaceLemmas.{law_changes}
 use Rattle.posix_defs.specs.Account.{Account}
 use Rattle.posix_defs.specs.Files.Descriptions.{Descriptions, with_description}
 use Rattle.posix_defs.specs.Files.State.{Files, described_as}
@@ -25,9 +25,9 @@ use Rattle.proc_table.specs.Accounting.{HasAccount}
 use Rattle.proc_table.specs.Standing.{IsTable}
 use Rattle.proc_table.specs.Table.{TableView, processes, with_procs}
 use Rattle.proc_table.proofs.LawLemmas.{elsewhere_account, elsewhere_holds, elsewhere_table}
-use Rattle.proc_descs.specs.Having.{AreListed, HaveOpen}
-use Rattle.proc_descs.proofs.NumberCloses.{listed_on}
-use Rattle.proc_queues.specs.Standing.{IsKept}
+use Rattle.proc_numbers.specs.Having.{AreListed, HaveOpen}
+use Rattle.proc_numbers.proofs.NumberCloses.{listed_on}
+use Rattle.proc_numbers.specs.Standing.{IsKept}
 use Rattle.proc_files.specs.Seeking.{MovesDesc, moved}
 
 module _ (old : Heap) (key : ℕ) (desc : Desc) (offset : ℕ) (is : object old.descs key ≡ Some desc) where

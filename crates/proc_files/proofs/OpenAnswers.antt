@@ -13,7 +13,7 @@ use Rattle.kheap_slabs.specs.Heap.{Heap}
 use Rattle.memfs_ops.specs.FileTree.{TreeView}
 use Rattle.memfs_ops.specs.Opening.{OpenedAs}
 use Rattle.memfs_ops.proofs.RemoveLemmas.{path_led_in}
-use Rattle.place_laws.specs.Placed.{Numbers}
+use Rattle.open_laws.specs.Placed.{Numbers}
 use Rattle.posix_defs.specs.Answer.{failed, replied}
 use Rattle.posix_defs.specs.Calls.OnFiles.{description_for, open_at, open_file, opened_node_as, opening_of}
 use Rattle.posix_defs.specs.DiskTree.{StandsFor}
@@ -26,11 +26,11 @@ use Rattle.posix_defs.specs.Plain.{Plain, with_files}
 use Rattle.posix_defs.specs.Process.{directory_of}
 use Rattle.posix_defs.specs.Tree.{Tree, is_directory}
 use Rattle.proc_table.specs.Table.{TableView}
-use Rattle.proc_descs.specs.Having.{HaveOpen}
-use Rattle.proc_pipes.specs.Opening.{KeepsNumbers}
+use Rattle.proc_numbers.specs.Having.{HaveOpen}
+use Rattle.proc_numbers.specs.PipeOpening.{KeepsNumbers}
 use Rattle.proc_files.specs.Closing.{CachesChange}
 use Rattle.proc_files.specs.Holding.{CachesStay, HoldFiles}
-use Rattle.holding_laws.specs.Holders.{holders}
+use Rattle.proc_files.specs.Holders.{holders}
 use Rattle.proc_files.specs.Opening.{HaveAnew}
 use Rattle.proc_files.proofs.Beside.{have_beside, same_descs, same_pipes, same_socks}
 use Rattle.proc_files.proofs.Holding.{stands_on}

@@ -12,7 +12,7 @@ use Rattle.posix_defs.specs.PathCalls.{is_socket, is_socket_kind, kind_in}
 use Rattle.posix_defs.specs.Tree.{Content, Directory, File, Node, SocketName, Tree, is_directory, is_directory_in, is_in_use, node_at}
 use Rattle.proc_table.specs.Table.{TableView}
 use Rattle.proc_files.specs.Holding.{HoldSome}
-use Rattle.holding_laws.specs.Holders.{holders, IsOpenNode}
+use Rattle.proc_files.specs.Holders.{holders, IsOpenNode}
 use Rattle.proc_files.specs.Reading.{HoldsDirectory, HoldsFile}
 use Rattle.proc_files.proofs.Holding.{open_held, open_node}
 

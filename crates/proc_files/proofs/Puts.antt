@@ -14,7 +14,7 @@ use Rattle.kheap_laws.proofs.PaidLemmas.{IsPaid-trans}
 use Rattle.memfs_ops.specs.FileTree.{TreeView}
 use Rattle.open_laws.specs.Described.{counted_in}
 use Rattle.open_laws.specs.Open.{HaveFronts}
-use Rattle.place_laws.specs.Placed.{Numbers}
+use Rattle.open_laws.specs.Placed.{Numbers}
 use Rattle.posix_defs.specs.Account.{Account}
 use Rattle.posix_defs.specs.Answer.{Answer, replied}
 use Rattle.posix_defs.specs.Calls.Reading.{put}
@@ -28,11 +28,11 @@ use Rattle.posix_defs.specs.Tree.{is_directory}
 use Rattle.proc_table.specs.Accounting.{HasAccount}
 use Rattle.proc_table.specs.Standing.{IsTable}
 use Rattle.proc_table.specs.Table.{TableView}
-use Rattle.proc_queues.specs.Spaces.{HasSpace}
-use Rattle.proc_queues.specs.Standing.{IsKept, StandsFor}
-use Rattle.proc_queues.proofs.Remembering.{account_put, fronts_put, kept_put, open_put, table_put}
+use Rattle.proc_numbers.specs.Spaces.{HasSpace}
+use Rattle.proc_numbers.specs.Standing.{IsKept, StandsFor}
+use Rattle.proc_numbers.proofs.Remembering.{account_put, fronts_put, kept_put, open_put, table_put}
 use Rattle.proc_files.specs.Holding.{CachesStay, HoldFiles}
-use Rattle.holding_laws.specs.Holders.{holders}
+use Rattle.proc_files.specs.Holders.{holders}
 use Rattle.proc_files.specs.Reading.{LeadsHolding, ReadsNode}
 use Rattle.proc_files.specs.Seeking.{MovesDesc, moved}
 use Rattle.proc_files.specs.Closing.{CachesChange}

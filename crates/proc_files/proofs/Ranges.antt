@@ -18,9 +18,9 @@ use Rattle.posix_defs.specs.Process.{Table, memory_of}
 use Rattle.proc_table.proofs.MemoryLemmas.{memory_at-stands}
 use Rattle.proc_table.specs.Standing.{IsTable}
 use Rattle.proc_table.specs.Table.{TableView}
-use Rattle.proc_queues.specs.Spaces.{HasSpace}
-use Rattle.proc_queues.proofs.Remembering.{mapped_so, memory_is}
-use Rattle.proc_queues.proofs.RightBytes.{mapped_at}
+use Rattle.proc_numbers.specs.Spaces.{HasSpace}
+use Rattle.proc_numbers.proofs.Remembering.{mapped_so, memory_is}
+use Rattle.proc_numbers.proofs.RightBytes.{mapped_at}
 use Rattle.proc_files.specs.Reading.{HasRange, ReadsNode, TellsMapped}
 
 -- whether a range is mapped is what its space tells

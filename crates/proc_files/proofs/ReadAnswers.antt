@@ -8,7 +8,7 @@ use Rattle.kabi_types.specs.declared.scripts.Script.{Script}
 use Rattle.kheap_slabs.specs.declared.objects.Target.{Target}
 use Rattle.kheap_slabs.specs.declared.objects.Target.TheVariants as target
 use Rattle.open_laws.specs.Described.{access_in, node_in, target_in}
-use Rattle.place_laws.specs.Placed.{Numbers}
+use Rattle.open_laws.specs.Placed.{Numbers}
 use Rattle.posix_defs.specs.Answer.{Answer, failed, replied}
 use Rattle.posix_defs.specs.Calls.Opened.{Opened, answer_on, if_readable, opened_at}
 use Rattle.posix_defs.specs.Calls.Reading.{is_directory_target, list_directory, list_target, pread, pread_target, put, read, read_file, read_target, readdir}
@@ -18,10 +18,10 @@ use Rattle.posix_defs.specs.PathCalls.{read_node}
 use Rattle.posix_defs.specs.Plain.{Plain}
 use Rattle.posix_defs.specs.Process.{memory_of}
 use Rattle.posix_defs.specs.Tree.{is_directory}
-use Rattle.proc_queues.specs.Found.{opened_in}
-use Rattle.proc_queues.specs.declared.lookups.Found.{Found}
-use Rattle.proc_queues.proofs.Finding.{isnt_open, may_be_read}
-use Rattle.proc_queues.proofs.ReadCall.{of_opened, read_asks}
+use Rattle.proc_numbers.specs.Found.{opened_in}
+use Rattle.proc_numbers.specs.declared.lookups.Found.{Found}
+use Rattle.proc_numbers.proofs.MayMove.{isnt_open, may_be_read}
+use Rattle.proc_numbers.proofs.ReadCall.{of_opened, read_asks}
 
 -- an answer that goes by three tests
 pub three : (answer : Bool → Bool → Bool → Answer) (a b c x y z : Bool) → a ≡ x → b ≡ y → c ≡ z → answer a b c ≡ answer x y z

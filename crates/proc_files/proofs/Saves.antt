@@ -15,10 +15,10 @@ use Rattle.posix_defs.specs.DiskContents.{data_block}
 use Rattle.posix_defs.specs.DiskFormat.{block_size}
 use Rattle.posix_defs.specs.SoundDisk.{HasNode}
 use Rattle.proc_table.specs.Table.{TableView}
-use Rattle.proc_descs.specs.Naming.{named_by}
+use Rattle.proc_numbers.specs.Naming.{named_by}
 use Rattle.proc_table.proofs.PlaceLemmas.{some_same}
-use Rattle.proc_queues.specs.Found.{IsNamed}
-use Rattle.proc_queues.specs.declared.lookups.Found.{Found}
+use Rattle.proc_numbers.specs.Found.{IsNamed}
+use Rattle.proc_numbers.specs.declared.lookups.Found.{Found}
 use Rattle.proc_files.specs.Reading.{KeepsRead, SavesRead}
 
 module _ (h : Heap) (kept : TableView) (pid : ℕ) (fd : ℤ) (was mid : TreeView) (used : IsUsed was mid) where

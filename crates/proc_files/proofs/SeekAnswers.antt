@@ -15,7 +15,7 @@ use Rattle.kheap_slabs.specs.Heap.{Heap}
 use Rattle.memfs_ops.specs.FileTree.{Stands, TreeView}
 use Rattle.open_laws.specs.Described.{counted_in, node_in, target_in}
 use Rattle.open_laws.specs.Owned.{HasItsOwners}
-use Rattle.place_laws.specs.Placed.{Numbers}
+use Rattle.open_laws.specs.Placed.{Numbers}
 use Rattle.posix_defs.specs.Answer.{Answer, failed, replied}
 use Rattle.posix_defs.specs.Calls.OnFiles.{fstat, greatest_offset, info_of, is_between_entries, lseek, origin, seek_target, seek_to}
 use Rattle.posix_defs.specs.Calls.Opened.{Opened, answer_on, moved_to, opened_at}
@@ -24,10 +24,10 @@ use Rattle.posix_defs.specs.Files.State.{described_as}
 use Rattle.posix_defs.specs.PathCalls.{stat_info}
 use Rattle.posix_defs.specs.Plain.{Plain}
 use Rattle.posix_defs.specs.Tree.{Tree, is_directory, size_at}
-use Rattle.proc_queues.specs.Found.{opened_in}
-use Rattle.proc_queues.specs.declared.lookups.Found.{Found}
-use Rattle.proc_descs.specs.Having.{AreListed}
-use Rattle.proc_pipes.specs.Answering.{value_of}
+use Rattle.proc_numbers.specs.Found.{opened_in}
+use Rattle.proc_numbers.specs.declared.lookups.Found.{Found}
+use Rattle.proc_numbers.specs.Having.{AreListed}
+use Rattle.proc_numbers.specs.Answering.{value_of}
 use Rattle.proc_table.specs.Table.{TableView}
 use Rattle.proc_files.specs.Answering.{AnswersHolding}
 use Rattle.proc_files.specs.Holding.{HoldFiles, HoldSome}

@@ -7,7 +7,7 @@ use Rattle.kabi_types.specs.declared.scripts.Script.{Script}
 use Rattle.kheap_slabs.specs.declared.objects.Target.{Target}
 use Rattle.kheap_slabs.specs.declared.objects.Target.TheVariants as target
 use Rattle.open_laws.specs.Described.{access_in, node_in, target_in}
-use Rattle.place_laws.specs.Placed.{Numbers}
+use Rattle.open_laws.specs.Placed.{Numbers}
 use Rattle.posix_defs.specs.Answer.{Answer, failed, replied}
 use Rattle.posix_defs.specs.Calls.OnFiles.{ftruncate, resized_to, truncate_target}
 use Rattle.posix_defs.specs.Calls.Opened.{Opened, answer_on, if_writable, opened_at}
@@ -17,9 +17,9 @@ use Rattle.posix_defs.specs.Files.Descriptions.{may_write}
 use Rattle.posix_defs.specs.Plain.{Plain}
 use Rattle.posix_defs.specs.Tree.{is_directory}
 use Rattle.posix_defs.specs.TreeChanges.{resize, write as tree_write}
-use Rattle.proc_queues.specs.Found.{opened_in}
-use Rattle.proc_queues.specs.declared.lookups.Found.{Found}
-use Rattle.proc_queues.proofs.Finding.{isnt_open, may_be_written}
+use Rattle.proc_numbers.specs.Found.{opened_in}
+use Rattle.proc_numbers.specs.declared.lookups.Found.{Found}
+use Rattle.proc_numbers.proofs.MayMove.{isnt_open, may_be_written}
 use Rattle.proc_files.proofs.ReadAnswers.{by_tests, is_mapped, three}
 
 module _ (script : Script) (numbers : Numbers) (plain : Plain) (pid : ℕ) (fd addr n : ℤ) where

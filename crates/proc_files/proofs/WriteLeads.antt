@@ -12,7 +12,7 @@ use Rattle.kheap_slabs.specs.Heap.{Heap}
 use Rattle.memfs_ops.specs.Changing.{ChangedTo, LedTo}
 use Rattle.memfs_ops.specs.FileTree.{Stands, TreeView}
 use Rattle.open_laws.specs.Described.{counted_in}
-use Rattle.place_laws.specs.Placed.{Numbers}
+use Rattle.open_laws.specs.Placed.{Numbers}
 use Rattle.posix_defs.specs.Account.{Account}
 use Rattle.posix_defs.specs.Answer.{Answer, replied}
 use Rattle.posix_defs.specs.Calls.OnFiles.{resized_to}
@@ -25,13 +25,13 @@ use Rattle.posix_defs.specs.MemoryCalls.{frames_after}
 use Rattle.posix_defs.specs.Plain.{Plain, with_files}
 use Rattle.posix_defs.specs.Tree.{Tree, is_directory}
 use Rattle.posix_defs.specs.TreeChanges.{resize, write as tree_write}
-use Rattle.proc_pipes.specs.Answering.{value_of, zero_of}
+use Rattle.proc_numbers.specs.Answering.{value_of, zero_of}
 use Rattle.proc_table.specs.Table.{TableView}
-use Rattle.proc_queues.specs.Standing.{IsKept, StandsFor}
+use Rattle.proc_numbers.specs.Standing.{IsKept, StandsFor}
 use Rattle.proc_files.specs.Answering.{AnswersHolding}
 use Rattle.proc_files.specs.Closing.{CachesChange}
 use Rattle.proc_files.specs.Holding.{HasSameKinds, HoldFiles, HoldSome}
-use Rattle.holding_laws.specs.Holders.{holders}
+use Rattle.proc_files.specs.Holders.{holders}
 use Rattle.proc_files.specs.Reading.{LeadsHolding}
 use Rattle.proc_files.specs.Seeking.{MovesDesc, moved}
 use Rattle.proc_files.proofs.Beside.{account_beside, fronts_beside, kept_beside, same_descs, table_beside}

@@ -6,7 +6,7 @@ use Rattle.kabi_types.specs.declared.errnos.Errno.{Errno}
 use Rattle.kabi_types.specs.declared.errnos.Errno.TheVariants.{EFBIG, ENOSPC}
 use Rattle.kheap_slabs.specs.Heap.{Heap}
 use Rattle.memfs_ops.specs.FileTree.{Stands, TreeView}
-use Rattle.place_laws.specs.Placed.{Numbers}
+use Rattle.open_laws.specs.Placed.{Numbers}
 use Rattle.posix_defs.specs.DiskFormat.{blocks_of, greatest_size}
 use Rattle.posix_defs.specs.FileBytes.{resized}
 use Rattle.posix_defs.specs.Files.State.{Files, with_tree}
@@ -18,10 +18,10 @@ use Rattle.proc_table.specs.Table.{TableView}
 use Rattle.tree_laws.proofs.FileKeeps.{wrote}
 use Rattle.proc_files.specs.Closing.{CachesChange}
 use Rattle.proc_files.specs.Holding.{HasSameKinds, HoldFiles}
-use Rattle.holding_laws.specs.Holders.{holders, times}
+use Rattle.proc_files.specs.Holders.{holders, times}
 use Rattle.proc_files.proofs.Beside.{have_beside}
 use Rattle.proc_files.proofs.Holding.{same_pins}
-use Rattle.holding_laws.proofs.Openings.{same_nodes}
+use Rattle.proc_files.proofs.Openings.{same_nodes}
 
 -- ---- a tree in which a file has other bytes
 

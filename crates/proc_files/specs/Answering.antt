@@ -4,14 +4,14 @@ use Rattle.kabi_types.specs.declared.scripts.Script.{Script}
 use Rattle.kabi_types.specs.declared.replies.Reply.{Reply}
 use Rattle.kheap_slabs.specs.Heap.{Heap}
 use Rattle.memfs_ops.specs.FileTree.{TreeView}
-use Rattle.place_laws.specs.Placed.{Numbers}
+use Rattle.open_laws.specs.Placed.{Numbers}
 use Rattle.posix_defs.specs.Answer.{Answer, replied}
 use Rattle.posix_defs.specs.Calls.Opened.{opened_at}
 use Rattle.posix_defs.specs.Files.State.{Files}
 use Rattle.posix_defs.specs.Plain.{Plain, with_files}
 use Rattle.posix_defs.specs.Reaching.{is_on_node}
 use Rattle.proc_table.specs.Table.{TableView}
-use Rattle.proc_descs.specs.Having.{HaveOpen}
+use Rattle.proc_numbers.specs.Having.{HaveOpen}
 use Rattle.proc_files.specs.Holding.{HoldFiles}
 
 -- The machine's answer is this reply; of the machine only files are others, for which heap, table and tree stand.

@@ -6,7 +6,7 @@ use Rattle.kheap_slabs.specs.declared.objects.Descriptor.{Descriptor as HeldDesc
 use Rattle.kheap_slabs.specs.declared.objects.Proc.{Proc}
 use Rattle.kheap_slabs.specs.Heap.{Heap}
 use Rattle.memfs_ops.specs.Closing.{MayFree}
-use Rattle.proc_descs.specs.Having.{ClosesNumber}
+use Rattle.proc_numbers.specs.Having.{ClosesNumber}
 use Rattle.proc_table.specs.Procs.{with_numbers}
 use Rattle.proc_table.specs.Table.{TableView, key_of}
 

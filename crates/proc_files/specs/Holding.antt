@@ -1,15 +1,15 @@
 -- Descriptions that are open on nodes of the tree of files, and who holds these nodes.
 use Rattle.std.specs.Prelude.{ℕ, ◌≡◌}
-use Rattle.holding_laws.specs.Holders.{AreOpenNodes, HoldDirectories, holders}
+use Rattle.proc_files.specs.Holders.{AreOpenNodes, HoldDirectories, holders}
 use Rattle.kheap_slabs.specs.Heap.{Heap}
 use Rattle.kheap_slabs.specs.declared.objects.Target.{Target}
 use Rattle.kheap_slabs.specs.declared.objects.Target.TheVariants as target
 use Rattle.memfs_ops.specs.FileTree.{HeldSome, Stands, TreeView}
-use Rattle.place_laws.specs.Placed.{Numbers}
+use Rattle.open_laws.specs.Placed.{Numbers}
 use Rattle.posix_defs.specs.Files.State.{Files}
 use Rattle.posix_defs.specs.PathCalls.{is_socket}
 use Rattle.posix_defs.specs.Tree.{Tree, is_directory, is_in_use}
-use Rattle.proc_descs.specs.Having.{HaveOpen}
+use Rattle.proc_numbers.specs.Having.{HaveOpen}
 use Rattle.proc_table.specs.Table.{TableView}
 
 -- Heap, table and tree stand for these files: for what is open, and for the tree, whose nodes descriptions hold, and so many

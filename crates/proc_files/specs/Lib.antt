@@ -1,6 +1,12 @@
+pub mod Names
+pub mod Holders
 pub mod Holding
 pub mod Answering
 pub mod Seeking
 pub mod Reading
 pub mod Closing
 pub mod Opening
+pub mod NameHolding
+pub mod NameAnswering
+pub mod SocketGoing
+pub mod Ending

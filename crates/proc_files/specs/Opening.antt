@@ -10,16 +10,16 @@ use Rattle.kheap_slabs.specs.declared.objects.Proc.{Proc}
 use Rattle.kheap_slabs.specs.declared.objects.Target.TheVariants as target
 use Rattle.kheap_slabs.specs.Heap.{Heap}
 use Rattle.memfs_ops.specs.FileTree.{TreeView}
-use Rattle.place_laws.specs.Placed.{Numbers, numbered}
+use Rattle.open_laws.specs.Placed.{Numbers, numbered}
 use Rattle.posix_defs.specs.Answer.{Answer}
 use Rattle.posix_defs.specs.Files.Descriptions.{Description, has_flag, o_append, o_nonblock}
 use Rattle.posix_defs.specs.Files.State.{Files, with_descriptions}
 use Rattle.posix_defs.specs.Plain.{Plain}
 use Rattle.posix_defs.specs.Tree.{is_directory}
-use Rattle.proc_pipes.specs.Opening.{KeepsNumbers}
+use Rattle.proc_numbers.specs.PipeOpening.{KeepsNumbers}
 use Rattle.proc_table.specs.Procs.{proc_of}
 use Rattle.proc_table.specs.Table.{TableView, processes}
-use Rattle.proc_descs.specs.Having.{HaveOpen}
+use Rattle.proc_numbers.specs.Having.{HaveOpen}
 use Rattle.proc_files.specs.Answering.{AnswersHolding}
 use Rattle.proc_files.specs.Holding.{HoldFiles}
 

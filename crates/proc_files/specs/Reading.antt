@@ -20,7 +20,7 @@ use Rattle.memfs_ops.specs.FileTree.{Stands, TreeView}
 use Rattle.open_laws.specs.Described.{node_in}
 use Rattle.page_space.specs.Entries.{IsMappedRange}
 use Rattle.page_space.specs.Putting.{Puts}
-use Rattle.place_laws.specs.Placed.{Numbers}
+use Rattle.open_laws.specs.Placed.{Numbers}
 use Rattle.posix_defs.specs.Account.{Account}
 use Rattle.posix_defs.specs.Answer.{Answer, replied}
 use Rattle.posix_defs.specs.DiskContents.{data_block}
@@ -31,9 +31,9 @@ use Rattle.posix_defs.specs.SoundDisk.{HasNode}
 use Rattle.posix_defs.specs.Process.{Table, memory_of}
 use Rattle.posix_defs.specs.Tree.{Tree, is_directory}
 use Rattle.posix_defs.specs.Turn.{account_after}
-use Rattle.proc_descs.specs.Naming.{named_by}
-use Rattle.proc_queues.specs.Spaces.{HasSpace}
-use Rattle.proc_queues.specs.Standing.{StandsFor}
+use Rattle.proc_numbers.specs.Naming.{named_by}
+use Rattle.proc_numbers.specs.Spaces.{HasSpace}
+use Rattle.proc_numbers.specs.Standing.{StandsFor}
 use Rattle.proc_table.specs.Standing.{IsTable}
 use Rattle.proc_table.specs.Table.{TableView}
 use Rattle.proc_files.specs.Holding.{HoldFiles}

@@ -12,7 +12,7 @@ ghost use Rattle.proc_files.specs.Seeking.{MovesDesc};
 
 use kabi_types::{NodeKind, StatInfo};
 use kheap_slabs::{Access, Desc, KHeap};
-use proc_queues::Found;
+use proc_numbers::Found;
 
 /// Whether what is told of a node is told of a directory.
 pub(crate) fn is_directory(info: &StatInfo) -> bool
@@ -60,7 +60,7 @@ pub(crate) fn move_to(heap: &mut KHeap, found: &Found, offset: u64)
 }
 
 /// The heap is well formed: what there is of each class fits in it, and each row of its objects is as long as it was reserved.
-pub fn is_well_formed(heap: &KHeap)
+pub(crate) fn is_well_formed(heap: &KHeap)
     ensures { IsWellFormed heap.now }
 {
     let _ = heap.heap();

@@ -3,16 +3,16 @@
 ghost use Rattle.std.specs.Prelude.{◌≡◌, ℕ, [], IsSome, false, is_some, true};
 ghost use Rattle.open_laws.specs.Described.{node_in};
 ghost use Rattle.open_laws.specs.Owned.{HasItsOwners};
-ghost use Rattle.place_laws.specs.Placed.{Numbers};
+ghost use Rattle.open_laws.specs.Placed.{Numbers};
 ghost use Rattle.posix_defs.specs.Calls.Opened.{opened_at};
 ghost use Rattle.posix_defs.specs.Files.State.{Files};
 ghost use Rattle.posix_defs.specs.Reaching.{is_on_node as plain_on_node};
 ghost use Rattle.proc_table.specs.Table.{key_of};
-ghost use Rattle.proc_descs.specs.Having.{AreListed, HaveOpen};
+ghost use Rattle.proc_numbers.specs.Having.{AreListed, HaveOpen};
 ghost use Rattle.proc_files.specs.Reading.{IsOffNodes, IsOnNode};
 
 use kheap_slabs::{KHeap, Target};
-use proc_descs::descriptor_of;
+use proc_numbers::descriptor_of;
 use proc_table::ProcTable;
 
 /// Whether a number of a process is open on a node of the tree of files; pipes and sockets have none.

@@ -9,14 +9,14 @@ ghost use Rattle.kheap_slabs.specs.Objects.{object};
 ghost use Rattle.kheap_slabs.specs.Paid.{TakesNothing};
 ghost use Rattle.memfs_ops.specs.FileTree.{HeldSome, IsUsed, Stands};
 ghost use Rattle.open_laws.specs.Owned.{HasItsOwners};
-ghost use Rattle.place_laws.specs.Placed.{Numbers};
+ghost use Rattle.open_laws.specs.Placed.{Numbers};
 ghost use Rattle.posix_defs.specs.Calls.OnFiles.{is_between_entries, lseek};
 ghost use Rattle.posix_defs.specs.PathCalls.{stat_info};
 ghost use Rattle.posix_defs.specs.Plain.{Plain};
 ghost use Rattle.posix_defs.specs.Tree.{Tree, is_directory as plain_is_directory};
 ghost use Rattle.proc_table.specs.Table.{key_of};
-ghost use Rattle.proc_descs.specs.Having.{AreListed};
-ghost use Rattle.proc_pipes.specs.Answering.{value_of};
+ghost use Rattle.proc_numbers.specs.Having.{AreListed};
+ghost use Rattle.proc_numbers.specs.Answering.{value_of};
 ghost use Rattle.proc_files.specs.Answering.{AnswersHolding, StaysOffNodes};
 ghost use Rattle.proc_files.specs.Holding.{HoldFiles, HoldSome};
 ghost use Rattle.proc_files.specs.Seeking.{MovesDesc, between_entries, offset_at, origin_in, sought};
@@ -25,8 +25,7 @@ use crate::nodes::{is_directory, move_to};
 use kabi_types::{Errno, StatInfo};
 use kheap_slabs::{KHeap, Target};
 use memfs_ops::FileTree;
-use proc_descs::count_of;
-use proc_queues::{Found, opened};
+use proc_numbers::{Found, count_of, opened};
 use proc_table::ProcTable;
 
 /// The greatest offset.

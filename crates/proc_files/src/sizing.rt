@@ -6,12 +6,12 @@ ghost use Rattle.kabi_types.specs.declared.scripts.Script.{Script};
 ghost use Rattle.memfs_ops.specs.Fetching.{MayFetch};
 ghost use Rattle.memfs_ops.specs.FileTree.{Pays};
 ghost use Rattle.open_laws.specs.Owned.{HasItsOwners};
-ghost use Rattle.place_laws.specs.Placed.{Numbers};
+ghost use Rattle.open_laws.specs.Placed.{Numbers};
 ghost use Rattle.posix_defs.specs.Calls.OnFiles.{ftruncate};
 ghost use Rattle.posix_defs.specs.Plain.{Plain};
 ghost use Rattle.proc_table.specs.Table.{key_of};
-ghost use Rattle.proc_descs.specs.Having.{AreListed};
-ghost use Rattle.proc_pipes.specs.Answering.{zero_of};
+ghost use Rattle.proc_numbers.specs.Having.{AreListed};
+ghost use Rattle.proc_numbers.specs.Answering.{zero_of};
 ghost use Rattle.proc_files.specs.Answering.{AnswersHolding, StaysOffNodes};
 ghost use Rattle.proc_files.specs.Holding.{HoldFiles, HoldSome};
 
@@ -19,8 +19,7 @@ use crate::nodes::{is_directory, may_write};
 use kabi_types::Errno;
 use kheap_slabs::{KHeap, Purse, Target};
 use memfs_ops::FileTree;
-use proc_descs::count_of;
-use proc_queues::opened;
+use proc_numbers::{count_of, opened};
 use proc_table::ProcTable;
 
 /// The file that a number is open on gets another size; what it grows by is zeros.

@@ -4,13 +4,13 @@ ghost use Rattle.std.specs.Prelude.{◌≡◌, ◌==◌, ◌+◌, ◌<◌, ◌�
 ghost use Rattle.kabi_types.specs.Arguments.{count_of, range_fault};
 ghost use Rattle.proc_table.specs.Procs.{IsAlive};
 ghost use Rattle.proc_table.specs.Table.{processes};
-ghost use Rattle.proc_queues.specs.Spaces.{HasSpace};
-ghost use Rattle.proc_queues.specs.Standing.{IsKept};
+ghost use Rattle.proc_numbers.specs.Spaces.{HasSpace};
+ghost use Rattle.proc_numbers.specs.Standing.{IsKept};
 ghost use Rattle.proc_files.specs.Reading.{HasRange, TellsMapped};
 
 use kheap_slabs::KHeap;
 use page_space::Space;
-use proc_descs::count_of;
+use proc_numbers::count_of;
 use proc_table::ProcTable;
 
 /// The most bytes that one call moves.

@@ -5,7 +5,7 @@ ghost use Rattle.kabi_types.specs.Arguments.{path_fault};
 ghost use Rattle.kheap_slabs.specs.declared.objects.Proc.{Proc};
 ghost use Rattle.memfs_ops.specs.FileTree.{KeepsLed, KnowsWay, MayWalk, Pays, Stands, in_call};
 ghost use Rattle.memfs_ops.specs.Starting.{ArePrograms, KeepsLine, KnowsLine};
-ghost use Rattle.place_laws.specs.Placed.{Numbers};
+ghost use Rattle.open_laws.specs.Placed.{Numbers};
 ghost use Rattle.posix_defs.specs.Files.State.{Files};
 ghost use Rattle.posix_defs.specs.PathCalls.{exec_path, node_led};
 ghost use Rattle.posix_defs.specs.Paths.{resolve};
@@ -15,7 +15,7 @@ ghost use Rattle.posix_defs.specs.Tree.{Tree};
 ghost use Rattle.proc_table.specs.Procs.{proc_of};
 ghost use Rattle.proc_table.specs.Standing.{IsTable};
 ghost use Rattle.proc_table.specs.Table.{key_of, processes};
-ghost use Rattle.proc_descs.specs.Having.{AreListed};
+ghost use Rattle.proc_numbers.specs.Having.{AreListed};
 ghost use Rattle.proc_files.specs.Holding.{HoldFiles, HoldSome};
 ghost use Rattle.proc_files.specs.Opening.{WorksSomewhere};
 

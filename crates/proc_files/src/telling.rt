@@ -5,20 +5,20 @@ ghost use Rattle.kabi_types.specs.declared.scripts.Script.{Script};
 ghost use Rattle.memfs_ops.specs.FileTree.{IsUsed, Stands};
 ghost use Rattle.open_laws.specs.Described.{node_in, target_in};
 ghost use Rattle.open_laws.specs.Owned.{HasItsOwners};
-ghost use Rattle.place_laws.specs.Placed.{Numbers};
+ghost use Rattle.open_laws.specs.Placed.{Numbers};
 ghost use Rattle.posix_defs.specs.Calls.OnFiles.{fstat, info_of, without_node};
 ghost use Rattle.posix_defs.specs.Plain.{Plain};
 ghost use Rattle.posix_defs.specs.Tree.{Tree};
 ghost use Rattle.proc_table.specs.Table.{key_of};
-ghost use Rattle.proc_descs.specs.Having.{AreListed};
-ghost use Rattle.proc_pipes.specs.Answering.{stat_of};
+ghost use Rattle.proc_numbers.specs.Having.{AreListed};
+ghost use Rattle.proc_numbers.specs.Answering.{stat_of};
 ghost use Rattle.proc_files.specs.Answering.{AnswersHolding, StaysOffNodes};
 ghost use Rattle.proc_files.specs.Holding.{HoldFiles, HoldSome, IsHeldIn};
 
 use kabi_types::{Errno, NodeKind, StatInfo};
 use kheap_slabs::{KHeap, Target};
 use memfs_ops::FileTree;
-use proc_queues::opened;
+use proc_numbers::opened;
 use proc_table::ProcTable;
 
 /// What a number of a process is open on: all of a file or a directory, and of a pipe or a socket only that it is one.

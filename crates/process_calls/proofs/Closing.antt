@@ -12,9 +12,9 @@ use Rattle.memfs_ops.specs.FileTree.{TreeView}
 use Rattle.open_laws.specs.Owned.{HasItsOwners}
 use Rattle.posix_defs.specs.Memory.{Frames}
 use Rattle.posix_defs.specs.Process.{Table}
-use Rattle.proc_descs.specs.Having.{AreListed}
-use Rattle.proc_names.specs.Ending.{ClosesEach}
-use Rattle.holding_laws.specs.Names.{AreBound, name_of}
+use Rattle.proc_numbers.specs.Having.{AreListed}
+use Rattle.proc_files.specs.Ending.{ClosesEach}
+use Rattle.proc_files.specs.Names.{AreBound, name_of}
 use Rattle.proc_table.specs.Accounting.{HasAccount}
 use Rattle.proc_table.specs.Procs.{IsAlive, IsLight, no_descriptors, proc_of, process_of, with_numbers}
 use Rattle.proc_table.specs.Standing.{AreFrom, IsTable}

@@ -26,11 +26,11 @@ use Rattle.posix_defs.specs.World.{Kept, World, directories_of}
 use Rattle.kern_laws.proofs.Families.{dies_on, first_lives}
 use Rattle.kern_laws.proofs.Nexts.{alive_is_there, die_ends}
 use Rattle.kern_laws.proofs.TablePlaces.{each_changed}
-use Rattle.proc_descs.specs.Queues.{QueuesStand}
-use Rattle.proc_descs.proofs.Fronts.{queues_then}
-use Rattle.holding_laws.specs.Holders.{holders, openings}
+use Rattle.proc_numbers.specs.Queues.{QueuesStand}
+use Rattle.proc_numbers.proofs.Fronts.{queues_then}
+use Rattle.proc_files.specs.Holders.{holders, openings}
 use Rattle.proc_files.proofs.Holding.{same_pins}
-use Rattle.proc_names.specs.Holding.{HoldNames}
+use Rattle.proc_files.specs.NameHolding.{HoldNames}
 use Rattle.proc_table.specs.Accounting.{HasAccount}
 use Rattle.proc_table.specs.Changes.{ended}
 use Rattle.proc_table.specs.Procs.{IsAlive, proc_of, process_of}
@@ -49,7 +49,7 @@ use Rattle.store_objects.specs.Working.{AreDirectories, directories_in}
 use Rattle.store_objects.proofs.Forgetting.{forgotten}
 use Rattle.store_objects.proofs.Fronts.{fronts_stand, settled_after}
 use Rattle.store_objects.proofs.HeldNodes.{one_if, pins_split, whole as whole_count}
-use Rattle.file_moves.proofs.StoreFiles.{holds_names}
+use Rattle.store_objects.proofs.StoreFiles.{holds_names}
 use Rattle.store_objects.proofs.KeptNow.{as_many_blocks, as_many_names, as_many_vnodes}
 use Rattle.store_objects.proofs.Pinning.{kept_then}
 use Rattle.store_objects.proofs.RunningProcs.{alive_is, all_found}

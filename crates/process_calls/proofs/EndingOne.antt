@@ -6,12 +6,12 @@ use Rattle.kheap_slabs.specs.Heap.{Heap}
 use Rattle.memfs_ops.specs.Closing.{one_less}
 use Rattle.memfs_ops.specs.FileTree.{Stands}
 use Rattle.open_laws.proofs.GoingLemmas.{open_on}
-use Rattle.place_laws.specs.Placed.{Numbers}
+use Rattle.open_laws.specs.Placed.{Numbers}
 use Rattle.posix_defs.specs.Files.State.{Files}
 use Rattle.posix_defs.specs.Plain.{root}
 use Rattle.posix_defs.specs.Tree.{Tree}
-use Rattle.proc_descs.specs.Having.{HaveOpen}
-use Rattle.holding_laws.specs.Holders.{holders}
+use Rattle.proc_numbers.specs.Having.{HaveOpen}
+use Rattle.proc_files.specs.Holders.{holders}
 use Rattle.proc_table.specs.Changes.{ended, is_other}
 use Rattle.proc_table.specs.Moves.{TableMoves}
 use Rattle.proc_table.specs.Opening.{HaveOpen as TableOpen}

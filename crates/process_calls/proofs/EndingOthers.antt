@@ -5,14 +5,14 @@ use Rattle.std.specs.Option.{option_map}
 use Rattle.kern_laws.proofs.Bareness.{end_unopened}
 use Rattle.kheap_slabs.specs.declared.objects.Proc.{Proc}
 use Rattle.open_laws.specs.Open.{descriptors_by}
-use Rattle.place_laws.specs.Placed.{Numbers}
+use Rattle.open_laws.specs.Placed.{Numbers}
 use Rattle.posix_defs.specs.Files.Closing.{after_end_of, after_ends_of}
 use Rattle.posix_defs.specs.Files.Descriptors.{none_open}
 use Rattle.posix_defs.specs.Files.State.{Files, descriptors_of}
 use Rattle.posix_defs.specs.Memory.{Frames, after_clear}
 use Rattle.posix_defs.specs.Process.{Table, is_alive, is_alive_in, runs}
 use Rattle.posix_defs.specs.Reaching.{ends_node}
-use Rattle.proc_descs.specs.Having.{HaveOpen, places_in}
+use Rattle.proc_numbers.specs.Having.{HaveOpen, places_in}
 use Rattle.proc_table.specs.Procs.{IsAlive, IsLight, no_descriptors, numbers_in, proc_of, process_of, status_of}
 use Rattle.proc_table.specs.Standing.{IsTable, ends_from, ends_in}
 use Rattle.proc_table.specs.Table.{Holds}

@@ -31,8 +31,8 @@ use Rattle.posix_defs.specs.declared.turner.Turned.{Turned}
 use Rattle.posix_defs.specs.declared.turner.Turned.TheVariants.{Done}
 use Rattle.prog_ctl.specs.Runnable.{Rests, Stands}
 use Rattle.memfs_ops.specs.FileTree.{Stands as TreeStands}
-use Rattle.holding_laws.specs.Holders.{holders, openings, times}
-use Rattle.holding_laws.proofs.Openings.{same_nodes}
+use Rattle.proc_files.specs.Holders.{holders, openings, times}
+use Rattle.proc_files.proofs.Openings.{same_nodes}
 use Rattle.proc_table.specs.Accounting.{HasAccount}
 use Rattle.proc_table.specs.Changes.{child_proc, forked_as, is_full_at, replaced}
 use Rattle.open_laws.specs.Open.{AreOpen}

@@ -11,7 +11,7 @@ use Rattle.posix_defs.specs.Files.Descriptors.{Descriptor, descriptor_at, is_nam
 use Rattle.posix_defs.specs.Files.State.{Files, descriptors_of, opened_node, opens, with_descriptions, with_open, with_tree}
 use Rattle.posix_defs.specs.Reaching.{ends_at, ends_node}
 use Rattle.posix_defs.specs.TreeChanges.{closed}
-use Rattle.holding_laws.proofs.Openings.{same_node}
+use Rattle.proc_files.proofs.Openings.{same_node}
 
 -- ---- what is there was there
 

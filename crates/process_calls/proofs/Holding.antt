@@ -3,17 +3,17 @@ use Rattle.std.proofs.Common.{◌≡◌, ℕ, ◌+◌, ◌<◌, List, Option, le
 use Rattle.kheap_slabs.specs.Heap.{Heap}
 use Rattle.kheap_slabs.specs.declared.objects.Sock.{Sock}
 use Rattle.memfs_ops.specs.FileTree.{Stands, TreeView}
-use Rattle.place_laws.specs.Placed.{Numbers}
+use Rattle.open_laws.specs.Placed.{Numbers}
 use Rattle.posix_defs.specs.DiskFormat.{table_nodes}
 use Rattle.posix_defs.specs.Files.State.{Files}
 use Rattle.posix_defs.specs.Plain.{root}
 use Rattle.posix_defs.specs.Tree.{Tree}
-use Rattle.proc_descs.specs.Having.{HaveOpen}
+use Rattle.proc_numbers.specs.Having.{HaveOpen}
 use Rattle.proc_files.specs.Holding.{CachesStay}
-use Rattle.holding_laws.specs.Holders.{holders}
+use Rattle.proc_files.specs.Holders.{holders}
 use Rattle.proc_files.proofs.Holding.{same_pins, stands_on}
-use Rattle.holding_laws.specs.Names.{AreBound, name_of}
-use Rattle.proc_names.specs.Holding.{HoldNames}
+use Rattle.proc_files.specs.Names.{AreBound, name_of}
+use Rattle.proc_files.specs.NameHolding.{HoldNames}
 use Rattle.proc_table.specs.Moves.{TableMoves}
 use Rattle.proc_table.specs.Table.{TableView}
 use Rattle.store_objects.specs.declared.objects.Objects.{Objects}

@@ -9,8 +9,8 @@ use Rattle.open_laws.specs.Owned.{HasItsOwners, names_desc, namings_in}
 use Rattle.open_laws.specs.Sharing.{CanShare, hand_with, share_all}
 use Rattle.open_laws.proofs.GoingLemmas.{counts_few, named_there}
 use Rattle.open_laws.proofs.ShareLemmas.{owners_all}
-use Rattle.proc_descs.proofs.Listing.{found_by_pid}
-use Rattle.proc_descs.proofs.Sums.{part_of_sum}
+use Rattle.proc_numbers.proofs.Listing.{found_by_pid}
+use Rattle.proc_numbers.proofs.Sums.{part_of_sum}
 use Rattle.proc_table.specs.Moves.{sharing}
 use Rattle.proc_table.specs.Procs.{numbers_in, proc_of}
 use Rattle.store_objects.specs.declared.objects.Objects.{Objects}

@@ -17,7 +17,7 @@ use Rattle.kern_laws.proofs.Remembering.{remembers_family}
 use Rattle.proc_table.specs.Accounting.{HasAccount}
 use Rattle.proc_table.specs.Changes.{with_nodes}
 use Rattle.proc_table.specs.Moves.{SpaceTurns, TableMoves}
-use Rattle.proc_descs.specs.Having.{HaveDescriptors}
+use Rattle.proc_numbers.specs.Having.{HaveDescriptors}
 use Rattle.proc_table.specs.Opening.{HaveOpen as TableOpen}
 use Rattle.proc_table.specs.Procs.{memory_at, numbers_in, proc_of, process_of}
 use Rattle.proc_table.proofs.OpenLemmas.{have_nodes}

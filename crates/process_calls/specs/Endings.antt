@@ -1,11 +1,11 @@
 -- Processes that end one after another.
 use Rattle.std.specs.Prelude.{ℕ, ◌≡◌, ◌==◌, ◌<◌, false, if◌then◌else◌, List, [], ◌∷◌, count_by}
 use Rattle.kheap_slabs.specs.declared.objects.Proc.{Proc}
-use Rattle.place_laws.specs.Placed.{Numbers}
+use Rattle.open_laws.specs.Placed.{Numbers}
 use Rattle.posix_defs.specs.Files.State.{Files}
 use Rattle.posix_defs.specs.Memory.{Frames, after_clear}
 use Rattle.posix_defs.specs.Plain.{root}
-use Rattle.proc_names.specs.Holding.{HoldNames}
+use Rattle.proc_files.specs.NameHolding.{HoldNames}
 use Rattle.proc_table.specs.Procs.{IsAlive, no_descriptors, with_numbers}
 use Rattle.store_objects.specs.Objects.{is_running, procs_of}
 use Rattle.store_objects.specs.Trees.{but_root}

@@ -6,7 +6,7 @@ ghost use Rattle.kabi_types.specs.declared.scripts.Control.{Control};
 ghost use Rattle.kabi_types.specs.declared.scripts.Script.{Script};
 ghost use Rattle.kheap_slabs.specs.Heap.{live_bytes};
 ghost use Rattle.kheap_slabs.specs.Paid.{CanPay, IsPaid};
-ghost use Rattle.place_laws.specs.Placed.{Numbers};
+ghost use Rattle.open_laws.specs.Placed.{Numbers};
 ghost use Rattle.posix_defs.specs.Files.Closing.{after_end_of, after_ends_of};
 ghost use Rattle.posix_defs.specs.Files.State.{Files};
 ghost use Rattle.posix_defs.specs.Memory.{Frames, after_clear};
@@ -14,7 +14,7 @@ ghost use Rattle.posix_defs.specs.Process.{Table};
 ghost use Rattle.posix_defs.specs.Reaching.{ends_node};
 ghost use Rattle.posix_defs.specs.Sizes.{reserve};
 ghost use Rattle.posix_defs.specs.World.{World};
-ghost use Rattle.proc_descs.specs.Queues.{QueuesStand};
+ghost use Rattle.proc_numbers.specs.Queues.{QueuesStand};
 ghost use Rattle.proc_table.specs.Accounting.{HasAccount};
 ghost use Rattle.proc_table.specs.Changes.{ended};
 ghost use Rattle.proc_table.specs.Procs.{IsAlive};
@@ -29,7 +29,7 @@ ghost use Rattle.store_objects.specs.Trees.{KeptStays};
 ghost use Rattle.store_objects.specs.Uses.{UsesAtMost};
 
 use kheap_slabs::Purse;
-use proc_names::close_each;
+use proc_files::close_each;
 use store_objects::{Objects, directory_of, kept_back, let_go};
 
 /// The pid of the first process.

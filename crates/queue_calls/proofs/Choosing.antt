@@ -6,17 +6,17 @@ use Rattle.kheap_slabs.specs.declared.objects.Target.TheVariants as target
 use Rattle.kheap_slabs.specs.Heap.{Heap}
 use Rattle.open_laws.specs.Described.{node_in}
 use Rattle.open_laws.specs.Owned.{HasItsOwners, sock_in, sock_of}
-use Rattle.place_laws.specs.Placed.{Numbers}
+use Rattle.open_laws.specs.Placed.{Numbers}
 use Rattle.posix_defs.specs.Calls.Opened.{opened_at}
 use Rattle.posix_defs.specs.Files.State.{Files}
 use Rattle.posix_defs.specs.Reaching.{is_on_node}
-use Rattle.proc_descs.specs.Having.{AreListed, HaveOpen}
-use Rattle.proc_descs.specs.Naming.{named_by}
-use Rattle.proc_descs.proofs.NumberNames.{desc_named_by, opened_nothing, opened_so}
+use Rattle.proc_numbers.specs.Having.{AreListed, HaveOpen}
+use Rattle.proc_numbers.specs.Naming.{named_by}
+use Rattle.proc_numbers.proofs.NumberNames.{desc_named_by, opened_nothing, opened_so}
 use Rattle.proc_files.specs.Reading.{IsOffNodes}
 use Rattle.proc_files.proofs.Finding.{tells_target}
-use Rattle.proc_queues.specs.Found.{IsOnPipe, pipe_in}
-use Rattle.proc_socks.specs.Finding.{socket_in, socket_named}
+use Rattle.proc_numbers.specs.Found.{IsOnPipe, pipe_in}
+use Rattle.proc_numbers.specs.Finding.{socket_in, socket_named}
 use Rattle.proc_table.specs.Table.{TableView}
 
 -- a number that is open neither on a node nor on a socket is open on a pipe, if at all

@@ -6,8 +6,8 @@ use Rattle.kabi_types.specs.declared.calls.Call.{Call}
 use Rattle.kabi_types.specs.declared.calls.Call.TheVariants as call
 use Rattle.kabi_types.specs.declared.scripts.Script.{Script}
 use Rattle.kheap_slabs.specs.Heap.{Heap}
-use Rattle.open_moves.proofs.Leaving.{files_in}
-use Rattle.place_laws.specs.Placed.{Numbers}
+use Rattle.store_objects.proofs.Leaving.{files_in}
+use Rattle.open_laws.specs.Placed.{Numbers}
 use Rattle.posix_defs.specs.Account.{Account}
 use Rattle.posix_defs.specs.Answer.{Answer}
 use Rattle.posix_defs.specs.Calls.Reading.{read}
@@ -16,12 +16,12 @@ use Rattle.posix_defs.specs.Plain.{Plain}
 use Rattle.posix_defs.specs.World.{World}
 use Rattle.posix_defs.specs.declared.turner.Turned.{Turned}
 use Rattle.posix_defs.specs.declared.turner.Turned.TheVariants as turned
-use Rattle.proc_descs.specs.Having.{HaveOpen}
+use Rattle.proc_numbers.specs.Having.{HaveOpen}
 use Rattle.proc_files.specs.Reading.{IsOffNodes}
-use Rattle.holding_laws.specs.Names.{name_of}
-use Rattle.proc_names.proofs.GoesOn.{names_on}
-use Rattle.proc_pipes.specs.Opening.{KeepsNumbers}
-use Rattle.proc_queues.specs.Standing.{IsTold, Leads, StandsFor as QueuesStandFor}
+use Rattle.proc_files.specs.Names.{name_of}
+use Rattle.proc_files.proofs.GoesOn.{names_on}
+use Rattle.proc_numbers.specs.PipeOpening.{KeepsNumbers}
+use Rattle.proc_numbers.specs.Standing.{IsTold, Leads, StandsFor as QueuesStandFor}
 use Rattle.store_objects.specs.declared.objects.Objects.{Objects}
 use Rattle.store_objects.specs.Standing.{StandsFor}
 use Rattle.queue_calls.proofs.Queueing.{off_world}

@@ -3,20 +3,20 @@ use Rattle.std.proofs.Common.{◌≡◌, ℕ, sym, subst}
 use Rattle.kabi_types.specs.declared.replies.Reply.{Reply}
 use Rattle.kabi_types.specs.declared.scripts.Script.{Script}
 use Rattle.kheap_slabs.specs.Heap.{Heap}
-use Rattle.open_moves.proofs.Leaving.{files_in}
+use Rattle.store_objects.proofs.Leaving.{files_in}
 use Rattle.queue_calls.proofs.Performing.{files_told, stay_told}
 use Rattle.queue_calls.proofs.Staying.{Stay}
-use Rattle.place_laws.specs.Placed.{Numbers}
+use Rattle.open_laws.specs.Placed.{Numbers}
 use Rattle.posix_defs.specs.Answer.{Answer}
 use Rattle.posix_defs.specs.Plain.{Plain}
 use Rattle.posix_defs.specs.World.{World}
-use Rattle.proc_descs.specs.Having.{HaveOpen}
-use Rattle.holding_laws.specs.Names.{name_of}
-use Rattle.proc_names.proofs.Anew.{names_anew}
-use Rattle.proc_names.proofs.GoesOn.{names_on}
-use Rattle.proc_pipes.specs.Answering.{Answers}
-use Rattle.proc_pipes.specs.Opening.{AnswersAnew}
-use Rattle.proc_socks.specs.Opening.{StillUsed}
+use Rattle.proc_numbers.specs.Having.{HaveOpen}
+use Rattle.proc_files.specs.Names.{name_of}
+use Rattle.proc_files.proofs.Anew.{names_anew}
+use Rattle.proc_files.proofs.GoesOn.{names_on}
+use Rattle.proc_numbers.specs.Answering.{Answers}
+use Rattle.proc_numbers.specs.PipeOpening.{AnswersAnew}
+use Rattle.proc_numbers.specs.SocketOpening.{StillUsed}
 use Rattle.store_objects.specs.declared.objects.Objects.{Objects}
 use Rattle.store_objects.specs.Standing.{StandsFor}
 

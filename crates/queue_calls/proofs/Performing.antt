@@ -6,7 +6,7 @@ use Rattle.kabi_types.specs.declared.scripts.Control.{Control}
 use Rattle.kabi_types.specs.declared.scripts.Script.{Script}
 use Rattle.kheap_slabs.specs.Heap.{Heap}
 use Rattle.open_laws.specs.Owned.{HasItsOwners}
-use Rattle.place_laws.specs.Placed.{Numbers}
+use Rattle.open_laws.specs.Placed.{Numbers}
 use Rattle.posix_defs.specs.Answer.{Answer, replied}
 use Rattle.posix_defs.specs.Files.State.{Files}
 use Rattle.posix_defs.specs.Memory.{Frames}
@@ -15,12 +15,12 @@ use Rattle.posix_defs.specs.Plain.{Plain, with_files}
 use Rattle.posix_defs.specs.World.{World}
 use Rattle.posix_defs.specs.declared.turner.Turned.{Turned}
 use Rattle.posix_defs.specs.declared.turner.Turned.TheVariants as turned
-use Rattle.proc_descs.specs.Having.{AreListed, HaveOpen}
-use Rattle.proc_descs.specs.Naming.{ChangesNumbers}
-use Rattle.proc_descs.specs.Queues.{QueuesStand}
-use Rattle.holding_laws.specs.Names.{name_of}
-use Rattle.proc_pipes.specs.Answering.{Answers}
-use Rattle.proc_pipes.specs.Opening.{AnswersAnew}
+use Rattle.proc_numbers.specs.Having.{AreListed, HaveOpen}
+use Rattle.proc_numbers.specs.Naming.{ChangesNumbers}
+use Rattle.proc_numbers.specs.Queues.{QueuesStand}
+use Rattle.proc_files.specs.Names.{name_of}
+use Rattle.proc_numbers.specs.Answering.{Answers}
+use Rattle.proc_numbers.specs.PipeOpening.{AnswersAnew}
 use Rattle.proc_table.specs.Procs.{IsAlive}
 use Rattle.proc_table.specs.Table.{key_of}
 use Rattle.store_objects.specs.declared.objects.Objects.{Objects}
@@ -28,12 +28,12 @@ use Rattle.store_objects.specs.Objects.{AreKept, Runs, procs_of}
 use Rattle.store_objects.specs.Standing.{Performs, StandsFor}
 use Rattle.store_objects.proofs.Replies.{GoesOn}
 use Rattle.store_objects.proofs.RunningProcs.{has_key}
-use Rattle.open_moves.specs.Moves.{OpenMoves}
-use Rattle.open_moves.specs.Worlds.{RepliesOn}
-use Rattle.open_moves.proofs.Leaving.{LeavesNodes, files_in}
-use Rattle.open_moves.proofs.Moving.{kept_opened, runs_opened}
-use Rattle.open_moves.proofs.Numbers.{moves_opened}
-use Rattle.open_moves.proofs.Replying.{become_where_queues_stand, performs_opened}
+use Rattle.store_objects.specs.OpenMoves.{OpenMoves}
+use Rattle.store_objects.specs.OpenWorlds.{RepliesOn}
+use Rattle.store_objects.proofs.Leaving.{LeavesNodes, files_in}
+use Rattle.store_objects.proofs.OpenMoving.{kept_opened, runs_opened}
+use Rattle.store_objects.proofs.Numbers.{moves_opened}
+use Rattle.store_objects.proofs.Replying.{become_where_queues_stand, performs_opened}
 use Rattle.queue_calls.proofs.Staying.{Stay}
 
 -- who runs is alive, and has a key

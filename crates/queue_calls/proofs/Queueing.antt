@@ -14,10 +14,10 @@ use Rattle.posix_defs.specs.Plain.{Plain, at_start}
 use Rattle.posix_defs.specs.Reaching.{is_on_node}
 use Rattle.posix_defs.specs.World.{World}
 use Rattle.proc_files.specs.Reading.{IsOffNodes}
-use Rattle.holding_laws.specs.Names.{name_of}
-use Rattle.holding_laws.proofs.Bindings.{bound_on}
-use Rattle.proc_queues.specs.Standing.{IsKept, StandsFor as QueuesStandFor}
-use Rattle.proc_queues.proofs.Finding.{alive_listed}
+use Rattle.proc_files.specs.Names.{name_of}
+use Rattle.proc_files.proofs.Bindings.{bound_on}
+use Rattle.proc_numbers.specs.Standing.{IsKept, StandsFor as QueuesStandFor}
+use Rattle.proc_numbers.proofs.MayMove.{alive_listed}
 use Rattle.proc_table.specs.Procs.{IsAlive, proc_of}
 use Rattle.proc_table.specs.Table.{key_of, procs_at}
 use Rattle.store_objects.specs.declared.objects.Objects.{Objects}

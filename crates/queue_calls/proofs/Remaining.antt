@@ -26,7 +26,7 @@ use Rattle.posix_defs.specs.Socket.{Stage, Idle, Listening, Connected, is_connec
 use Rattle.posix_defs.specs.Sockets.{Sockets, after_read as socket_after_read, after_write as socket_after_write, free_at, sent_to, sock_read, sock_write, socket_at, stage_at, write_in_stage, write_to, write_within}
 use Rattle.posix_defs.specs.World.{directories_of}
 use Rattle.store_objects.proofs.WorkingOn.{works_remembered}
-use Rattle.open_moves.proofs.Leaving.{LeavesNodes, files_in, same_named, same_opened}
+use Rattle.store_objects.proofs.Leaving.{LeavesNodes, files_in, same_named, same_opened}
 
 -- The machine becomes another: who is whose child, who works where, the tree, which nodes of it are open, and the names of sockets
 -- are what they were.

@@ -10,8 +10,8 @@ use Rattle.posix_defs.specs.Files.Descriptions.{OnPipe, ReadOnly, WriteOnly, des
 use Rattle.posix_defs.specs.Files.Descriptors.{Two, descriptor_at, descriptor_of, lowest_free, lowest_free_from, two_lowest_free}
 use Rattle.posix_defs.specs.Files.State.{described_as, descriptors_of, with_open}
 use Rattle.posix_defs.specs.Plain.{Plain}
-use Rattle.holding_laws.proofs.Openings.{nodes_set}
-use Rattle.open_moves.proofs.Leaving.{LeavesNodes, files_in, nodes_behind, opened_there, same_opened}
+use Rattle.proc_files.proofs.Openings.{nodes_set}
+use Rattle.store_objects.proofs.Leaving.{LeavesNodes, files_in, nodes_behind, opened_there, same_opened}
 
 -- what an answer leads to leaves the nodes
 abbrev pub Stay : Plain → Answer → Type 0

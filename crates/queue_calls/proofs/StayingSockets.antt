@@ -2,7 +2,7 @@
 use Rattle.std.proofs.Common.{◌≡◌, ◌++◌, ℕ, ℤ, ◌+◌, [], ◌∷◌, length, Option, None, Some, is_some, refl, ◌∙◌}
 use Rattle.kabi_types.specs.declared.errnos.Errno.{Errno}
 use Rattle.kabi_types.specs.declared.scripts.Script.{Script}
-use Rattle.open_moves.proofs.Leaving.{new_named, nodes_behind, pair_named, same_named, same_opened}
+use Rattle.store_objects.proofs.Leaving.{new_named, nodes_behind, pair_named, same_named, same_opened}
 use Rattle.queue_calls.proofs.Staying.{Stay, on_opened}
 use Rattle.posix_defs.specs.Answer.{Answer}
 use Rattle.posix_defs.specs.Calls.Opened.{Opened}

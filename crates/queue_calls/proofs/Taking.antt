@@ -5,11 +5,11 @@ use Rattle.kabi_types.specs.declared.replies.Reply.{Reply}
 use Rattle.kabi_types.specs.declared.replies.Reply.TheVariants.{Fail, Val}
 use Rattle.kabi_types.specs.declared.scripts.Script.{Script}
 use Rattle.kheap_slabs.specs.Heap.{Heap}
-use Rattle.place_laws.specs.Placed.{Numbers}
+use Rattle.open_laws.specs.Placed.{Numbers}
 use Rattle.posix_defs.specs.Answer.{Answer, Blocked}
 use Rattle.posix_defs.specs.Plain.{Plain}
-use Rattle.proc_pipes.specs.Opening.{AnswersAnew}
-use Rattle.proc_socks.specs.Opening.{Accepts, UnlessTaken}
+use Rattle.proc_numbers.specs.PipeOpening.{AnswersAnew}
+use Rattle.proc_numbers.specs.SocketOpening.{Accepts, UnlessTaken}
 use Rattle.proc_table.specs.Table.{TableView}
 use Rattle.queue_calls.specs.Taking.{told_as}
 

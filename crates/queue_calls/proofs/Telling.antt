@@ -4,7 +4,7 @@ use Rattle.kabi_types.specs.declared.calls.Call.{Call}
 use Rattle.kabi_types.specs.declared.replies.Reply.{Reply}
 use Rattle.kabi_types.specs.declared.scripts.Script.{Script}
 use Rattle.kheap_slabs.specs.Heap.{Heap}
-use Rattle.place_laws.specs.Placed.{Numbers}
+use Rattle.open_laws.specs.Placed.{Numbers}
 use Rattle.posix_defs.specs.Account.{Account}
 use Rattle.posix_defs.specs.Answer.{Answer, Part, replied}
 use Rattle.posix_defs.specs.Control.{after_part}
@@ -13,8 +13,8 @@ use Rattle.posix_defs.specs.Turn.{account_after, touched}
 use Rattle.posix_defs.specs.World.{World}
 use Rattle.posix_defs.specs.declared.turner.Turned.{Turned}
 use Rattle.posix_defs.specs.declared.turner.Turned.TheVariants as turned
-use Rattle.holding_laws.specs.Names.{name_of}
-use Rattle.proc_queues.specs.Standing.{IsKept, IsTold, Leads, StandsFor as QueuesStandFor}
+use Rattle.proc_files.specs.Names.{name_of}
+use Rattle.proc_numbers.specs.Standing.{IsKept, IsTold, Leads, StandsFor as QueuesStandFor}
 use Rattle.store_objects.specs.declared.objects.Objects.{Objects}
 use Rattle.store_objects.specs.Standing.{Performs, StandsFor, WorldAfter, answered_in}
 use Rattle.store_objects.proofs.Fronts.{settled_after}

@@ -15,7 +15,7 @@ ghost use Rattle.store_objects.specs.Standing.{Performs, StandsFor};
 use kabi_types::{Control, Errno, Reply, Script};
 use kheap_slabs::Purse;
 use posix_defs::Turned;
-use proc_socks::{accept_number, accept_waits};
+use proc_numbers::{accept_number, accept_waits};
 use store_objects::{Objects, go_on};
 
 /// Takes the socket that waited first for the one that a number is open on: the lowest number that is free names it, and is told.

@@ -9,7 +9,7 @@ ghost use Rattle.store_objects.specs.Standing.{Performs};
 use crate::replies::value;
 use kabi_types::{Control, Script};
 use posix_defs::Turned;
-use proc_pipes::dup_one;
+use proc_numbers::dup_one;
 use store_objects::{Objects, go_on};
 
 /// Has the lowest number that is free name what another names, and tells it. EBADF where the other isn't open, EMFILE where no
@@ -46,6 +46,6 @@ pub fn fcntl(
     ensures takes { TakesNothing objects.old.heap objects.new.heap }
     ensures does { Performs script.now objects.old pid (Call.Fcntl fd cmd arg) (λ plain. fcntl script.now plain pid fd cmd arg) result objects.new }
 {
-    let reply = value(proc_pipes::control(&mut objects.heap, &objects.procs, pid, fd, cmd, arg));
+    let reply = value(proc_numbers::control(&mut objects.heap, &objects.procs, pid, fd, cmd, arg));
     go_on(script, objects, pid, control, reply)
 }

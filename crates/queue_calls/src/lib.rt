@@ -24,7 +24,7 @@ pub use laws::a_socket_is_there_while_it_is_open_or_waits;
 pub use making::{socket, socketpair};
 pub use pipes::pipe;
 pub use polling::{poll, poll_would_block};
-pub use proc_queues::{Buffer, CAPACITY};
+pub use proc_numbers::{Buffer, CAPACITY};
 pub use reading::{read, read_would_block};
 pub use shutting::{listen, shutdown};
 pub use writing::{write, write_would_block};

@@ -12,7 +12,7 @@ use crate::replies::{pair, value};
 use kabi_types::{Control, Script};
 use kheap_slabs::Purse;
 use posix_defs::Turned;
-use proc_socks::{make_pair, make_socket};
+use proc_numbers::{make_pair, make_socket};
 use store_objects::{Objects, go_on};
 
 /// Makes a socket: the lowest number that is free names it, and is told. EMFILE where none is free; nothing is made then.

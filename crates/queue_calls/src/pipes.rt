@@ -11,7 +11,7 @@ use crate::replies::pair;
 use kabi_types::{Control, Script};
 use kheap_slabs::Purse;
 use posix_defs::Turned;
-use proc_pipes::make_pipe;
+use proc_numbers::make_pipe;
 use store_objects::{Objects, go_on};
 
 /// Makes a pipe: the lowest number that is free names its read end, the next one its write end, and both are told. EMFILE where

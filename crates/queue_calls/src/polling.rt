@@ -31,7 +31,7 @@ pub fn poll(
     ensures takes { TakesNothing objects.old.heap objects.new.heap }
     ensures does { Performs script.now objects.old pid (Call.Poll timeout entries.now) (λ plain. poll script.now plain pid timeout entries.now) result objects.new }
 {
-    let told = proc_queues::poll(&objects.heap, &objects.procs, pid, timeout, entries);
+    let told = proc_numbers::poll(&objects.heap, &objects.procs, pid, timeout, entries);
     go_on_done(script, objects, pid, control, told)
 }
 
@@ -41,5 +41,5 @@ pub fn poll_would_block(objects: &Objects, pid: u32, timeout: i64, entries: &Pol
     ensures { (script : Script) (world : World) → StandsFor script objects.now world
         → result ≡ blocks (machine script world.plain pid (Call.Poll timeout entries.now)) }
 {
-    proc_queues::poll_waits(&objects.heap, &objects.procs, pid, timeout, entries)
+    proc_numbers::poll_waits(&objects.heap, &objects.procs, pid, timeout, entries)
 }

@@ -5,7 +5,7 @@ ghost use Rattle.kabi_types.specs.Arguments.{argument_fault, count_of};
 ghost use Rattle.kabi_types.specs.declared.calls.Call.{Call};
 ghost use Rattle.kabi_types.specs.declared.scripts.Script.{Script};
 ghost use Rattle.kheap_slabs.specs.Paid.{CanPay, IsPaid};
-ghost use Rattle.place_laws.specs.Placed.{Numbers};
+ghost use Rattle.open_laws.specs.Placed.{Numbers};
 ghost use Rattle.posix_defs.specs.Account.{Account};
 ghost use Rattle.posix_defs.specs.Calls.Reading.{read as plain_read};
 ghost use Rattle.posix_defs.specs.Calls.Writing.{write as plain_write};
@@ -13,15 +13,17 @@ ghost use Rattle.posix_defs.specs.Machine.{blocks};
 ghost use Rattle.posix_defs.specs.Needs.{chunks_for, pages_touched};
 ghost use Rattle.posix_defs.specs.Plain.{Plain};
 ghost use Rattle.proc_files.specs.Reading.{IsOffNodes};
-ghost use Rattle.proc_queues.specs.Standing.{IsKept, Leads, StandsFor};
+ghost use Rattle.proc_numbers.specs.Standing.{IsKept, Leads, StandsFor};
 ghost use Rattle.proc_table.specs.Procs.{IsAlive};
 ghost use Rattle.proc_table.specs.Table.{processes};
 
 use kheap_slabs::{KHeap, Purse};
 use posix_defs::Turned;
 use proc_files::is_on_node;
-use proc_queues::{Buffer, read, read_waits, write, write_waits};
-use proc_socks::{is_on_socket, read_socket, read_socket_waits, write_socket, write_socket_waits};
+use proc_numbers::{
+    Buffer, is_on_socket, read, read_socket, read_socket_waits, read_waits, write, write_socket,
+    write_socket_waits, write_waits,
+};
 use proc_table::ProcTable;
 
 /// Reads at most n bytes from the pipe or the socket that a number is open on.

@@ -20,7 +20,7 @@ use crate::told::go_on_done;
 use kabi_types::{Control, Script};
 use kheap_slabs::Purse;
 use posix_defs::Turned;
-use proc_queues::Buffer;
+use proc_numbers::Buffer;
 use store_objects::Objects;
 
 /// Reads at most n bytes from the pipe or the socket that a number is open on into memory, as many as are there; none are the end

@@ -1,7 +1,7 @@
 //! What a call on descriptors tells its caller.
 
 ghost use Rattle.std.specs.Prelude.{◌≡◌};
-ghost use Rattle.proc_pipes.specs.Answering.{pair_of, value_of};
+ghost use Rattle.proc_numbers.specs.Answering.{pair_of, value_of};
 
 use kabi_types::{Errno, Reply};
 

@@ -4,14 +4,14 @@ ghost use Rattle.std.specs.Prelude.{◌≡◌};
 ghost use Rattle.kabi_types.specs.declared.calls.Call.{Call};
 ghost use Rattle.kheap_slabs.specs.Paid.{TakesNothing};
 ghost use Rattle.posix_defs.specs.Calls.OnSockets.{listen, shutdown};
-ghost use Rattle.proc_pipes.specs.Answering.{zero_of};
+ghost use Rattle.proc_numbers.specs.Answering.{zero_of};
 ghost use Rattle.posix_defs.specs.World.{World};
 ghost use Rattle.store_objects.specs.Objects.{AreKept, Runs};
 ghost use Rattle.store_objects.specs.Standing.{Performs, StandsFor};
 
 use kabi_types::{Control, Errno, Reply, Script};
 use posix_defs::Turned;
-use proc_socks::{listen_number, shut_number};
+use proc_numbers::{listen_number, shut_number};
 use store_objects::{Objects, go_on};
 
 /// Has a socket listen from now on; one that listens already goes on. EBADF where the number isn't open, ENOTSOCK where it is open

@@ -20,7 +20,7 @@ use crate::told::{do_part, go_on_done};
 use kabi_types::{Control, Script};
 use kheap_slabs::Purse;
 use posix_defs::Turned;
-use proc_queues::Buffer;
+use proc_numbers::Buffer;
 use store_objects::Objects;
 
 /// Writes n bytes of memory, of which so many were moved before, to the pipe or the socket that a number is open on: up to 512 go

@@ -36,7 +36,7 @@ use Rattle.posix_defs.specs.ValidScript.{IsValid}
 use Rattle.open_laws.specs.Open.{AreOpen, descriptors_by}
 use Rattle.open_laws.specs.Owned.{HasItsOwners, namings_of}
 use Rattle.open_laws.proofs.GoingLemmas.{boot_open, boot_owners, held_open_on, named_on, open_on}
-use Rattle.place_laws.specs.Placed.{Numbers}
+use Rattle.open_laws.specs.Placed.{Numbers}
 use Rattle.posix_defs.specs.Account.{no_account}
 use Rattle.posix_defs.specs.Files.Bare.{IsBare}
 use Rattle.posix_defs.specs.Files.Descriptors.{none_open}
@@ -53,8 +53,8 @@ use Rattle.prog_ctl.specs.Runnable.{Rests, Stands}
 use Rattle.proc_table.specs.Accounting.{HasAccount}
 use Rattle.proc_table.specs.Changes.{replaced}
 use Rattle.proc_table.specs.Moves.{TableMoves}
-use Rattle.proc_descs.specs.Having.{AreListed, places_in}
-use Rattle.holding_laws.specs.Names.{AreBound, name_in, name_of}
+use Rattle.proc_numbers.specs.Having.{AreListed, places_in}
+use Rattle.proc_files.specs.Names.{AreBound, name_in, name_of}
 use Rattle.proc_table.specs.Procs.{first_proc, numbers_in, proc_of}
 use Rattle.proc_table.specs.Standing.{IsTable}
 use Rattle.proc_table.specs.Table.{no_table, processes}

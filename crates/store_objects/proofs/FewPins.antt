@@ -8,7 +8,7 @@ use Rattle.posix_defs.specs.Files.Descriptions.{Description, Descriptions, OnNod
 use Rattle.posix_defs.specs.Files.State.{Files, beside, node_of, nodes_among}
 use Rattle.posix_defs.specs.Process.{how_many}
 use Rattle.posix_defs.specs.World.{World, live_of}
-use Rattle.holding_laws.specs.Holders.{openings}
+use Rattle.proc_files.specs.Holders.{openings}
 use Rattle.proc_table.proofs.FamilyLemmas.{as_many}
 use Rattle.store_objects.specs.declared.objects.Objects.{Objects}
 use Rattle.store_objects.specs.Objects.{procs_of}

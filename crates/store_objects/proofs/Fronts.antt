@@ -13,13 +13,13 @@ use Rattle.chunk_queue.specs.Chained.{place_of}
 use Rattle.open_laws.specs.Open.{HaveFronts}
 use Rattle.open_laws.specs.Piped.{ArePiped}
 use Rattle.open_laws.specs.Socketed.{AreSocketed}
-use Rattle.place_laws.specs.Placed.{Numbers}
+use Rattle.open_laws.specs.Placed.{Numbers}
 use Rattle.posix_defs.specs.Account.{Account, account_on, front_after, fronts_after, pipe_lengths, socket_lengths, unread_in_pipe, unread_in_socket}
 use Rattle.posix_defs.specs.Plain.{Plain}
 use Rattle.posix_defs.specs.QueuePlace.{QueuePlace, at_front}
 use Rattle.proc_table.proofs.PlaceLemmas.{some_same}
 use Rattle.usock_core.specs.Standing.{queue_at, queue_in}
-use Rattle.proc_descs.specs.Queues.{QueuesStand}
+use Rattle.proc_numbers.specs.Queues.{QueuesStand}
 use Rattle.store_objects.specs.Files.{AreSettled}
 use Rattle.store_objects.proofs.SocketPlaces.{sock_there}
 

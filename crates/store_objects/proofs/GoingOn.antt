@@ -18,7 +18,7 @@ use Rattle.posix_defs.specs.World.{World}
 use Rattle.prog_ctl.specs.Runnable.{Rests, Stands}
 use Rattle.proc_table.specs.Changes.{replaced}
 use Rattle.proc_table.specs.Moves.{TableMoves}
-use Rattle.proc_descs.specs.Having.{HaveDescriptors}
+use Rattle.proc_numbers.specs.Having.{HaveDescriptors}
 use Rattle.proc_table.specs.Procs.{numbers_in, proc_of}
 use Rattle.proc_table.proofs.OpenLemmas.{have_turned}
 use Rattle.proc_table.specs.Accounting.{HasAccount}

@@ -9,7 +9,7 @@ use Rattle.memfs_ops.specs.FileTree.{root_alone}
 use Rattle.posix_defs.specs.Files.State.{opened_nodes}
 use Rattle.posix_defs.specs.Plain.{Plain, root}
 use Rattle.posix_defs.specs.World.{directories_of, distinct, is_in, pinned_nodes}
-use Rattle.holding_laws.specs.Holders.{holders}
+use Rattle.proc_files.specs.Holders.{holders}
 use Rattle.store_objects.specs.Trees.{but_root, held_nodes, others_in, pins_in}
 
 -- 1 for what passes

@@ -7,7 +7,7 @@ use Rattle.kheap_slabs.specs.Heap.{IsWellFormed}
 use Rattle.posix_defs.specs.Plain.{Plain, root}
 use Rattle.posix_defs.specs.Tree.{Tree, is_directory}
 use Rattle.posix_defs.specs.World.{World, directories_of}
-use Rattle.holding_laws.specs.Holders.{HoldDirectories}
+use Rattle.proc_files.specs.Holders.{HoldDirectories}
 use Rattle.proc_table.specs.Procs.{proc_of}
 use Rattle.store_objects.specs.declared.objects.Objects.{Objects}
 use Rattle.store_objects.specs.Objects.{procs_of}

@@ -13,8 +13,8 @@ use Rattle.kheap_laws.proofs.KeyLemmas.{AreKeysOf-changes}
 use Rattle.kheap_laws.proofs.OnceLemmas.{IsOnce-cons}
 use Rattle.open_laws.specs.Owned.{HasItsOwners, desc_count_at, namings_of}
 use Rattle.open_laws.proofs.GoingLemmas.{held_open_on}
-use Rattle.proc_descs.specs.Having.{AreListed}
-use Rattle.holding_laws.specs.Names.{AreBound, name_of}
+use Rattle.proc_numbers.specs.Having.{AreListed}
+use Rattle.proc_files.specs.Names.{AreBound, name_of}
 use Rattle.proc_table.specs.Moves.{TableMoves}
 use Rattle.proc_table.specs.Table.{AreBetween, AreStored, TableView, keys_of, processes}
 use Rattle.proc_table.specs.declared.places.Listed.{Listed}

@@ -31,3 +31,13 @@ pub mod Callers
 pub mod WithoutOne
 pub mod Moving
 pub mod Booting
+pub mod OpenMoving
+pub mod Numbers
+pub mod Replying
+pub mod Leaving
+pub mod FileMoving
+pub mod Staying
+pub mod Within
+pub mod Answered
+pub mod Serving
+pub mod StoreFiles

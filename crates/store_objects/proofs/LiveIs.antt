@@ -27,7 +27,7 @@ use Rattle.open_laws.specs.Described.{Counted, CountedList, counted_in, uncounte
 use Rattle.open_laws.specs.Open.{AreOpen, HaveFronts}
 use Rattle.open_laws.specs.Piped.{ArePiped}
 use Rattle.open_laws.specs.Socketed.{AreSocketed}
-use Rattle.place_laws.specs.Placed.{Numbers}
+use Rattle.open_laws.specs.Placed.{Numbers}
 use Rattle.page_space.proofs.FrameCounts.{frames_are_pages}
 use Rattle.page_space.proofs.NodeCounts.{count_of_keys, nodes_by_places}
 use Rattle.posix_defs.specs.Memory.{Frames, frames_named, no_places, nodes_in, nodes_named, places_of}

@@ -14,7 +14,7 @@ use Rattle.posix_defs.specs.Plain.{Plain, control_of, root}
 use Rattle.posix_defs.specs.Process.{Process, Table, process_at, with_directory, working_in as working}
 use Rattle.posix_defs.specs.Tree.{Tree, is_directory}
 use Rattle.posix_defs.specs.World.{World}
-use Rattle.holding_laws.specs.Holders.{openings}
+use Rattle.proc_files.specs.Holders.{openings}
 use Rattle.proc_table.specs.Changes.{is_other, replaced}
 use Rattle.proc_table.specs.Procs.{proc_of, process_of}
 use Rattle.proc_table.specs.Standing.{AreFrom, IsTable, gone, nobody, there}

@@ -8,7 +8,7 @@ use Rattle.kheap_slabs.specs.declared.objects.Proc.{Proc}
 use Rattle.kheap_slabs.specs.Heap.{Heap}
 use Rattle.open_laws.specs.Owned.{names_desc, namings_in, namings_of}
 use Rattle.open_laws.specs.Sharing.{hand_with}
-use Rattle.proc_descs.specs.Having.{AreListed}
+use Rattle.proc_numbers.specs.Having.{AreListed}
 use Rattle.proc_table.specs.Changes.{after_wait, child_proc, cleared, ended, is_alone, is_other, left_behind, left_by, left_child, reaped_of, replaced, with_nodes}
 use Rattle.proc_table.specs.Procs.{HasClosed, HasNoneOpenOnce, IsLight, no_descriptors, no_nodes}
 use Rattle.proc_table.specs.Table.{Holds, TableView, processes}

@@ -11,7 +11,7 @@ use Rattle.posix_defs.specs.Files.Descriptors.{none_open}
 use Rattle.posix_defs.specs.Files.State.{Files, descriptors_of}
 use Rattle.posix_defs.specs.Pipe.{Pipe}
 use Rattle.posix_defs.specs.Sockets.{Sockets}
-use Rattle.proc_descs.specs.Having.{HaveDescriptors, places_in}
+use Rattle.proc_numbers.specs.Having.{HaveDescriptors, places_in}
 use Rattle.proc_table.specs.Moves.{TableMoves}
 use Rattle.proc_table.specs.Opening.{HaveOpen as TableOpen}
 use Rattle.proc_table.specs.Procs.{no_descriptors, numbers_in, proc_of}

@@ -14,7 +14,7 @@ use Rattle.kheap_slabs.specs.Owners.{AreOwnersOf, IsOwned, Owners, OwnsItsObject
 use Rattle.kheap_slabs.specs.Queues.{OwnedQueue}
 use Rattle.kheap_laws.proofs.OnceLemmas.{IsOnce-head, IsOnce-tail}
 use Rattle.kheap_laws.proofs.TableLemmas.{SameOwners-spaces, each_of-splits}
-use Rattle.proc_descs.specs.Having.{AreListed}
+use Rattle.proc_numbers.specs.Having.{AreListed}
 use Rattle.proc_table.specs.Table.{AreBetween, AreStored, TableView, keys_of, processes, procs_at, with_procs}
 use Rattle.proc_table.specs.declared.places.Listed.{Listed}
 use Rattle.proc_table.proofs.PlaceLemmas.{AreStored-missed, Contains-behind, Contains-cases, IsAt, Misses, Misses-lower, object_missed, procs_at-missed, stored_is}

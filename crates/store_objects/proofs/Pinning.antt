@@ -6,15 +6,15 @@ use Rattle.kheap_slabs.specs.Heap.{Heap}
 use Rattle.lru_index.specs.Order.{Order}
 use Rattle.memfs_ops.specs.FileTree.{Stands, TreeView}
 use Rattle.open_laws.proofs.GoingLemmas.{open_on}
-use Rattle.place_laws.specs.Placed.{Numbers}
+use Rattle.open_laws.specs.Placed.{Numbers}
 use Rattle.posix_defs.specs.Account.{Account}
 use Rattle.posix_defs.specs.Files.State.{Files}
 use Rattle.posix_defs.specs.Memory.{Frames}
 use Rattle.posix_defs.specs.Process.{Table}
 use Rattle.posix_defs.specs.Tree.{Tree}
-use Rattle.proc_descs.specs.Having.{HaveDescriptors, HaveOpen}
-use Rattle.proc_descs.specs.Queues.{QueuesStand}
-use Rattle.proc_descs.proofs.Fronts.{queues_same}
+use Rattle.proc_numbers.specs.Having.{HaveDescriptors, HaveOpen}
+use Rattle.proc_numbers.specs.Queues.{QueuesStand}
+use Rattle.proc_numbers.proofs.Fronts.{queues_same}
 use Rattle.proc_table.specs.Procs.{numbers_in}
 use Rattle.proc_table.specs.Accounting.{HasAccount}
 use Rattle.proc_table.specs.Standing.{IsTable}

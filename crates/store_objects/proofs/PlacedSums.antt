@@ -7,7 +7,7 @@ use Rattle.std.proofs.lemmas.List.{get_or-set_other, get_or-set_same}
 use Rattle.std.proofs.lemmas.List.Sums.{sum_by-cons}
 use Rattle.kheap_slabs.specs.Objects.{InUse, object}
 use Rattle.kheap_slabs.proofs.ObjectLemmas.{InUse-within}
-use Rattle.place_laws.specs.Placed.{ArePlaced}
+use Rattle.open_laws.specs.Placed.{ArePlaced}
 
 module _ {Y : Type 0} (g : ℕ → Option Y → ℕ) where
   -- what the things from a place on sum up to

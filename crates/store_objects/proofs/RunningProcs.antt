@@ -9,7 +9,7 @@ use Rattle.kabi_types.specs.declared.scripts.Control.{Control}
 use Rattle.kabi_types.specs.declared.scripts.Script.{Script}
 use Rattle.posix_defs.specs.Plain.{Plain}
 use Rattle.posix_defs.specs.Process.{is_alive, is_alive_in, runs}
-use Rattle.proc_descs.proofs.Listing.{found_by_pid}
+use Rattle.proc_numbers.proofs.Listing.{found_by_pid}
 use Rattle.proc_table.specs.Procs.{IsAlive, proc_of, process_of, status_of}
 use Rattle.proc_table.specs.Table.{key_of}
 use Rattle.proc_table.proofs.FamilyLemmas.{process_is}

@@ -5,7 +5,7 @@ use Rattle.kheap_slabs.proofs.ObjectLemmas.{object_of}
 use Rattle.kheap_slabs.specs.declared.objects.Sock.{Sock}
 use Rattle.kheap_slabs.specs.Heap.{Heap}
 use Rattle.open_laws.specs.Socketed.{AreSocketed, socket_by}
-use Rattle.place_laws.specs.Placed.{ArePlaced, Numbers}
+use Rattle.open_laws.specs.Placed.{ArePlaced, Numbers}
 use Rattle.posix_defs.specs.Socket.{Socket}
 use Rattle.posix_defs.specs.Sockets.{Sockets, sock_at}
 use Rattle.usock_core.specs.Standing.{IsKept, StandsAt}

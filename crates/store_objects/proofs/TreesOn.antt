@@ -15,7 +15,7 @@ use Rattle.posix_defs.specs.SoundDisk.{HasNode}
 use Rattle.posix_defs.specs.Tree.{Tree, found}
 use Rattle.posix_defs.specs.Process.{Table}
 use Rattle.posix_defs.specs.World.{World, directories_of}
-use Rattle.holding_laws.specs.Holders.{holders, openings}
+use Rattle.proc_files.specs.Holders.{holders, openings}
 use Rattle.proc_table.specs.Standing.{IsTable}
 use Rattle.store_objects.specs.declared.objects.Objects.{Objects}
 use Rattle.store_objects.specs.Objects.{procs_of}

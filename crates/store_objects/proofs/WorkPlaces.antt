@@ -11,7 +11,7 @@ use Rattle.posix_defs.specs.Files.State.{Files}
 use Rattle.posix_defs.specs.Plain.{root}
 use Rattle.posix_defs.specs.Process.{Table, runs}
 use Rattle.posix_defs.specs.World.{directories_of}
-use Rattle.holding_laws.specs.Holders.{holders, openings}
+use Rattle.proc_files.specs.Holders.{holders, openings}
 use Rattle.proc_table.specs.Changes.{ended, is_alone, is_other, left_behind, left_by, left_child}
 use Rattle.proc_table.specs.Procs.{no_nodes, proc_of, status_of}
 use Rattle.proc_table.specs.Standing.{AreFrom, gone, nobody, there}

@@ -4,7 +4,7 @@ use Rattle.kabi_types.specs.declared.scripts.Control.{Control}
 use Rattle.kheap_slabs.specs.Keys.{AreKeysOf}
 use Rattle.open_laws.specs.Open.{AreOpen}
 use Rattle.open_laws.specs.Owned.{HasItsOwners}
-use Rattle.place_laws.specs.Placed.{Numbers}
+use Rattle.open_laws.specs.Placed.{Numbers}
 use Rattle.posix_defs.specs.Files.Bare.{IsBare}
 use Rattle.posix_defs.specs.Files.State.{Files}
 use Rattle.posix_defs.specs.Memory.{boot_frames}

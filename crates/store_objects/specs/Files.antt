@@ -1,10 +1,10 @@
 -- What is open in the objects of a store, and in the world that they stand for.
 use Rattle.std.specs.Prelude.{◌≡◌}
 use Rattle.open_laws.specs.Open.{HaveFronts}
-use Rattle.place_laws.specs.Placed.{Numbers}
+use Rattle.open_laws.specs.Placed.{Numbers}
 use Rattle.posix_defs.specs.Account.{Account, fronts_after, pipe_lengths, socket_lengths}
 use Rattle.posix_defs.specs.Files.State.{Files}
-use Rattle.proc_descs.specs.Having.{HaveOpen}
+use Rattle.proc_numbers.specs.Having.{HaveOpen}
 use Rattle.store_objects.specs.declared.objects.Objects.{Objects}
 
 -- The account has a front for each queue that was made, which is 0 where that is empty: it stays while the lengths stay.

@@ -7,3 +7,7 @@ pub mod Walking
 pub mod Uses
 pub mod Booting
 pub mod Purses
+pub mod OpenMoves
+pub mod OpenWorlds
+pub mod FileMoves
+pub mod FileWorlds

@@ -9,7 +9,7 @@ use Rattle.kheap_slabs.specs.Owners.{Owners}
 use Rattle.open_laws.specs.Owned.{HasItsOwners}
 use Rattle.kheap_slabs.specs.Paid.{TakesNothing}
 use Rattle.proc_table.specs.Moves.{ProcTurns}
-use Rattle.holding_laws.specs.Names.{AreBound, name_of}
+use Rattle.proc_files.specs.Names.{AreBound, name_of}
 use Rattle.proc_table.specs.Procs.{proc_of}
 use Rattle.proc_table.specs.Table.{Holds, keys_of, processes}
 use Rattle.prog_ctl.specs.Runnable.{Rests, Stands}

@@ -19,7 +19,7 @@ use Rattle.posix_defs.specs.Turn.{Tells, account_after}
 use Rattle.posix_defs.specs.ValidScript.{IsValid}
 use Rattle.posix_defs.specs.World.{World, directories_of}
 use Rattle.posix_defs.specs.declared.turner.Turned.{Turned}
-use Rattle.holding_laws.specs.Holders.{AreOpenNodes, HaveNames}
+use Rattle.proc_files.specs.Holders.{AreOpenNodes, HaveNames}
 use Rattle.proc_table.specs.Accounting.{HasAccount}
 use Rattle.proc_table.specs.Procs.{proc_of}
 use Rattle.proc_table.specs.Standing.{IsTable}
@@ -28,11 +28,6 @@ use Rattle.store_objects.specs.Files.{HaveFiles}
 use Rattle.store_objects.specs.Objects.{AreKept, procs_of}
 use Rattle.store_objects.specs.Trees.{HasTree, kept_by, pins_in}
 use Rattle.store_objects.specs.Working.{AreDirectories}
-
--- A store: its script, and its objects.
-pub record StoreView : Type 0 where
-  pub script : Script
-  pub objects : Objects
 
 -- ---- the families
 

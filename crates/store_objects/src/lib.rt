@@ -1,14 +1,18 @@
 //! The objects of a store: the heap with the processes in it, the tree of files beside it, and the table of who is bound to its
-//! nodes; what they keep, and which worlds they stand for. A process goes on behind its call here, and what is cached goes; how
-//! processes end, and what each call does else, stands in the crates of its family.
+//! nodes; what they keep, and which worlds they stand for. A process goes on behind its call here, and what is cached goes; a store
+//! goes on where a call changes what is open, or files. How processes end, and what each call does else, stands in the crates of
+//! its family.
 #![tactic(auto)]
 
 mod boot;
 mod directories;
 mod evicting;
+pub mod file_laws;
+pub mod file_moves;
 mod going_on;
 pub mod laws;
 mod objects;
+pub mod open_moves;
 mod purses;
 
 pub use boot::booted;

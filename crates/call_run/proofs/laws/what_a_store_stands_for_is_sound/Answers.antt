@@ -1,5 +1,5 @@
-use Rattle.machine_keeps.proofs.Texting.{valid_texts}
-use Rattle.machine_keeps.proofs.Wholeness.{is_whole}
+use Rattle.machine_laws.proofs.Texting.{valid_texts}
+use Rattle.machine_laws.proofs.Wholeness.{is_whole}
 use Rattle.call_run.proofs.Stores.{sound_store}
 use Rattle.call_run.proofs.laws.what_a_store_stands_for_is_sound.Goals as goal
 

@@ -1,7 +1,7 @@
 use Rattle.std.proofs.Common.{◌≡◌, ◌≤◌, le_refl}
 use Rattle.kheap_slabs.specs.Heap.{live_bytes}
 use Rattle.kheap_laws.proofs.PaidLemmas.{TakesNothing-bytes}
-use Rattle.machine_keeps.proofs.Turning.{evicted_reached}
+use Rattle.machine_laws.proofs.Turning.{evicted_reached}
 use Rattle.call_run.proofs.Resting.{mark_counts, mark_goes_on, mark_keeps, mark_rests, mark_since, mark_still}
 use Rattle.call_run.proofs.Stores.{store_on}
 use Rattle.call_run.proofs.turns.evict.Goals as goal

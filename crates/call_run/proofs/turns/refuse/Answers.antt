@@ -1,5 +1,5 @@
 use Rattle.std.proofs.Common.{◌≡◌, ◌∙◌, false, le_refl, sym, true}
-use Rattle.machine_keeps.proofs.Turning.{refused_reached}
+use Rattle.machine_laws.proofs.Turning.{refused_reached}
 use Rattle.store_objects.proofs.RunningProcs.{alive_is}
 use Rattle.call_run.proofs.Resting.{mark_counts, mark_goes_on, mark_keeps, mark_rests, mark_since, mark_still}
 use Rattle.call_run.proofs.turns.refuse.Goals as goal

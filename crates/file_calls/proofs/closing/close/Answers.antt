@@ -2,15 +2,15 @@ use Rattle.std.proofs.Common.{◌≡◌, None, refl, subst, sym, w64}
 use Rattle.std.proofs.lemmas.Int.{to_z-of_z}
 use Rattle.kabi_types.specs.declared.calls.Call.TheVariants as call
 use Rattle.posix_defs.specs.Calls.OnDescriptors.{close}
-use Rattle.proc_descs.specs.Having.{node_closed}
-use Rattle.proc_descs.specs.Naming.{named_by}
+use Rattle.proc_numbers.specs.Having.{node_closed}
+use Rattle.proc_numbers.specs.Naming.{named_by}
 use Rattle.proc_files.specs.Holding.{HoldSome}
-use Rattle.proc_names.specs.Answering.{AnswersNaming}
-use Rattle.proc_pipes.specs.Answering.{zero_of}
-use Rattle.open_moves.proofs.Replying.{no_frames}
+use Rattle.proc_files.specs.NameAnswering.{AnswersNaming}
+use Rattle.proc_numbers.specs.Answering.{zero_of}
+use Rattle.store_objects.proofs.Replying.{no_frames}
 use Rattle.store_objects.proofs.Keeping.{listed_in}
 use Rattle.store_objects.proofs.Paying.{uses_nothing, uses_then}
-use Rattle.file_moves.proofs.Within.{within_same}
+use Rattle.store_objects.proofs.Within.{within_same}
 use Rattle.file_calls.proofs.CallingOpens.{holds_some_names, kept_mid, key_who_runs, mid, runs_mid, serves_naming}
 use Rattle.file_calls.proofs.Purses.{can_pay, may_close, uses_back}
 use Rattle.file_calls.proofs.Reached.{closed_off, first_off, leaves_numbers}

@@ -7,14 +7,14 @@ use Rattle.posix_defs.specs.Calls.Opened.{opened_at}
 use Rattle.posix_defs.specs.Plain.{with_files}
 use Rattle.posix_defs.specs.Reaching.{is_on_node}
 use Rattle.proc_files.specs.Holding.{HoldSome}
-use Rattle.proc_names.specs.Answering.{AnswersNaming}
-use Rattle.proc_pipes.specs.Answering.{node_replaced, value_of}
-use Rattle.open_moves.proofs.Replying.{no_frames}
+use Rattle.proc_files.specs.NameAnswering.{AnswersNaming}
+use Rattle.proc_numbers.specs.Answering.{node_replaced, value_of}
+use Rattle.store_objects.proofs.Replying.{no_frames}
 use Rattle.store_objects.specs.Trees.{others_in}
-use Rattle.file_moves.proofs.StoreFiles.{holds_names}
+use Rattle.store_objects.proofs.StoreFiles.{holds_names}
 use Rattle.store_objects.proofs.Keeping.{listed_in}
 use Rattle.store_objects.proofs.Paying.{uses_nothing, uses_then}
-use Rattle.file_moves.proofs.Within.{within_same}
+use Rattle.store_objects.proofs.Within.{within_same}
 use Rattle.file_calls.proofs.CallingOpens.{holds_some_names, kept_mid, key_who_runs, mid, runs_mid, serves_naming}
 use Rattle.file_calls.proofs.Purses.{can_pay, may_close, uses_back}
 use Rattle.file_calls.proofs.Reached.{leaves_numbers, second_off, stays_replaced}

@@ -6,21 +6,21 @@ use Rattle.kabi_types.specs.declared.errnos.Errno.{Errno}
 use Rattle.kabi_types.specs.declared.replies.Reply.{Reply}
 use Rattle.kheap_laws.proofs.PaidLemmas.{IsPaid-nothing, IsPaid-trans}
 use Rattle.kheap_slabs.specs.Heap.{Heap, IsWellFormed}
-use Rattle.file_moves.specs.Worlds.{LeavesCached}
+use Rattle.store_objects.specs.FileWorlds.{LeavesCached}
 use Rattle.memfs_ops.specs.FileTree.{TreeView}
 use Rattle.open_laws.specs.Owned.{HasItsOwners}
 use Rattle.posix_defs.specs.Calls.OnSockets.{connect}
 use Rattle.posix_defs.specs.Plain.{with_files}
 use Rattle.posix_defs.specs.World.{World}
-use Rattle.proc_descs.specs.Having.{AreListed}
-use Rattle.proc_descs.specs.Queues.{QueuesStand}
-use Rattle.proc_names.specs.Answering.{NamesChange}
-use Rattle.proc_pipes.specs.Answering.{zero_of}
+use Rattle.proc_numbers.specs.Having.{AreListed}
+use Rattle.proc_numbers.specs.Queues.{QueuesStand}
+use Rattle.proc_files.specs.NameAnswering.{NamesChange}
+use Rattle.proc_numbers.specs.Answering.{zero_of}
 use Rattle.store_objects.specs.declared.objects.Objects.{Objects}
 use Rattle.store_objects.specs.Standing.{IsSound, StandsFor}
-use Rattle.file_moves.proofs.StoreFiles.{works_in_some}
+use Rattle.store_objects.proofs.StoreFiles.{works_in_some}
 use Rattle.store_objects.proofs.Keeping.{listed_in}
-use Rattle.open_moves.proofs.Replying.{no_frames}
+use Rattle.store_objects.proofs.Replying.{no_frames}
 use Rattle.file_calls.proofs.CallingNames.{AnswersSo, HasNamed, alive_who_runs, connect_cached, kept_named, key_who_runs, left_sock, mid_of, runs_named, serves_named}
 use Rattle.file_calls.proofs.connecting.connect.Goals as goal
 

@@ -9,18 +9,18 @@ use Rattle.kheap_laws.proofs.PaidLemmas.{TakesNothing-trans}
 use Rattle.kheap_slabs.specs.Heap.{Heap, IsWellFormed}
 use Rattle.memfs_ops.specs.FileTree.{IsUsed, TreeView}
 use Rattle.open_laws.specs.Owned.{HasItsOwners}
-use Rattle.open_moves.proofs.Replying.{no_frames}
+use Rattle.store_objects.proofs.Replying.{no_frames}
 use Rattle.posix_defs.specs.Calls.OnFiles.{lseek}
 use Rattle.posix_defs.specs.World.{World}
-use Rattle.proc_descs.specs.Having.{AreListed}
+use Rattle.proc_numbers.specs.Having.{AreListed}
 use Rattle.proc_files.specs.Answering.{StaysOffNodes}
-use Rattle.proc_pipes.specs.Answering.{value_of}
+use Rattle.proc_numbers.specs.Answering.{value_of}
 use Rattle.store_objects.specs.declared.objects.Objects.{Objects}
 use Rattle.store_objects.specs.Standing.{IsSound, StandsFor}
 use Rattle.store_objects.specs.Trees.{others_in}
-use Rattle.file_moves.proofs.StoreFiles.{holds_names}
+use Rattle.store_objects.proofs.StoreFiles.{holds_names}
 use Rattle.store_objects.proofs.Keeping.{listed_in}
-use Rattle.file_moves.proofs.Within.{within_nothing}
+use Rattle.store_objects.proofs.Within.{within_nothing}
 use Rattle.file_calls.proofs.Calling.{AnswersSo, HasChanged, holds_some, kept_changed, key_who_runs, leaves_others, mid_of, runs_changed, serves_changed}
 use Rattle.file_calls.proofs.Needed.{of_three}
 use Rattle.file_calls.proofs.Sought.{told_within}

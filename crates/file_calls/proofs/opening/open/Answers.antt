@@ -11,14 +11,14 @@ use Rattle.posix_defs.specs.Files.Descriptions.{has_flag, o_trunc}
 use Rattle.posix_defs.specs.Tree.{Tree}
 use Rattle.posix_defs.specs.declared.turner.Turned.TheVariants as turned
 use Rattle.proc_files.specs.Opening.{AnswersAnew}
-use Rattle.proc_pipes.specs.Answering.{value_of}
-use Rattle.open_moves.proofs.Replying.{no_frames}
+use Rattle.proc_numbers.specs.Answering.{value_of}
+use Rattle.store_objects.proofs.Replying.{no_frames}
 use Rattle.proc_table.specs.Procs.{proc_of}
 use Rattle.store_objects.specs.Objects.{procs_of}
-use Rattle.file_moves.proofs.StoreFiles.{works_somewhere}
+use Rattle.store_objects.proofs.StoreFiles.{works_somewhere}
 use Rattle.store_objects.proofs.Keeping.{listed_in}
 use Rattle.store_objects.proofs.Replies.{GoesOn}
-use Rattle.file_moves.proofs.Within.{within_paid}
+use Rattle.store_objects.proofs.Within.{within_paid}
 use Rattle.file_calls.proofs.CallingOpens.{alive_who_runs, bound_still, kept_mid, key_who_runs, mid, runs_mid, serves_anew}
 use Rattle.file_calls.proofs.Opens.{leaves_open, one_left}
 use Rattle.file_calls.proofs.opening.open.Goals as goal

@@ -1,5 +1,5 @@
 use Rattle.std.proofs.Common.{◌∙◌, sym}
-use Rattle.file_moves.proofs.StoreFiles.{works_somewhere}
+use Rattle.store_objects.proofs.StoreFiles.{works_somewhere}
 use Rattle.store_objects.proofs.Keeping.{listed_in}
 use Rattle.store_objects.proofs.Paying.{uses_nothing, uses_paid}
 use Rattle.path_calls.proofs.Walked.{kept_mid, looked, runs_mid}

@@ -2,13 +2,13 @@ use Rattle.std.proofs.Common.{refl, subst, sym, w64}
 use Rattle.std.proofs.lemmas.Int.{to_z-of_z}
 use Rattle.kabi_types.specs.declared.calls.Call.TheVariants as call
 use Rattle.posix_defs.specs.Calls.OnFiles.{fstat}
-use Rattle.proc_descs.proofs.Fronts.{queues_same}
+use Rattle.proc_numbers.proofs.Fronts.{queues_same}
 use Rattle.proc_files.specs.Answering.{AnswersHolding, StaysOffNodes}
 use Rattle.proc_files.proofs.OpenFiles.{used_reads}
-use Rattle.proc_pipes.specs.Answering.{stat_of}
-use Rattle.open_moves.proofs.Replying.{no_frames}
+use Rattle.proc_numbers.specs.Answering.{stat_of}
+use Rattle.store_objects.proofs.Replying.{no_frames}
 use Rattle.store_objects.proofs.Keeping.{listed_in}
-use Rattle.file_moves.proofs.Within.{within_nothing}
+use Rattle.store_objects.proofs.Within.{within_nothing}
 use Rattle.file_calls.proofs.CallingOpens.{holds_some, kept_mid, key_who_runs, mid, runs_mid, serves_holding, takes_none, unchanged}
 use Rattle.file_calls.proofs.Reached.{first_off, leaves_numbers}
 use Rattle.file_calls.proofs.telling.fstat.Goals as goal

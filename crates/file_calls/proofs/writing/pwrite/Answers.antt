@@ -11,11 +11,11 @@ use Rattle.memfs_ops.specs.FileTree.{TreeView}
 use Rattle.posix_defs.specs.Calls.Writing.{pwrite}
 use Rattle.posix_defs.specs.World.{World}
 use Rattle.proc_files.specs.Answering.{StaysOffNodes}
-use Rattle.proc_pipes.specs.Answering.{value_of}
-use Rattle.proc_queues.specs.Standing.{IsKept}
+use Rattle.proc_numbers.specs.Answering.{value_of}
+use Rattle.proc_numbers.specs.Standing.{IsKept}
 use Rattle.store_objects.specs.declared.objects.Objects.{Objects}
 use Rattle.store_objects.specs.Standing.{IsSound, StandsFor}
-use Rattle.file_moves.proofs.Within.{within_paid}
+use Rattle.store_objects.proofs.Within.{within_paid}
 use Rattle.file_calls.proofs.Calling.{HasMoved, Leads, alive_who_runs, holds_some, is_kept, kept_moved, leaves_others, mid_of, runs_moved, serves_moved}
 use Rattle.file_calls.proofs.Kin.{pwrite_kin}
 use Rattle.file_calls.proofs.Needed.{of_four}

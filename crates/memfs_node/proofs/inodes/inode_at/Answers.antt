@@ -1,8 +1,8 @@
-use Rattle.std.proofs.Common.{◌≡◌, ℕ, List, length, Result, Ok, refl, sym, ap, subst, ◌∙◌}
+use Rattle.std.proofs.Common.{◌≡◌, ℕ, List, Result, Ok, refl, sym, subst, ◌∙◌}
 use Rattle.std.specs.Prelude.{IsOk}
 use Rattle.kabi_types.specs.declared.inodes.Inode.{Inode}
 use Rattle.posix_defs.specs.DiskFormat.{IsInode}
-use Rattle.posix_defs.specs.SoundDisk.{HasInode, Sound, block_bytes, table_block, slot_bytes, table_slot}
+use Rattle.posix_defs.specs.SoundDisk.{HasInode, table_block}
 use Rattle.disk_layout.specs.declared.faults.BadInode.{BadInode}
 use Rattle.blk_map.proofs.Blocks.{got}
 use Rattle.memfs_node.proofs.Slots.{in_slot}

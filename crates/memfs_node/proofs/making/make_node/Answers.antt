@@ -1,4 +1,4 @@
-use Rattle.std.proofs.Common.{◌≡◌, ℕ, ◌≤◌, List, sym, subst, ◌∙◌, arith, ap}
+use Rattle.std.proofs.Common.{◌≡◌, ℕ, List, sym, subst, ◌∙◌, arith, ap}
 use Rattle.posix_defs.specs.Tree.{kind_of}
 use Rattle.memfs_node.specs.declared.making.NewNode.{NewNode}
 use Rattle.memfs_node.specs.NodeOnDisk.{Makes, Retags, content_of}

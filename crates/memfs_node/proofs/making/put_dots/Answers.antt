@@ -1,4 +1,4 @@
-use Rattle.std.proofs.Common.{◌≡◌, ℕ, List, Result, Ok, OnOk, subst, arith}
+use Rattle.std.proofs.Common.{ℕ, List, Result, OnOk, subst, arith}
 use Rattle.kabi_types.specs.declared.errnos.Errno.{Errno}
 use Rattle.posix_defs.specs.NodeChange.{Grows}
 use Rattle.memfs_node.proofs.Dots.{puts}

@@ -1,4 +1,4 @@
-use Rattle.std.proofs.Common.{◌≡◌, ◌≢◌, ℕ, true, false, List, [], ◌∷◌, ◌++◌, Result, Ok, Err, OnOk, refl, sym, ap, subst, ◌∙◌}
+use Rattle.std.proofs.Common.{◌≡◌, ℕ, List, [], ◌∷◌, ◌++◌, Result, Err, OnOk, sym, subst, ◌∙◌}
 use Rattle.kabi_types.specs.declared.errnos.Errno.{Errno}
 use Rattle.kabi_types.specs.declared.errnos.Errno.TheVariants.{ENOSPC}
 use Rattle.posix_defs.specs.DiskFormat.{blocks_of}
@@ -8,6 +8,7 @@ use Rattle.posix_defs.specs.Tree.{size_of}
 use Rattle.posix_defs.specs.TreeChanges.{make}
 use Rattle.blk_map.specs.Named.{TakesLowest}
 use Rattle.blk_map.proofs.Taken.{lowest_then_lowest, unchanged_is_lowest}
+use Rattle.disk_layout.specs.Vacant.{NoneFreeIn}
 use Rattle.memfs_dir.specs.Listed.{IsFullBeside, Relists}
 use Rattle.memfs_dir.proofs.Kept.{entries_stay}
 use Rattle.memfs_node.specs.NodeOnDisk.{AnswersAs, Makes, content_of}
@@ -37,6 +38,10 @@ returns-in_default-clause-answer g c = λ tree stands is_dir.
     let none : (number : ℕ) → ¬ (IsFreeNode disk number) = subst (λ (d : List (List ℕ)). (number : ℕ) → ¬ (IsFreeNode d number)) kept c.in_default.ensures.none in
     subst (λ (d : List (List ℕ)). AnswersAs disk d (make tree c.args.parent c.args.name content) (Err ENOSPC)) (sym (c.lowest_node.ensures.kept ∙ kept))
     (no_node disk c.args.parent c.args.dir.now content c.has_room_for_entry.result a tree c.args.name stands none)
+
+pub lowest_node-requires-clause-full : goal.lowest_node-requires-clause-full
+lowest_node-requires-clause-full g c =
+    subst (λ (d : List (List ℕ)). NoneFreeIn d c.args.full) (sym c.has_room_for_entry.ensures.kept) c.requires.full
 
 pub dir_add-requires-clause-node : goal.dir_add-requires-clause-node
 dir_add-requires-clause-node g c =

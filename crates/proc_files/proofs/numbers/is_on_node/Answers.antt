@@ -1,9 +1,9 @@
 use Rattle.std.proofs.Common.{◌≡◌, ◌∙◌, [], ap, is_some, subst, sym, w64}
 use Rattle.std.proofs.lemmas.Int.{to_z-of_z}
 use Rattle.posix_defs.specs.Reaching.{is_on_node}
-use Rattle.proc_descs.specs.Naming.{named_by}
-use Rattle.proc_descs.proofs.NumberCloses.{no_some}
-use Rattle.proc_descs.proofs.NumberNames.{desc_named_by, opened_nothing, opened_so}
+use Rattle.proc_numbers.specs.Naming.{named_by}
+use Rattle.proc_numbers.proofs.NumberCloses.{no_some}
+use Rattle.proc_numbers.proofs.NumberNames.{desc_named_by, opened_nothing, opened_so}
 use Rattle.proc_files.proofs.Finding.{off_named_node, off_unnamed, on_named_node, tells_target}
 use Rattle.proc_files.proofs.numbers.is_on_node.Goals as goal
 

@@ -6,7 +6,7 @@ use Rattle.proc_table.specs.Procs.{proc_of, process_of}
 use Rattle.proc_table.specs.Table.{processes}
 use Rattle.proc_table.proofs.FamilyLemmas.{process_is}
 use Rattle.proc_table.proofs.PlaceLemmas.{key_of-proc, some_same}
-use Rattle.proc_descs.proofs.Listing.{found_before}
+use Rattle.proc_numbers.proofs.Listing.{found_before}
 use Rattle.proc_files.proofs.opening.directory_of.Goals as goal
 
 pub get_proc-requires : goal.get_proc-requires

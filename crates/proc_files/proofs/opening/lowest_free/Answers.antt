@@ -1,9 +1,9 @@
 use Rattle.std.proofs.Common.{◌≡◌, ◌∙◌, ap, sym}
 use Rattle.desc_table.specs.Numbered.{descriptors_in}
 use Rattle.posix_defs.specs.Files.Descriptors.{lowest_free_from}
-use Rattle.proc_descs.specs.Naming.{places_of}
-use Rattle.proc_descs.proofs.NumberNames.{lowest_is}
-use Rattle.proc_pipes.proofs.Lowest.{lowest_within}
+use Rattle.proc_numbers.specs.Naming.{places_of}
+use Rattle.proc_numbers.proofs.NumberNames.{lowest_is}
+use Rattle.proc_numbers.proofs.Lowest.{lowest_within}
 use Rattle.proc_files.proofs.opening.lowest_free.Goals as goal
 
 pub returns-clause-lowest : goal.returns-clause-lowest

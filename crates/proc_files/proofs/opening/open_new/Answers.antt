@@ -5,12 +5,12 @@ use Rattle.kheap_laws.proofs.PaidLemmas.{IsPaid-nothing, IsPaid-trans}
 use Rattle.posix_defs.specs.Calls.OnFiles.{description_for}
 use Rattle.posix_defs.specs.Files.Descriptions.{has_flag, o_cloexec}
 use Rattle.posix_defs.specs.Files.State.{with_open}
-use Rattle.proc_descs.specs.Having.{HaveOpen}
-use Rattle.proc_descs.specs.Naming.{named_at}
-use Rattle.proc_descs.proofs.Fronts.{queues_same}
-use Rattle.proc_descs.proofs.NumberOpens.{changes_named}
-use Rattle.proc_pipes.proofs.Changes.{changes_after, opening}
-use Rattle.proc_pipes.proofs.Made.{used_apart}
+use Rattle.proc_numbers.specs.Having.{HaveOpen}
+use Rattle.proc_numbers.specs.Naming.{named_at}
+use Rattle.proc_numbers.proofs.Fronts.{queues_same}
+use Rattle.proc_numbers.proofs.NumberOpens.{changes_named}
+use Rattle.proc_numbers.proofs.Changes.{changes_after, opening}
+use Rattle.proc_numbers.proofs.Made.{used_apart}
 use Rattle.proc_files.specs.Opening.{MakesDesc, described_more, desc_on, with_desc}
 use Rattle.proc_files.proofs.Makes.{given, have_made, made_listed, made_owners, spent_fills, stays}
 use Rattle.proc_files.proofs.opening.open_new.Goals as goal

@@ -9,18 +9,18 @@ use Rattle.memfs_ops.specs.FileTree.{KeepsLast, KnowsWay, in_call}
 use Rattle.memfs_ops.specs.Opening.{KeepsOpened, OpenedAs, asks_of}
 use Rattle.posix_defs.specs.Calls.OnFiles.{description_for, opening_of}
 use Rattle.posix_defs.specs.Files.Descriptions.{has_flag, o_cloexec}
-use Rattle.place_laws.specs.Placed.{Numbers}
+use Rattle.open_laws.specs.Placed.{Numbers}
 use Rattle.posix_defs.specs.Files.State.{Files, opened_as, with_tree}
 use Rattle.posix_defs.specs.PathCalls.{Opening, open_path}
 use Rattle.posix_defs.specs.Paths.{resolve}
 use Rattle.posix_defs.specs.Tree.{is_directory}
-use Rattle.proc_descs.specs.Having.{HaveOpen}
-use Rattle.proc_descs.specs.Naming.{named_at}
-use Rattle.proc_descs.proofs.Fronts.{queues_same, queues_then}
-use Rattle.proc_descs.proofs.NumberCloses.{no_some}
-use Rattle.proc_pipes.proofs.Changes.{changes_nothing}
-use Rattle.proc_pipes.proofs.Lowest.{IsLowest}
-use Rattle.holding_laws.specs.Holders.{holders}
+use Rattle.proc_numbers.specs.Having.{HaveOpen}
+use Rattle.proc_numbers.specs.Naming.{named_at}
+use Rattle.proc_numbers.proofs.Fronts.{queues_same, queues_then}
+use Rattle.proc_numbers.proofs.NumberCloses.{no_some}
+use Rattle.proc_numbers.proofs.Changes.{changes_nothing}
+use Rattle.proc_numbers.proofs.Lowest.{IsLowest}
+use Rattle.proc_files.specs.Holders.{holders}
 use Rattle.proc_files.specs.Opening.{HaveAnew}
 use Rattle.proc_files.proofs.Beside.{listed_beside, owners_beside, same_pipes, same_socks}
 use Rattle.proc_files.proofs.Changing.{caches_before, holding_of}

@@ -2,7 +2,7 @@ use Rattle.std.proofs.Common.{◌≤◌, ◌++◌, ◌∙◌, ap, drop, length, 
 use Rattle.std.proofs.lemmas.List.{length-take-le}
 use Rattle.posix_defs.specs.Needs.{pages_touched}
 use Rattle.posix_defs.specs.PathCalls.{list_node}
-use Rattle.proc_queues.proofs.Capped.{touched_fewer}
+use Rattle.proc_numbers.proofs.Capped.{touched_fewer}
 use Rattle.proc_files.proofs.Lengths.{list_few}
 use Rattle.proc_files.proofs.Ranges.{fetched_owned, fetched_pages, front_fits, front_taken, reads_node}
 use Rattle.proc_files.proofs.reading.list_into.Goals as goal

@@ -6,9 +6,9 @@ use Rattle.kabi_types.specs.declared.replies.Reply.TheVariants.{Fail, Val}
 use Rattle.posix_defs.specs.Calls.Reading.{put}
 use Rattle.posix_defs.specs.Needs.{pages_touched}
 use Rattle.posix_defs.specs.PathCalls.{read_node}
-use Rattle.proc_queues.proofs.Finding.{alive_listed}
-use Rattle.proc_queues.proofs.RightBytes.{touched_at}
-use Rattle.holding_laws.specs.Holders.{holders}
+use Rattle.proc_numbers.proofs.MayMove.{alive_listed}
+use Rattle.proc_numbers.proofs.RightBytes.{touched_at}
+use Rattle.proc_files.specs.Holders.{holders}
 use Rattle.proc_files.proofs.Holding.{as_found, held_some, hold_on, no_node, on_node}
 use Rattle.proc_files.proofs.Leading.{leads_nowhere}
 use Rattle.proc_files.proofs.OpenFiles.{holds_file, used_reads}
@@ -17,7 +17,7 @@ use Rattle.proc_files.proofs.Ranges.{as_mapped, as_range, no_count, right_placed
 use Rattle.proc_files.proofs.ReadAnswers.{pread_closed, pread_denied, pread_directory, pread_goes, pread_nothing, pread_refused, pread_unmapped}
 use Rattle.kabi_types.specs.declared.calls.Call.TheVariants as call
 use Rattle.proc_files.proofs.Saves.{keeps_read, saves_read, saves_used}
-use Rattle.proc_queues.specs.Found.{IsNamed}
+use Rattle.proc_numbers.specs.Found.{IsNamed}
 use Rattle.kheap_slabs.specs.declared.objects.Desc.{Desc}
 use Rattle.proc_files.proofs.reading.pread_file.Goals as goal
 

@@ -10,10 +10,10 @@ use Rattle.posix_defs.specs.Calls.Opened.{moved_to}
 use Rattle.posix_defs.specs.Calls.Reading.{put, read_file}
 use Rattle.posix_defs.specs.Needs.{pages_touched}
 use Rattle.posix_defs.specs.PathCalls.{read_node}
-use Rattle.proc_queues.specs.Found.{IsNamed, opened_in}
-use Rattle.proc_queues.proofs.Finding.{alive_listed}
-use Rattle.proc_queues.proofs.RightBytes.{touched_at}
-use Rattle.holding_laws.specs.Holders.{holders}
+use Rattle.proc_numbers.specs.Found.{IsNamed, opened_in}
+use Rattle.proc_numbers.proofs.MayMove.{alive_listed}
+use Rattle.proc_numbers.proofs.RightBytes.{touched_at}
+use Rattle.proc_files.specs.Holders.{holders}
 use Rattle.proc_files.proofs.Holding.{as_found, held_some, hold_on, on_node, only_node}
 use Rattle.proc_files.proofs.Leading.{leads_nowhere}
 use Rattle.proc_files.proofs.Lengths.{read_ends}

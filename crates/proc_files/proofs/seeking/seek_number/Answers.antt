@@ -2,7 +2,7 @@ use Rattle.std.proofs.Common.{◌≡◌, ◌∙◌, [], ap, None, Some, subst, o
 use Rattle.std.specs.Option.{option_map}
 use Rattle.std.proofs.lemmas.Int.{to_z-of_z}
 use Rattle.posix_defs.specs.Calls.Opened.{opened_at}
-use Rattle.proc_queues.specs.Found.{opened_in}
+use Rattle.proc_numbers.specs.Found.{opened_in}
 use Rattle.proc_files.specs.Seeking.{sought}
 use Rattle.proc_files.proofs.Holding.{held_some, hold_on, no_node, on_node}
 use Rattle.proc_files.proofs.SeekAnswers.{lseek_bad, lseek_refused, seek_beside, seek_holds, seek_listed, seek_owners, seek_some}

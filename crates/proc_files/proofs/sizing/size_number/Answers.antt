@@ -3,7 +3,7 @@ use Rattle.std.proofs.lemmas.Int.{to_z-of_z}
 use Rattle.kabi_types.specs.Arguments.{count_of}
 use Rattle.memfs_ops.specs.Changing.{ChangedTo}
 use Rattle.posix_defs.specs.TreeChanges.{resize}
-use Rattle.holding_laws.specs.Holders.{holders}
+use Rattle.proc_files.specs.Holders.{holders}
 use Rattle.proc_files.proofs.Beside.{listed_beside, owners_beside}
 use Rattle.proc_files.proofs.Holding.{as_found, held_some, hold_on, no_node, on_node}
 use Rattle.proc_files.proofs.OpenFiles.{holds_file, used_pays}

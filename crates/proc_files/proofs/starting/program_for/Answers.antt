@@ -3,7 +3,7 @@ use Rattle.memfs_ops.specs.FileTree.{KeepsLed, KnowsWay, in_call}
 use Rattle.posix_defs.specs.PathCalls.{exec_path, node_led}
 use Rattle.posix_defs.specs.Paths.{resolve}
 use Rattle.posix_defs.specs.Tree.{is_directory}
-use Rattle.holding_laws.specs.Holders.{holders}
+use Rattle.proc_files.specs.Holders.{holders}
 use Rattle.proc_files.proofs.Written.{hold_written}
 use Rattle.proc_files.proofs.starting.program_for.Goals as goal
 

@@ -4,7 +4,7 @@ use Rattle.std.proofs.lemmas.Int.{to_z-of_z}
 use Rattle.kabi_types.specs.declared.replies.Reply.TheVariants.{Stat}
 use Rattle.posix_defs.specs.Answer.{replied}
 use Rattle.posix_defs.specs.Calls.Opened.{opened_at}
-use Rattle.proc_queues.specs.Found.{opened_in}
+use Rattle.proc_numbers.specs.Found.{opened_in}
 use Rattle.proc_files.proofs.Holding.{held_in, hold_on, off_node, some_on}
 use Rattle.proc_files.proofs.SeekAnswers.{fstat_bad, fstat_is}
 use Rattle.proc_files.proofs.telling.stat_number.Goals as goal

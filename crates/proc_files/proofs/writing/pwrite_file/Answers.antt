@@ -6,8 +6,8 @@ use Rattle.kabi_types.specs.declared.replies.Reply.TheVariants.{Fail, Val}
 use Rattle.posix_defs.specs.Calls.Writing.{wrote_at}
 use Rattle.posix_defs.specs.Memory.{loaded}
 use Rattle.posix_defs.specs.Process.{memory_of}
-use Rattle.proc_queues.proofs.Finding.{alive_listed}
-use Rattle.holding_laws.specs.Holders.{holders}
+use Rattle.proc_numbers.proofs.MayMove.{alive_listed}
+use Rattle.proc_files.specs.Holders.{holders}
 use Rattle.proc_files.proofs.Beside.{kept_beside}
 use Rattle.proc_files.proofs.Holding.{as_found, held_some, hold_on, no_node, on_node}
 use Rattle.proc_files.proofs.Leading.{leads_nowhere}

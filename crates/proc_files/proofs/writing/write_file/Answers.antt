@@ -12,9 +12,9 @@ use Rattle.posix_defs.specs.Memory.{loaded}
 use Rattle.posix_defs.specs.Process.{memory_of}
 use Rattle.proc_table.specs.Procs.{memory_at}
 use Rattle.proc_table.proofs.MemoryLemmas.{memory_at-stands}
-use Rattle.proc_queues.specs.Found.{opened_in}
-use Rattle.proc_queues.proofs.Finding.{alive_listed}
-use Rattle.holding_laws.specs.Holders.{holders}
+use Rattle.proc_numbers.specs.Found.{opened_in}
+use Rattle.proc_numbers.proofs.MayMove.{alive_listed}
+use Rattle.proc_files.specs.Holders.{holders}
 use Rattle.proc_files.specs.Seeking.{MovesDesc}
 use Rattle.proc_files.proofs.Beside.{kept_beside, same_descs}
 use Rattle.proc_files.proofs.Holding.{as_found, held_some, hold_on, on_node, only_node, open_node}

@@ -3,7 +3,7 @@ use Rattle.kheap_laws.proofs.PaidLemmas.{IsPaid-nothing, IsPaid-trans}
 use Rattle.posix_defs.specs.Files.Closing.{after_end_of}
 use Rattle.posix_defs.specs.Memory.{after_clear}
 use Rattle.memfs_ops.specs.FileTree.{TreeView}
-use Rattle.proc_descs.proofs.Fronts.{queues_then}
+use Rattle.proc_numbers.proofs.Fronts.{queues_then}
 use Rattle.proc_table.specs.Standing.{ends_in}
 use Rattle.store_objects.specs.Objects.{procs_of}
 use Rattle.store_objects.specs.Trees.{kept_by}

@@ -2,7 +2,7 @@ use Rattle.std.proofs.Common.{◌≡◌, ◌∙◌, ◌<◌, [], le_refl, le_tra
 use Rattle.kheap_laws.proofs.PaidLemmas.{IsPaid-refl, IsPaid-trans}
 use Rattle.posix_defs.specs.Files.Closing.{after_end_of}
 use Rattle.posix_defs.specs.Memory.{after_clear}
-use Rattle.proc_descs.proofs.Fronts.{queues_same, queues_then}
+use Rattle.proc_numbers.proofs.Fronts.{queues_same, queues_then}
 use Rattle.store_objects.specs.Objects.{procs_of}
 use Rattle.process_calls.specs.Endings.{IsLowestBehind}
 use Rattle.process_calls.proofs.EndingOthers.{alive_made, begins, clears_one, closes_all, closes_first, closes_one, ends_all, ends_one, stays_all}

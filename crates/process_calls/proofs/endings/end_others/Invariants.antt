@@ -1,11 +1,11 @@
 use Rattle.std.proofs.Common.{◌≡◌, ◌-◌, ◌≤◌}
 use Rattle.kabi_types.specs.declared.scripts.Script.{Script}
 use Rattle.kheap_slabs.specs.Paid.{CanPay, IsPaid}
-use Rattle.place_laws.specs.Placed.{Numbers}
+use Rattle.open_laws.specs.Placed.{Numbers}
 use Rattle.posix_defs.specs.Files.State.{Files}
 use Rattle.posix_defs.specs.Memory.{Frames}
 use Rattle.posix_defs.specs.Process.{Table}
-use Rattle.proc_descs.specs.Queues.{QueuesStand}
+use Rattle.proc_numbers.specs.Queues.{QueuesStand}
 use Rattle.proc_table.specs.Accounting.{HasAccount}
 use Rattle.proc_table.specs.Standing.{IsTable}
 use Rattle.store_objects.specs.Objects.{AreKept}

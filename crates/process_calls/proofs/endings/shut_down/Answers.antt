@@ -2,7 +2,7 @@ use Rattle.std.proofs.Common.{◌≡◌, ◌∙◌, ap, map, refl, subst, sym}
 use Rattle.kheap_slabs.specs.Heap.{Heap}
 use Rattle.kheap_laws.proofs.PaidLemmas.{IsPaid-nothing, IsPaid-trans}
 use Rattle.posix_defs.specs.Files.Closing.{after_end_of}
-use Rattle.proc_descs.proofs.Fronts.{queues_same, queues_then}
+use Rattle.proc_numbers.proofs.Fronts.{queues_same, queues_then}
 use Rattle.proc_table.specs.Changes.{ended}
 use Rattle.proc_table.specs.Procs.{HasClosed}
 use Rattle.store_objects.specs.declared.objects.Objects.{Objects}

@@ -3,11 +3,11 @@ use Rattle.std.proofs.lemmas.Int.{to_z-of_z}
 use Rattle.kabi_types.specs.declared.calls.Call.TheVariants as call
 use Rattle.kheap_laws.proofs.PaidLemmas.{IsPaid-nothing, IsPaid-trans}
 use Rattle.kheap_slabs.specs.Heap.{Heap}
-use Rattle.open_moves.proofs.Replying.{no_frames}
+use Rattle.store_objects.proofs.Replying.{no_frames}
 use Rattle.queue_calls.proofs.Performing.{key_who_runs, kept_then, performs_anew, runs_then}
 use Rattle.posix_defs.specs.Calls.OnSockets.{accept}
-use Rattle.holding_laws.specs.Names.{name_of}
-use Rattle.proc_socks.specs.Opening.{Accepts}
+use Rattle.proc_files.specs.Names.{name_of}
+use Rattle.proc_numbers.specs.SocketOpening.{Accepts}
 use Rattle.store_objects.proofs.Keeping.{listed_in}
 use Rattle.queue_calls.proofs.NamingSockets.{names_made}
 use Rattle.queue_calls.proofs.StayingSockets.{accept_stays}

@@ -4,11 +4,11 @@ use Rattle.kabi_types.specs.declared.calls.Call.TheVariants as call
 use Rattle.kheap_laws.proofs.PaidLemmas.{TakesNothing-trans}
 use Rattle.kheap_slabs.specs.Heap.{Heap}
 use Rattle.posix_defs.specs.Calls.OnDescriptors.{fcntl}
-use Rattle.proc_descs.proofs.Fronts.{queues_same}
-use Rattle.holding_laws.specs.Names.{name_of}
-use Rattle.proc_pipes.specs.Answering.{Answers, value_of}
+use Rattle.proc_numbers.proofs.Fronts.{queues_same}
+use Rattle.proc_files.specs.Names.{name_of}
+use Rattle.proc_numbers.specs.Answering.{Answers, value_of}
 use Rattle.store_objects.proofs.Keeping.{listed_in}
-use Rattle.open_moves.proofs.Replying.{no_frames}
+use Rattle.store_objects.proofs.Replying.{no_frames}
 use Rattle.queue_calls.proofs.Performing.{key_who_runs, kept_then, performs, runs_then}
 use Rattle.queue_calls.proofs.Staying.{fcntl_stay}
 use Rattle.queue_calls.proofs.descriptors.fcntl.Goals as goal

@@ -1,11 +1,11 @@
 use Rattle.std.proofs.Common.{refl, subst, sym}
 use Rattle.kabi_types.specs.declared.calls.Call.TheVariants as call
 use Rattle.kheap_laws.proofs.PaidLemmas.{IsPaid-nothing, IsPaid-trans}
-use Rattle.open_moves.proofs.Replying.{no_frames}
+use Rattle.store_objects.proofs.Replying.{no_frames}
 use Rattle.queue_calls.proofs.Performing.{key_who_runs, kept_then, performs_anew, runs_then}
 use Rattle.posix_defs.specs.Calls.OnSockets.{socketpair}
-use Rattle.proc_pipes.specs.Answering.{pair_of}
-use Rattle.proc_pipes.specs.Opening.{AnswersAnew}
+use Rattle.proc_numbers.specs.Answering.{pair_of}
+use Rattle.proc_numbers.specs.PipeOpening.{AnswersAnew}
 use Rattle.store_objects.proofs.Keeping.{listed_in}
 use Rattle.queue_calls.proofs.NamingSockets.{names_made}
 use Rattle.queue_calls.proofs.StayingSockets.{socketpair_stays}

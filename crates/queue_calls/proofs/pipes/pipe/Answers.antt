@@ -3,10 +3,10 @@ use Rattle.kabi_types.specs.declared.calls.Call.TheVariants as call
 use Rattle.kheap_laws.proofs.PaidLemmas.{IsPaid-nothing, IsPaid-trans}
 use Rattle.kheap_slabs.specs.declared.objects.Sock.{Sock}
 use Rattle.posix_defs.specs.Calls.OnPipes.{pipe}
-use Rattle.holding_laws.specs.Names.{name_of}
-use Rattle.proc_pipes.specs.Opening.{AnswersAnew}
+use Rattle.proc_files.specs.Names.{name_of}
+use Rattle.proc_numbers.specs.PipeOpening.{AnswersAnew}
 use Rattle.store_objects.proofs.Keeping.{listed_in}
-use Rattle.open_moves.proofs.Replying.{no_frames}
+use Rattle.store_objects.proofs.Replying.{no_frames}
 use Rattle.queue_calls.proofs.Performing.{key_who_runs, kept_then, performs_anew, runs_then}
 use Rattle.queue_calls.proofs.Staying.{pipe_stay}
 use Rattle.queue_calls.proofs.pipes.pipe.Goals as goal

@@ -2,7 +2,7 @@ use Rattle.std.proofs.Common.{refl, subst, sym, w64}
 use Rattle.std.proofs.lemmas.Int.{to_z-of_z}
 use Rattle.kabi_types.specs.declared.calls.Call.TheVariants as call
 use Rattle.posix_defs.specs.Calls.Polling.{poll}
-use Rattle.proc_queues.specs.Standing.{Leads}
+use Rattle.proc_numbers.specs.Standing.{Leads}
 use Rattle.store_objects.specs.Standing.{Performs}
 use Rattle.queue_calls.proofs.Queueing.{has_key, is_kept, leaves_rest, runs_alive}
 use Rattle.queue_calls.proofs.Remaining.{poll_leaves}

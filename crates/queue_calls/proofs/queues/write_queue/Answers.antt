@@ -3,8 +3,8 @@ use Rattle.std.proofs.lemmas.Int.{to_z-of_z}
 use Rattle.kabi_types.specs.declared.calls.Call.TheVariants as call
 use Rattle.posix_defs.specs.Calls.Writing.{write}
 use Rattle.proc_files.specs.Reading.{IsOffNodes}
-use Rattle.proc_queues.specs.Standing.{Leads}
-use Rattle.proc_queues.proofs.Finding.{alive_listed}
+use Rattle.proc_numbers.specs.Standing.{Leads}
+use Rattle.proc_numbers.proofs.MayMove.{alive_listed}
 use Rattle.queue_calls.proofs.Choosing.{beside_sent, beside_put, on_pipe_else}
 use Rattle.queue_calls.proofs.MovedNumbers.{of_three}
 use Rattle.queue_calls.proofs.queues.write_queue.Goals as goal

@@ -4,7 +4,7 @@ use Rattle.posix_defs.specs.Calls.Writing.{write}
 use Rattle.posix_defs.specs.Calls.Opened.{opened_at}
 use Rattle.posix_defs.specs.Machine.{blocks}
 use Rattle.posix_defs.specs.Reaching.{is_on_node}
-use Rattle.proc_queues.proofs.Finding.{alive_listed}
+use Rattle.proc_numbers.proofs.MayMove.{alive_listed}
 use Rattle.queue_calls.proofs.Blocking.{node_writes}
 use Rattle.queue_calls.proofs.Choosing.{on_pipe_else}
 use Rattle.queue_calls.proofs.MovedNumbers.{of_three}

@@ -4,7 +4,7 @@ use Rattle.kabi_types.specs.declared.calls.Call.TheVariants as call
 use Rattle.kheap_laws.proofs.PaidLemmas.{IsPaid-nothing, IsPaid-trans}
 use Rattle.posix_defs.specs.Calls.Reading.{read}
 use Rattle.proc_files.specs.Reading.{IsOffNodes}
-use Rattle.proc_queues.specs.Standing.{Leads}
+use Rattle.proc_numbers.specs.Standing.{Leads}
 use Rattle.store_objects.specs.Standing.{Performs}
 use Rattle.queue_calls.proofs.MovedNumbers.{of_three}
 use Rattle.queue_calls.proofs.Naming.{names_read}

@@ -2,10 +2,10 @@ use Rattle.std.proofs.Common.{of_z, refl, subst, sym, to_z, w64}
 use Rattle.std.proofs.lemmas.Int.{to_z-of_z}
 use Rattle.kabi_types.specs.declared.calls.Call.TheVariants as call
 use Rattle.kheap_laws.proofs.PaidLemmas.{TakesNothing-trans}
-use Rattle.open_moves.proofs.Replying.{no_frames}
+use Rattle.store_objects.proofs.Replying.{no_frames}
 use Rattle.queue_calls.proofs.Performing.{key_who_runs, kept_then, performs, runs_then}
 use Rattle.posix_defs.specs.Calls.OnSockets.{listen}
-use Rattle.proc_pipes.specs.Answering.{Answers, zero_of}
+use Rattle.proc_numbers.specs.Answering.{Answers, zero_of}
 use Rattle.store_objects.proofs.Keeping.{listed_in}
 use Rattle.queue_calls.proofs.NamingSockets.{names_told}
 use Rattle.queue_calls.proofs.StayingSockets.{listen_stays}

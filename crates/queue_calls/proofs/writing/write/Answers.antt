@@ -5,15 +5,15 @@ use Rattle.kabi_types.specs.declared.calls.Call.TheVariants as call
 use Rattle.kheap_laws.proofs.PaidLemmas.{IsPaid-nothing, IsPaid-trans}
 use Rattle.kabi_types.specs.declared.scripts.Script.{Script}
 use Rattle.kheap_slabs.specs.Heap.{Heap}
-use Rattle.place_laws.specs.Placed.{Numbers}
+use Rattle.open_laws.specs.Placed.{Numbers}
 use Rattle.posix_defs.specs.Account.{Account}
 use Rattle.posix_defs.specs.Calls.Writing.{write}
 use Rattle.posix_defs.specs.Plain.{Plain}
 use Rattle.posix_defs.specs.declared.turner.Turned.{Turned}
 use Rattle.posix_defs.specs.declared.turner.Turned.TheVariants as turned
 use Rattle.proc_files.specs.Reading.{IsOffNodes}
-use Rattle.holding_laws.specs.Names.{name_of}
-use Rattle.proc_queues.specs.Standing.{IsKept, IsTold, Leads, StandsFor as QueuesStandFor}
+use Rattle.proc_files.specs.Names.{name_of}
+use Rattle.proc_numbers.specs.Standing.{IsKept, IsTold, Leads, StandsFor as QueuesStandFor}
 use Rattle.store_objects.specs.declared.objects.Objects.{Objects}
 use Rattle.store_objects.specs.Standing.{Performs}
 use Rattle.queue_calls.proofs.MovedNumbers.{count_few, of_three}

@@ -18,5 +18,5 @@ pub returns-then-is_told : goal.returns-then-is_told
 returns-then-is_told g c = λ world stands alive.
     let before = subst (λ store. Stands store world) (sym c.self.view_is) stands in
     let fresh : c.self.inside.stale ≡ false = cc in
-    sym (ap not (before.told fresh c.args.pid (ap (λ items. is_told items c.args.pid) (sym c.as_slice.ensures.value) ∙ sym c.is_told.ensures ∙ c.if-is_told.true) alive))
+    sym (ap not (before.told fresh c.args.pid (ap (λ items. is_told items c.args.pid) (sym c.as_slice.ensures.value) ∙ sym c.is_told.ensures ∙ c.if-is_told.true)).1)
     ∙ ap (λ store. not (would_block store.script world.plain c.args.pid)) c.self.view_is

@@ -20,7 +20,7 @@ returns-clause-refused g c = λ world stands alive.
       rests = c.refuse.ensures.rests;
       told = λ fresh.
           told_further c.self.inside.script world.plain c.args.pid (program.after c.self.inside.script (control_of world.plain c.args.pid) (Fail ENOMEM)) c.self.inside.known.items
-          c.forget.new.known.items (c.forget.ensures.gone, c.forget.ensures.others) (before.told fresh);
+          c.forget.new.known.items (c.forget.ensures.gone, c.forget.ensures.others) before.objects.reached (before.told fresh);
     } in
     subst (λ store. Stands (record { script = c.self.inside.script; objects = c.refuse.new.objects; known = c.forget.new.known.items; stale = c.self.inside.stale }) (refused_in store.script world c.args.pid)) c.self.view_is refused
 

@@ -29,7 +29,7 @@ returns-clause-turned g c = λ world stands.
     let before = subst (λ store. Stands store world) (sym c.self.view_is) stands in
     let turned = c.turn-turned.ensures.turned world before.objects in (
       turned.0,
-      record { objects = turned.1; rests = c.turn-turned.ensures.rests; told = c.keep_in_mind.ensures world turned.0 before.told turned.1.stands turned.2 },
+      record { objects = turned.1; rests = c.turn-turned.ensures.rests; told = c.keep_in_mind.ensures world turned.0 before.told turned.1.stands before.objects.reached turned.2 },
       subst (λ store. TurnsTo store.script world c.args.pid c.args.call.now c.turn-turned.result turned.0) c.self.view_is turned.2,
     )
 

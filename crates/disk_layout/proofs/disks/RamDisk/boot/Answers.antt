@@ -1,10 +1,12 @@
-use Rattle.std.proofs.Common.{◌≡◌, ap, refl, ◌∙◌, sym, arith, ◌+◌, ◌-◌, ◌/◌, ◌<◌, ◌≤◌, ◌++◌, List, ℕ, replicate, set, length}
+use Rattle.std.proofs.Common.{◌≡◌, ap, refl, ◌∙◌, arith, ◌+◌, ◌-◌, ◌/◌, ◌++◌, List, ℕ, replicate, set, length}
 use Rattle.posix_defs.specs.DiskFormat.{inode_bytes}
 use Rattle.posix_defs.specs.DiskContents.{zeros, new_root}
 use Rattle.disk_laws.proofs.FormattedDisk.{new_is_sound, new_root_is_empty}
 use Rattle.disk_laws.proofs.DiskStands.{formatted_stands}
 use Rattle.disk_layout.proofs.NewDisk.{is_formatted, length-new_root}
 use Rattle.disk_layout.proofs.RegionBlocks.{two_regions}
+use Rattle.std.proofs.lemmas.List.{length-set, length-replicate}
+use Rattle.disk_layout.proofs.TableBlocks.{noted_none}
 use Rattle.disk_layout.proofs.disks.RamDisk.boot.Goals as goal
 
 pub returns-clause-formatted : goal.returns-clause-formatted
@@ -23,6 +25,15 @@ returns-clause-formatted c =
     ∙ two_regions blocks first zero c.map_of.result c.block_of.result c.root_entries.result (omega (arith, c.requires.0)) (omega (arith, c.requires.0)) in
     is_formatted blocks first 1024 (replicate blocks zero) _ zero c.map_of.result c.block_of.result c.root_entries.result
     c.requires.0 refl refl refl refl disk_is c.map_of.ensures.len c.map_of.ensures.bytes table c.root_entries.ensures
+
+pub invariant_of-result : goal.invariant_of-result
+invariant_of-result c =
+    let first : ℕ = c.args.blocks / 16 + 1 in
+    let front : length c.write-2.new.self ≡ first =
+    ap length c.write-2.ensures ∙ length-set c.write.new.self 1 c.block_of.result ∙ ap length c.write.ensures ∙ length-set c.in_ok-table.table 0 c.map_of.result ∙ ap length c.in_ok-table.ensures ∙ length-replicate first (zeros 1024) in
+    let behind : length c.write-3.new.self ≡ c.args.blocks - first =
+    ap length c.write-3.ensures ∙ length-set c.in_ok-contents.contents 0 c.root_entries.result ∙ ap length c.in_ok-contents.ensures ∙ length-replicate (c.args.blocks - first) (zeros 1024) in
+    (omega (arith, front, behind, c.requires.0, c.requires.1), noted_none 32 c.write-2.new.self c.write-3.new.self (omega (arith, front, behind, c.requires.0)))
 
 pub returns-clause-sound : goal.returns-clause-sound
 returns-clause-sound c = new_is_sound c.args.blocks _ c.requires.0 c.requires.1 (returns-clause-formatted c)

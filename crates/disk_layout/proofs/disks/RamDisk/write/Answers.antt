@@ -1,4 +1,4 @@
-use Rattle.std.proofs.Common.{◌≡◌, ◌-◌, ◌++◌, ap, ◌∙◌, sym, refl, arith, length, set}
+use Rattle.std.proofs.Common.{◌-◌, ◌++◌, ap, ◌∙◌, sym, refl, arith, length, set}
 use Rattle.std.proofs.lemmas.List.{set-append_left, set-append_right}
 use Rattle.disk_layout.specs.Disk.{Disk}
 use Rattle.disk_layout.proofs.disks.RamDisk.write.Goals as goal

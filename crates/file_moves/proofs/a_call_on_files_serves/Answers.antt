@@ -1,6 +1,0 @@
-use Rattle.file_moves.proofs.Serving.{serves}
-use Rattle.file_moves.proofs.a_call_on_files_serves.Goals as goal
-
-pub returns : goal.returns
-returns c = λ script old mid new pid which said told answer moves within tells goes on.
-    serves script old mid new pid which said told within tells answer moves goes on

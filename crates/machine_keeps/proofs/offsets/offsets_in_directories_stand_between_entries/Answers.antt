@@ -1,5 +1,0 @@
-use Rattle.machine_keeps.proofs.Wholeness.{stands_between}
-use Rattle.machine_keeps.proofs.offsets.offsets_in_directories_stand_between_entries.Goals as goal
-
-pub returns : goal.returns
-returns c = stands_between

@@ -1,5 +1,0 @@
-use Rattle.machine_keeps.proofs.Joining.{reached_joined}
-use Rattle.machine_keeps.proofs.sockets.each_socket_is_named_once_or_waits.Goals as goal
-
-pub returns : goal.returns
-returns c = reached_joined

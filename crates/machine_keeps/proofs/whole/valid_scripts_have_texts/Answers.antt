@@ -1,5 +1,0 @@
-use Rattle.machine_keeps.proofs.Texting.{valid_texts}
-use Rattle.machine_keeps.proofs.whole.valid_scripts_have_texts.Goals as goal
-
-pub returns : goal.returns
-returns c = valid_texts

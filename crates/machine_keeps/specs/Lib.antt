@@ -1,4 +1,0 @@
-pub mod Piped
-pub mod Joined
-pub mod Bytes
-pub mod Texts

@@ -1,0 +1,496 @@
+-- Who has done a part of a call stands at a write to a pipe or a socket.
+use Rattle.std.proofs.Common.{◌≡◌, ◌≢◌, ℕ, zero, suc, ◌+◌, ◌<◌, ◌≤◌, ◌==◌, ℤ, pos, negsuc, Bool, true, false, cond, List, [], ◌∷◌, ◌++◌, length, Option, None, Some, unwrap_or, slice_get, refl, ap, sym, ◌∙◌, subst, inl, inr, arith}
+use Rattle.std.proofs.lemmas.Bool.Decides.{eqb_tells}
+use Rattle.std.proofs.lemmas.List.{get_or-set_same, get_or-set_other}
+use Rattle.std.proofs.lemmas.Option.{slice_get_past}
+use Rattle.kabi_types.specs.Arguments.{argument_fault, count_of}
+use Rattle.kabi_types.specs.declared.calls.Call.{Call}
+use Rattle.kabi_types.specs.declared.calls.Call.TheVariants as calls
+use Rattle.kabi_types.specs.declared.errnos.Errno.{Errno}
+use Rattle.kabi_types.specs.declared.errnos.Errno.TheVariants.{EAGAIN, ENOMEM, EPERM, ESRCH}
+use Rattle.kabi_types.specs.declared.replies.Reply.{Reply}
+use Rattle.kabi_types.specs.declared.replies.Reply.TheVariants.{Fail, Val, Waited}
+use Rattle.kabi_types.specs.declared.scripts.Control.{Control}
+use Rattle.kabi_types.specs.declared.scripts.Script.{Script}
+use Rattle.posix_defs.specs.Answer.{Answer, Ended, failed, replied}
+use Rattle.posix_defs.specs.ByPid.{at_pid, with_pid}
+use Rattle.posix_defs.specs.Control as program
+use Rattle.posix_defs.specs.Ending.{closed_by, die}
+use Rattle.posix_defs.specs.Forking.{child_of, is_full, with_child}
+use Rattle.posix_defs.specs.Killing.{is_asking, kill, sent_to, struck}
+use Rattle.posix_defs.specs.Killing as killing
+use Rattle.posix_defs.specs.Machine.{machine, unless_wrong}
+use Rattle.posix_defs.specs.Made.{further}
+use Rattle.posix_defs.specs.Memory.{no_memory}
+use Rattle.posix_defs.specs.MemoryCalls.{remembered}
+use Rattle.posix_defs.specs.Plain.{Plain, answered, at_start, boot_plain, call_of, control_of, last_pid, with_control, with_files, with_table}
+use Rattle.posix_defs.specs.Process.{Process, is_alive, is_alive_in, process_at, runs, with_directory}
+use Rattle.posix_defs.specs.Files.Descriptors.{Descriptor, descriptor_at, descriptor_of, is_named}
+use Rattle.posix_defs.specs.Files.Descriptions.{Description, description_at, with_description}
+use Rattle.posix_defs.specs.Files.State.{Files, descriptors_of, opened_as, with_heir, with_open}
+use Rattle.posix_defs.specs.Waiting.{reaped}
+use Rattle.posix_defs.specs.Files.Closing.{after_close, after_exec_of}
+use Rattle.posix_defs.specs.Files.Whole.{HasPlaces, is_queue, is_queue_in, is_write_of}
+use Rattle.posix_defs.specs.Calls.Opened.{Opened, opened_at, opened_by}
+use Rattle.posix_defs.specs.Calls.Starting.{started}
+use Rattle.kern_laws.proofs.Families.{alive_there}
+use Rattle.kern_laws.proofs.Nexts.{at_other}
+use Rattle.kern_laws.proofs.Remembering.{alive_still}
+use Rattle.kern_laws.proofs.TablePlaces.{below_or_not, get_front, get_set_same, is_gone, same_in_front, was_made, with_other}
+use Rattle.answer_laws.proofs.GoingOn.{call_part}
+use Rattle.machine_laws.specs.FileSteps as step
+use Rattle.machine_laws.specs.FileSteps.{IsStep, LeadsTo, Steps, may_end_other}
+use Rattle.machine_laws.specs.Placed.{IsPlaced}
+use Rattle.machine_laws.specs.Reached.{IsReached}
+use Rattle.answer_laws.specs.Shapes as shape
+use Rattle.answer_laws.specs.Shapes.{HasShape, IsPart}
+use Rattle.machine_laws.proofs.Naming.{by_named, target_descriptions}
+use Rattle.machine_laws.proofs.Places.{naming, names_there, not_some, opened_same, others_after, some_same, there_within}
+use Rattle.machine_laws.proofs.Placing.{alive_moved}
+use Rattle.machine_laws.proofs.Reaches.{reached_keeps}
+use Rattle.answer_laws.proofs.Shapes.{machine_shape}
+use Rattle.machine_laws.proofs.SharedOffsets.{stay_open}
+use Rattle.machine_laws.proofs.Shutting.{same_of, target_same}
+use Rattle.machine_laws.proofs.Stepping.{step_of}
+use Rattle.machine_laws.proofs.Closings.{IsClosedUnder, close_holds, exec_holds, one_end_holds, without}
+use Rattle.machine_laws.proofs.Inductions.{by_induction}
+use Rattle.machine_laws.proofs.Items.{pushed_front, true_false}
+use Rattle.machine_laws.proofs.Surviving.{survives}
+
+-- ---- where a process stands
+
+-- a process's call is a write to what a descriptor of its has open, a pipe or a socket
+record AtQueue (files : Files) (who : ℕ) (call : Call) : Type 0 where
+  fd : ℤ
+  addr : ℤ
+  n : ℤ
+  done : ℕ
+  opened : Opened
+  which : call ≡ calls.Write fd addr n done
+  named : opened_at files who fd ≡ Some opened
+  queue : is_queue opened.is.target ≡ true
+
+at_queue : (files : Files) (who : ℕ) (call : Call) → is_write_of files who call ≡ true → AtQueue files who call
+at_queue files who (calls.Write fd addr n done) e = go (opened_at files who fd) refl e
+  where
+    go : (o : Option Opened) → opened_at files who fd ≡ o → is_queue_in o ≡ true → AtQueue files who (calls.Write fd addr n done)
+    go None is f = absurd (true_false false f refl)
+    go (Some opened) is f = record { fd = fd; addr = addr; n = n; done = done; opened = opened; which = refl; named = is; queue = f }
+at_queue files who _ e = absurd (true_false false e refl)
+
+queue_at : (files : Files) (who : ℕ) (call : Call) → AtQueue files who call → is_write_of files who call ≡ true
+queue_at files who call at = ap (is_write_of files who) at.which ∙ ap is_queue_in at.named ∙ at.queue
+
+-- ---- what others have open
+
+-- what a process has open it has open still, on the same
+record KeepsOpen (old new : Files) (who : ℕ) : Type 0 where
+  each : (fd : ℤ) (opened : Opened) → opened_at old who fd ≡ Some opened → (now : Opened) × (opened_at new who fd ≡ Some now) × (now.is.target ≡ opened.is.target)
+
+stands_still : (old new : Files) (who : ℕ) (call : Call) → KeepsOpen old new who → is_write_of old who call ≡ true → is_write_of new who call ≡ true
+stands_still old new who call keeps stood = let at = at_queue old who call stood in let now = keeps.each at.fd at.opened at.named in
+    queue_at new who call (record { fd = at.fd; addr = at.addr; n = at.n; done = at.done; opened = now.0; which = at.which; named = now.1; queue = ap is_queue now.2 ∙ at.queue })
+
+keeps_by : (old new : Files) (who : ℕ) → descriptors_of new who ≡ descriptors_of old who
+    → ((fd : ℤ) (descriptor : Descriptor) (description : Description) → descriptor_of (descriptors_of old who) fd ≡ Some descriptor → description_at old.descriptions descriptor.description ≡ Some description
+    → (now : Description) × (description_at new.descriptions descriptor.description ≡ Some now) × (now.target ≡ description.target)) → KeepsOpen old new who
+keeps_by old new who same stay = record { each = each }
+  where
+    each : (fd : ℤ) (opened : Opened) → opened_at old who fd ≡ Some opened → (now : Opened) × (opened_at new who fd ≡ Some now) × (now.is.target ≡ opened.is.target)
+    each fd opened is = let naming_it = naming old who fd opened is in
+        let now = stay fd naming_it.descriptor opened.is naming_it.held (ap (description_at old.descriptions) naming_it.place ∙ naming_it.there) in (
+          record { place = opened.place; is = now.0 },
+          names_there new who fd naming_it.descriptor opened.place now.0 (ap (λ list. descriptor_of list fd) same ∙ naming_it.held) naming_it.place (ap (description_at new.descriptions) (sym naming_it.place) ∙ now.1),
+          now.2,
+        )
+
+keeps_same : (old new : Files) (who : ℕ) → descriptors_of new who ≡ descriptors_of old who → new.descriptions ≡ old.descriptions → KeepsOpen old new who
+keeps_same old new who same descriptions = keeps_by old new who same (λ fd descriptor description held is. (description, ap (λ list. description_at list descriptor.description) descriptions ∙ is, refl))
+
+keeps_on : (old between new : Files) (who : ℕ) → KeepsOpen old between who → KeepsOpen between new who → KeepsOpen old new who
+keeps_on old between new who one two = record {
+  each = λ fd opened is. let first = one.each fd opened is in let second = two.each fd first.0 first.1 in (second.0, second.1, second.2 ∙ first.2);
+}
+
+module _ (files : Files) (pid who : ℕ) (apart : who ≢ pid) where
+  other_keeps : (fd : ℕ) (descriptor : Option Descriptor) → KeepsOpen files (with_open files pid fd descriptor) who
+  other_keeps fd descriptor = keeps_same files (with_open files pid fd descriptor) who (others_after files pid who fd descriptor apart) refl
+
+  opened_keeps : (fd : ℕ) (cloexec : Bool) (description : Description) → KeepsOpen files (opened_as files pid fd cloexec description) who
+  opened_keeps fd cloexec description = keeps_by files (opened_as files pid fd cloexec description) who (others_after files pid who fd (Some (record { description = length files.descriptions; cloexec = cloexec })) apart)
+      (λ at descriptor before held is. (before, pushed_front files.descriptions (Some description) descriptor.description before is, refl))
+
+-- a description is open on the same still
+described_keeps : (files new : Files) (who place : ℕ) (was now : Description) → description_at files.descriptions place ≡ Some was → now.target ≡ was.target
+    → descriptors_of new who ≡ descriptors_of files who → new.descriptions ≡ with_description files.descriptions place (Some now) → KeepsOpen files new who
+described_keeps files new who place was now there target same descriptions = keeps_by files new who same (λ fd descriptor description held is. at descriptor.description description is)
+  where
+    at : (other : ℕ) (description : Description) → description_at files.descriptions other ≡ Some description
+        → (after : Description) × (description_at new.descriptions other ≡ Some after) × (after.target ≡ description.target)
+    at other description is = elim (eqb_tells other place) [
+      | inl alike ↦ (
+        now,
+        ap (λ list. description_at list other) descriptions ∙ ap (description_at (with_description files.descriptions place (Some now))) alike.1
+            ∙ get_or-set_same files.descriptions place (Some now) None (there_within files.descriptions place was there),
+        target ∙ ap (λ d. d.target) (some_same (description_at files.descriptions other) was description (ap (description_at files.descriptions) alike.1 ∙ there) is),
+      )
+      | inr apart ↦ (description, ap (λ list. description_at list other) descriptions ∙ get_or-set_other files.descriptions place other (Some now) None apart.1 ∙ is, refl)
+    ]
+
+-- ---- others close
+
+-- what one process names is as it was
+record StaysNamed (old : Files) (who : ℕ) (files : Files) : Type 0 where
+  same : descriptors_of files who ≡ descriptors_of old who
+  stay : (fd : ℕ) (descriptor : Descriptor) → descriptor_at (descriptors_of old who) fd ≡ Some descriptor
+      → description_at files.descriptions descriptor.description ≡ description_at old.descriptions descriptor.description
+
+named_closed : (old : Files) (who : ℕ) → IsClosedUnder (λ pid. who ≢ pid) (StaysNamed old who)
+named_closed old who = record {
+  shut = λ files pid fd apart stays. record { same = others_after files pid who fd None apart ∙ stays.same; stay = stays.stay };
+  gone = gone;
+}
+  where
+    gone : (files : Files) (place : ℕ) (description : Description) → StaysNamed old who files → description_at files.descriptions place ≡ Some description
+        → is_named files.descriptors place ≡ false → StaysNamed old who (without files place description)
+    gone files place description stays is none = record {
+      same = same_of files (without files place description) (target_same (record files { descriptions = with_description files.descriptions place None }) description.access description.target) who ∙ stays.same;
+      stay = λ fd descriptor held. ap (λ list. description_at list descriptor.description) (target_descriptions (record files { descriptions = with_description files.descriptions place None }) description.access description.target)
+          ∙ get_or-set_other files.descriptions place descriptor.description None None (apart fd descriptor held) ∙ stays.stay fd descriptor held;
+    }
+      where
+        apart : (fd : ℕ) (descriptor : Descriptor) → descriptor_at (descriptors_of old who) fd ≡ Some descriptor → descriptor.description ≢ place
+        apart fd descriptor held same_place = true_false (is_named files.descriptors place)
+            (by_named files place (record { who = who; fd = fd; descriptor = descriptor; held = ap (λ list. descriptor_at list fd) stays.same ∙ held; names = same_place })) none
+
+stays_now : (files : Files) (who : ℕ) → StaysNamed files who files
+stays_now files who = record { same = refl; stay = λ fd descriptor held. refl }
+
+keeps_named : (old new : Files) (who : ℕ) → StaysNamed old who new → KeepsOpen old new who
+keeps_named old new who stays = keeps_by old new who stays.same at
+  where
+    at : (fd : ℤ) (descriptor : Descriptor) (description : Description) → descriptor_of (descriptors_of old who) fd ≡ Some descriptor → description_at old.descriptions descriptor.description ≡ Some description
+        → (now : Description) × (description_at new.descriptions descriptor.description ≡ Some now) × (now.target ≡ description.target)
+    at (pos fd) descriptor description held is = (description, stays.stay fd descriptor held ∙ is, refl)
+    at (negsuc n) descriptor description held is = absurd (not_some refl held)
+
+-- ---- steps
+
+module _ (plain : Plain) (pid : ℕ) (call : Call) (next : Files) (who : ℕ) (apart : who ≢ pid) (no_fork : call ≢ calls.Fork) (no_other : may_end_other call ≡ false) where
+  by : (after : Files) → next ≡ after → KeepsOpen plain.files after who → KeepsOpen plain.files next who
+  by after is keeps = subst (λ files. KeepsOpen plain.files files who) (sym is) keeps
+
+  same : (after : Files) → next ≡ after → after.descriptors ≡ plain.files.descriptors → after.descriptions ≡ plain.files.descriptions → KeepsOpen plain.files next who
+  same after is descriptors descriptions = by after is (keeps_same plain.files after who (same_of plain.files after descriptors who) descriptions)
+
+  -- opened where neither descriptors nor descriptions changed before
+  one : (files : Files) (fd : ℕ) (cloexec : Bool) (description : Description) → files.descriptors ≡ plain.files.descriptors → files.descriptions ≡ plain.files.descriptions
+      → KeepsOpen plain.files (opened_as files pid fd cloexec description) who
+  one files fd cloexec description descriptors descriptions = keeps_on plain.files files (opened_as files pid fd cloexec description) who
+      (keeps_same plain.files files who (same_of plain.files files descriptors who) descriptions) (opened_keeps files pid who apart fd cloexec description)
+
+  two : (files : Files) (first second : ℕ) (first_is second_is : Description) → files.descriptors ≡ plain.files.descriptors → files.descriptions ≡ plain.files.descriptions
+      → KeepsOpen plain.files (opened_as (opened_as files pid first false first_is) pid second false second_is) who
+  two files first second first_is second_is descriptors descriptions =
+      keeps_on plain.files (opened_as files pid first false first_is) (opened_as (opened_as files pid first false first_is) pid second false second_is) who
+      (one files first false first_is descriptors descriptions) (opened_keeps (opened_as files pid first false first_is) pid who apart second false second_is)
+
+  closes : (fd : ℕ) → KeepsOpen plain.files (after_close plain.files pid fd) who
+  closes fd = keeps_named plain.files (after_close plain.files pid fd) who
+      (close_holds (λ other. who ≢ other) (StaysNamed plain.files who) (named_closed plain.files who) plain.files pid fd apart (stays_now plain.files who))
+
+  described : (fd : ℤ) (opened : Opened) (now : Description) (after : Files) → opened_at plain.files pid fd ≡ Some opened → now.target ≡ opened.is.target
+      → after.descriptors ≡ plain.files.descriptors → after.descriptions ≡ with_description plain.files.descriptions opened.place (Some now) → KeepsOpen plain.files after who
+  described fd opened now after named target descriptors descriptions = let naming_it = naming plain.files pid fd opened named in
+      described_keeps plain.files after who opened.place opened.is now naming_it.there target (same_of plain.files after descriptors who) descriptions
+
+  step_keeps : IsStep plain pid call true next → KeepsOpen plain.files next who
+  step_keeps (step.stays is) = same _ is refl refl
+  step_keeps (step.shares fd opened from to named free is) = by _ is (other_keeps plain.files pid who apart to _)
+  step_keeps (step.shares_over fd to opened named may differ is) = by _ is (keeps_on plain.files (after_close plain.files pid (count_of to)) _ who (closes (count_of to))
+      (other_keeps (after_close plain.files pid (count_of to)) pid who apart (count_of to) _))
+  step_keeps (step.marks fd opened cloexec named is) = by _ is (other_keeps plain.files pid who apart (count_of fd) _)
+  step_keeps (step.closes fd opened named is) = by _ is (closes (count_of fd))
+  step_keeps (step.describes fd opened description named target access between is) = by _ is (described fd opened description _ named target refl refl)
+  step_keeps (step.opens path flags fd found which free led is) = by _ is (one _ fd _ _ refl refl)
+  step_keeps (step.writes fd addr n done opened number at offset written reaches wrote is) = by _ is (described fd opened _ _ reaches.named refl refl refl)
+  step_keeps (step.writes_at fd addr n opened number at written reaches wrote is) = same _ is refl refl
+  step_keeps (step.resizes fd opened number size tree reaches sized is) = same _ is refl refl
+  step_keeps (step.makes path made which led is) = same _ is refl refl
+  step_keeps (step.removes path tree which led is) = same _ is refl refl
+  step_keeps (step.links old new tree which led is) = same _ is refl refl
+  step_keeps (step.unlinks path left which led is) = same _ is refl refl
+  step_keeps (step.renames old new left which led is) = same _ is refl refl
+  step_keeps (step.pipes free_two free is) = by _ is (two _ free_two.first free_two.second _ _ refl refl)
+  step_keeps (step.takes fd addr n opened place k which named on may moves is) = same _ is refl refl
+  step_keeps (step.puts fd addr n done opened place k which named on may moves is) = same _ is refl refl
+  step_keeps (step.sockets fd free is) = by _ is (one _ fd _ _ refl refl)
+  step_keeps (step.pairs free_two free is) = by _ is (two _ free_two.first free_two.second _ _ refl refl)
+  step_keeps (step.binds fd path opened place made which named on fine led is) = same _ is refl refl
+  step_keeps (step.listens fd opened place named on fine is) = same _ is refl refl
+  step_keeps (step.shuts fd how opened place named on fine is) = same _ is refl refl
+  step_keeps (step.connects fd opened place number listener named on fine listening room is) = same _ is refl refl
+  step_keeps (step.accepts fd opened place to taken named on free first is) = by _ is (one _ to _ _ refl refl)
+  step_keeps (step.receives fd addr n opened place k which named on moves is) = same _ is refl refl
+  step_keeps (step.sends fd addr n done opened place k which named on moves is) = same _ is refl refl
+  step_keeps (step.starts is) = by _ is (keeps_named plain.files _ who
+      (exec_holds (λ other. who ≢ other) (StaysNamed plain.files who) (named_closed plain.files who) plain.files pid apart (stays_now plain.files who)))
+  step_keeps (step.forks which is) = absurd (no_fork which)
+  step_keeps (step.ends_caller over ending is) = absurd (true_false true refl over)
+  step_keeps (step.ends_other dead ending is) = absurd (true_false (may_end_other call) ending no_other)
+
+-- ---- controls
+
+-- who has a control of which nothing is done has nothing done, whether he was made or not
+none_done : (plain : Plain) (pid : ℕ) (control : Control) → control.done ≡ 0 → (control_of (with_control plain pid control) pid).done ≡ 0
+none_done plain zero control none = refl
+none_done plain (suc i) control none = elim (below_or_not i (length plain.controls)) [
+  | inl h ↦ ap (λ found. (unwrap_or found (at_start 0)).done) (get_set_same plain.controls i control h) ∙ none
+  | inr h ↦ ap (λ found. (unwrap_or found (at_start 0)).done) (slice_get_past (with_pid plain.controls (suc i) control) i
+      (subst (λ n. n ≤ i) (sym (length_set plain.controls i)) h))
+]
+  where
+    length_set : (controls : List Control) (i : ℕ) → length (with_pid controls (suc i) control) ≡ length controls
+    length_set [] i = refl
+    length_set (x ∷ xs) zero = refl
+    length_set (x ∷ xs) (suc i) = ap (λ n. suc n) (length_set xs i)
+
+other_control : (plain : Plain) (pid who : ℕ) (control : Control) → who ≢ pid → control_of (with_control plain pid control) who ≡ control_of plain who
+other_control plain pid who control apart = ap (λ found. unwrap_or found (at_start 0)) (at_other plain.controls pid who control apart)
+
+-- ---- answers
+
+abbrev Half : Script → Plain → Type 0
+Half script plain = (who : ℕ) → is_alive plain.table who ≡ true → 0 < (control_of plain who).done → is_write_of plain.files who (call_of script plain who) ≡ true
+
+-- what becomes of all others, where one goes on or ends
+record Others (plain next : Plain) (pid : ℕ) : Type 0 where
+  control : (who : ℕ) → who ≢ pid → is_alive next.table who ≡ true → control_of next who ≡ control_of plain who
+  lived : (who : ℕ) → who ≢ pid → is_alive next.table who ≡ true → is_alive plain.table who ≡ true
+  opened : (who : ℕ) → who ≢ pid → is_alive next.table who ≡ true → KeepsOpen plain.files next.files who
+
+half_on : (script : Script) (plain next : Plain) (pid : ℕ) → Half script plain → Others plain next pid
+    → (is_alive next.table pid ≡ true → 0 < (control_of next pid).done → is_write_of next.files pid (call_of script next pid) ≡ true) → Half script next
+half_on script plain next pid half others own who alive some = elim (eqb_tells who pid) [
+  | inl same ↦ subst (λ p. is_write_of next.files p (call_of script next p) ≡ true) (sym same.1)
+      (own (subst (λ p. is_alive next.table p ≡ true) same.1 alive) (subst (λ p. 0 < (control_of next p).done) same.1 some))
+  | inr apart ↦ ap (λ c. is_write_of next.files who (program.call_of script c)) (others.control who apart.1 alive)
+      ∙ stands_still plain.files next.files who (call_of script plain who) (others.opened who apart.1 alive)
+      (half who (others.lived who apart.1 alive) (subst (λ c. 0 < c.done) (others.control who apart.1 alive) some))
+]
+
+-- who goes on behind a call has nothing done of the next
+nothing_done : (script : Script) (plain : Plain) (pid : ℕ) (said : Reply) → 0 < (control_of (answered script plain pid said) pid).done → ⊥
+nothing_done script plain pid said some =
+    let none : (control_of (answered script plain pid said) pid).done ≡ 0 = none_done plain pid (program.after script (control_of plain pid) said) refl in omega arith
+
+-- the caller goes on, after something that left the controls
+answered_half : (script : Script) (plain base : Plain) (pid : ℕ) (said : Reply) → Half script plain → base.controls ≡ plain.controls
+    → ((who : ℕ) → who ≢ pid → is_alive base.table who ≡ true → is_alive plain.table who ≡ true)
+    → ((who : ℕ) → who ≢ pid → is_alive base.table who ≡ true → KeepsOpen plain.files base.files who) → Half script (answered script base pid said)
+answered_half script plain base pid said half controls lived opened = half_on script plain (answered script base pid said) pid half (record {
+  control = λ who apart alive. other_control base pid who (program.after script (control_of base pid) said) apart ∙ ap (λ list. unwrap_or (at_pid list who) (at_start 0)) controls;
+  lived = lived;
+  opened = opened;
+}) (λ alive some. absurd (nothing_done script base pid said some))
+
+-- a process ends
+die_half : (script : Script) (plain : Plain) (pid status : ℕ) → Half script plain → Half script (die plain pid status)
+die_half script plain pid status half who alive some = let was = survives plain.table pid status who alive in
+    stands_still plain.files (closed_by plain.files pid) who (call_of script plain who)
+    (keeps_named plain.files (closed_by plain.files pid) who
+    (one_end_holds (λ other. who ≢ other) (StaysNamed plain.files who) (named_closed plain.files who) plain.files pid was.not_first was.apart (stays_now plain.files who)))
+    (half who was.alive some)
+
+-- ---- kill
+
+kill_is : (script : Script) (plain : Plain) (pid : ℕ) (Holds : Answer → Type 0) → ((e : Errno) → Holds (failed script plain pid e)) → Holds (replied script plain pid (Val (pos 0)))
+    → ((status : ℕ) → Holds (Ended status (die plain pid status))) → ((target status : ℕ) → Holds (replied script (die plain target status) pid (Val (pos 0)))) → (target signal : ℤ) → Holds (kill script plain pid target signal)
+kill_is script plain pid Holds fails says ends others (negsuc n) signal = fails ESRCH
+kill_is script plain pid Holds fails says ends others (pos target) signal = go (process_at plain.table target)
+  where
+    strikes : (own : Bool) → Holds (cond own (Ended (count_of signal) (die plain pid (count_of signal))) (replied script (die plain target (count_of signal)) pid (Val (pos 0))))
+    strikes true = ends (count_of signal)
+    strikes false = others target (count_of signal)
+
+    lives : (b : Bool) → Holds (cond b (struck script plain pid target (count_of signal)) (replied script plain pid (Val (pos 0))))
+    lives true = strikes (target == pid)
+    lives false = says
+
+    first : (process : Process) (b : Bool) → Holds (cond b (failed script plain pid EPERM) (killing.ends script plain pid target (count_of signal) process))
+    first process true = fails EPERM
+    first process false = lives (runs process.status)
+
+    asks : (process : Process) (b : Bool) → Holds (cond b (replied script plain pid (Val (pos 0))) (cond (target == 1) (failed script plain pid EPERM) (killing.ends script plain pid target (count_of signal) process)))
+    asks process true = says
+    asks process false = first process (target == 1)
+
+    go : (o : Option Process) → Holds (sent_to script plain pid target signal o)
+    go None = fails ESRCH
+    go (Some process) = asks process (is_asking signal)
+
+-- ---- a caller's answer
+
+-- the call is `fork`
+abbrev is_fork : Call → Bool
+is_fork calls.Fork = true
+is_fork _ = false
+
+fork_is : (call : Call) → is_fork call ≡ true → call ≡ calls.Fork
+fork_is calls.Fork is = refl
+fork_is _ is = absurd (true_false false is refl)
+
+module _ (script : Script) (plain : Plain) (pid : ℕ) (half : Half script plain) (placed : IsPlaced plain) (alive : is_alive plain.table pid ≡ true) where
+  still : (said : Reply) → Half script (answered script plain pid said)
+  still said = answered_half script plain plain pid said half refl (λ who apart lives. lives) (λ who apart lives. keeps_same plain.files plain.files who refl refl)
+
+  dies_on : (target status : ℕ) (said : Reply) → Half script (answered script (die plain target status) pid said)
+  dies_on target status said = answered_half script (die plain target status) (die plain target status) pid said (die_half script plain target status half) refl (λ who apart lives. lives) (λ who apart lives. keeps_same _ _ who refl refl)
+
+  -- a child has nothing done
+  forks_on : (said : Reply) → Half script (answered script (with_child script plain pid) pid said)
+  forks_on said who lives some = elim (eqb_tells who pid) [
+    | inl same ↦ absurd (nothing_done script (with_child script plain pid) pid said (subst (λ p. 0 < (control_of (answered script (with_child script plain pid) pid said) p).done) same.1 some))
+    | inr apart ↦ elim (below_or_not (last_pid plain) who) [
+      | inl new ↦ absurd (let none : (control_of (with_child script plain pid) who).done ≡ 0 = past_done who new in
+          let is : (control_of (answered script (with_child script plain pid) pid said) who).done ≡ (control_of (with_child script plain pid) who).done =
+          ap (λ c. c.done) (other_control (with_child script plain pid) pid who (program.after script (control_of (with_child script plain pid) pid) said) apart.1) in omega arith)
+      | inr old ↦ ap (λ c. is_write_of (with_heir plain.files pid) who (program.call_of script c)) (as_before who apart.1 old)
+          ∙ stands_still plain.files (with_heir plain.files pid) who (call_of script plain who)
+          (keeps_same plain.files (with_heir plain.files pid) who (stay_open plain.files pid who (subst (λ n. who ≤ n) (sym placed_is.counted) old)) refl)
+          (half who (sym (ap is_alive_in (same_in_front plain.table (child_of pid (process_at plain.table pid)) who (subst (λ n. who ≤ n) (sym placed.counted) old))) ∙ lives)
+          (subst (λ c. 0 < c.done) (as_before who apart.1 old) some))
+    ]
+  ]
+    where
+      placed_is : HasPlaces plain
+      placed_is = placed.places
+
+      born : Control
+      born = program.after script (control_of plain pid) (Val (pos 0))
+
+      past : (controls : List Control) (i : ℕ) → length controls ≤ i → (unwrap_or (slice_get (controls ++ born ∷ []) i) (at_start 0)).done ≡ 0
+      past [] zero h = refl
+      past [] (suc i) h = refl
+      past (x ∷ xs) zero h = absurd (omega arith)
+      past (x ∷ xs) (suc i) h = past xs i (omega arith)
+
+      past_done : (other : ℕ) → last_pid plain < other → (control_of (with_child script plain pid) other).done ≡ 0
+      past_done zero h = refl
+      past_done (suc i) h = past plain.controls i (omega arith)
+
+      in_front : (other : ℕ) → other ≤ last_pid plain → control_of (with_child script plain pid) other ≡ control_of plain other
+      in_front zero h = refl
+      in_front (suc i) h = ap (λ found. unwrap_or found (at_start 0)) (get_front plain.controls (born ∷ []) i (omega arith))
+
+      as_before : (other : ℕ) → other ≢ pid → other ≤ last_pid plain → control_of (answered script (with_child script plain pid) pid said) other ≡ control_of plain other
+      as_before other apart h = other_control (with_child script plain pid) pid other (program.after script (control_of (with_child script plain pid) pid) said) apart ∙ in_front other h
+
+  -- who is alive after one was waited for was alive before
+  lives_reaped : (child who : ℕ) → is_alive (with_pid plain.table child None) who ≡ true → is_alive plain.table who ≡ true
+  lives_reaped child who lives = elim (eqb_tells who child) [
+    | inl same ↦ absurd (true_false (is_alive (with_pid plain.table child None) who) lives
+        (ap (is_alive (with_pid plain.table child None)) same.1 ∙ ap is_alive_in (is_gone plain.table child)))
+    | inr apart ↦ sym (ap is_alive_in (with_other plain.table child who None apart.1)) ∙ lives
+  ]
+
+  -- a part of a write is done
+  part_on : (call : Call) (files : Files) (moved : ℕ) → call_of script plain pid ≡ call → IsPart plain pid call files → ((who : ℕ) → who ≢ pid → KeepsOpen plain.files files who)
+      → Half script (with_control (with_files plain files) pid (program.after_part (control_of plain pid) moved))
+  part_on call files moved asked part others = half_on script plain (with_control (with_files plain files) pid (program.after_part (control_of plain pid) moved)) pid half (record {
+    control = λ who apart lives. other_control (with_files plain files) pid who (program.after_part (control_of plain pid) moved) apart;
+    lived = λ who apart lives. lives;
+    opened = λ who apart lives. others who apart;
+  }) (λ own_lives some. queue_at files pid (call_of script (with_control (with_files plain files) pid (program.after_part (control_of plain pid) moved)) pid) (record {
+    fd = part.fd;
+    addr = part.addr;
+    n = part.n;
+    done = part.done + moved;
+    opened = part.opened;
+    which = ap (program.call_of script) own_control ∙ call_part script (control_of plain pid) moved ∙ ap (further moved) (asked ∙ part.which);
+    named = ap (λ list. opened_by files (descriptor_of list part.fd)) (same_of plain.files files part.descriptors pid)
+        ∙ opened_same plain.files files (descriptor_of (descriptors_of plain.files pid) part.fd) part.descriptions ∙ part.named;
+    queue = part.queue;
+  }))
+    where
+      made : (0 < pid) × (pid ≤ length plain.table)
+      made = let there = alive_there plain.table pid alive in was_made plain.table pid there.0 there.1
+
+      own : (p : ℕ) → 0 < p → p ≤ last_pid plain → (control : Control) → control_of (with_control (with_files plain files) p control) p ≡ control
+      own zero h within control = absurd (omega arith)
+      own (suc i) h within control = ap (λ found. unwrap_or found (at_start 0)) (get_set_same plain.controls i control (omega arith))
+
+      own_control : control_of (with_control (with_files plain files) pid (program.after_part (control_of plain pid) moved)) pid ≡ program.after_part (control_of plain pid) moved
+      own_control = own pid made.0 (subst (λ n. pid ≤ n) placed.counted made.1) (program.after_part (control_of plain pid) moved)
+
+  by_shape : (call : Call) → call_of script plain pid ≡ call → call ≢ calls.Fork → may_end_other call ≡ false → (given : Answer) → Steps plain pid call given
+      → HasShape script plain pid call given → LeadsTo (Half script) given
+  by_shape call asked no_fork no_other given stepped (shape.blocks may is) = subst (LeadsTo (Half script)) (sym is) tt
+  by_shape call asked no_fork no_other given stepped (shape.fails errno other is) = subst (LeadsTo (Half script)) (sym is) (still (Fail errno))
+  by_shape call asked no_fork no_other given stepped (shape.tells files said is_said is) = subst (LeadsTo (Half script)) (sym is)
+      (answered_half script plain (with_files plain files) pid said half refl (λ who apart lives. lives)
+      (λ who apart lives. step_keeps plain pid call files who apart no_fork no_other (subst (Steps plain pid call) is stepped)))
+  by_shape call asked no_fork no_other given stepped (shape.puts files memory said is_said what is) = subst (LeadsTo (Half script)) (sym is)
+      (answered_half script plain (remembered (with_files plain files) pid memory) pid said half refl (λ who apart lives. sym (alive_still plain.table pid who memory) ∙ lives)
+      (λ who apart lives. step_keeps plain pid call files who apart no_fork no_other (subst (Steps plain pid call) is stepped)))
+  by_shape call asked no_fork no_other given stepped (shape.moves path directory called led is) = subst (LeadsTo (Half script)) (sym is)
+      (answered_half script plain (with_table plain (with_directory plain.table pid directory)) pid (Val (pos 0)) half refl (λ who apart lives. sym (alive_moved plain.table pid directory who alive) ∙ lives)
+      (λ who apart lives. keeps_same plain.files plain.files who refl refl))
+  by_shape call asked no_fork no_other given stepped (shape.parts files moved part is) = subst (LeadsTo (Half script)) (sym is)
+      (part_on call files moved asked part (λ who apart. step_keeps plain pid call files who apart no_fork no_other (subst (Steps plain pid call) is stepped)))
+  by_shape call asked no_fork no_other given stepped (shape.starts place is) = subst (LeadsTo (Half script)) (sym is)
+      (half_on script plain (started script plain pid place) pid half (record {
+        control = λ who apart lives. other_control (with_files (remembered plain pid no_memory) (after_exec_of plain.files pid)) pid who
+            (program.restarted (program.settled script (control_of plain pid)) place) apart;
+        lived = λ who apart lives. sym (alive_still plain.table pid who no_memory) ∙ lives;
+        opened = λ who apart lives. keeps_named plain.files (after_exec_of plain.files pid) who
+            (exec_holds (λ other. who ≢ other) (StaysNamed plain.files who) (named_closed plain.files who) plain.files pid apart (stays_now plain.files who));
+      }) (λ own_lives some. absurd (
+      let none : (control_of (started script plain pid place) pid).done ≡ 0 =
+      none_done (with_files (remembered plain pid no_memory) (after_exec_of plain.files pid)) pid (program.restarted (program.settled script (control_of plain pid)) place) refl in omega arith)))
+  by_shape call asked no_fork no_other given stepped (shape.forks is) = subst (LeadsTo (Half script)) (sym is) (forks_on (Val (pos (last_pid plain + 1))))
+  by_shape call asked no_fork no_other given stepped (shape.reaps child status ended is) = subst (LeadsTo (Half script)) (sym is)
+      (answered_half script plain (reaped plain child) pid (Waited child status) half refl (λ who apart lives. lives_reaped child who lives) (λ who apart lives. keeps_same plain.files plain.files who refl refl))
+  by_shape call asked no_fork no_other given stepped (shape.ends status is) = subst (LeadsTo (Half script)) (sym is) (die_half script plain pid status half)
+  by_shape call asked no_fork no_other given stepped (shape.ends_another target signal called first own lives is) = subst (LeadsTo (Half script)) (sym is) (dies_on target (count_of signal) (Val (pos 0)))
+
+  -- ---- the call that may end another, and `fork`
+
+  ends_on : (call : Call) → may_end_other call ≡ true → LeadsTo (Half script) (machine script plain pid call)
+  ends_on (calls.Kill target signal) is = go (argument_fault (calls.Kill target signal))
+    where
+      go : (fault : Option Errno) → LeadsTo (Half script) (unless_wrong script plain pid fault (kill script plain pid target signal))
+      go (Some e) = still (Fail e)
+      go None = kill_is script plain pid (LeadsTo (Half script)) (λ e. still (Fail e)) (still (Val (pos 0))) (λ status. die_half script plain pid status half) (λ dead status. dies_on dead status (Val (pos 0))) target signal
+  ends_on _ is = absurd (true_false false is refl)
+
+  fork_on : LeadsTo (Half script) (machine script plain pid calls.Fork)
+  fork_on = go (is_full plain)
+    where
+      go : (b : Bool) → LeadsTo (Half script) (cond b (failed script plain pid EAGAIN) (replied script (with_child script plain pid) pid (Val (pos (last_pid plain + 1)))))
+      go true = still (Fail EAGAIN)
+      go false = forks_on (Val (pos (last_pid plain + 1)))
+
+  answers_half : LeadsTo (Half script) (machine script plain pid (call_of script plain pid))
+  answers_half = go (may_end_other (call_of script plain pid)) refl (is_fork (call_of script plain pid)) refl
+    where
+      go : (ends : Bool) → may_end_other (call_of script plain pid) ≡ ends → (forks : Bool) → is_fork (call_of script plain pid) ≡ forks → LeadsTo (Half script) (machine script plain pid (call_of script plain pid))
+      go true ending forks is = ends_on (call_of script plain pid) ending
+      go false ending true is = subst (λ which. LeadsTo (Half script) (machine script plain pid which)) (sym (fork_is (call_of script plain pid) is)) fork_on
+      go false ending false is = by_shape (call_of script plain pid) refl (λ same. true_false (is_fork (call_of script plain pid)) (ap is_fork same) is) ending (machine script plain pid (call_of script plain pid))
+          (step_of script plain pid (call_of script plain pid)) (machine_shape script plain pid (call_of script plain pid))
+
+-- ---- every machine
+
+boot_half : (script : Script) → Half script (boot_plain script)
+boot_half script zero alive some = absurd (omega arith)
+boot_half script (suc zero) alive some = absurd (omega arith)
+boot_half script (suc (suc n)) alive some = absurd (omega arith)
+
+pub reached_half : (script : Script) (plain : Plain) → IsReached script plain → Half script plain
+reached_half script plain reached = by_induction script (Half script) (record {
+  boot = boot_half script;
+  answer = λ before pid reached half alive. let kept = reached_keeps reached in answers_half script before pid half kept.0 alive;
+  refuse = λ before pid reached half. answered_half script before before pid (Fail ENOMEM) half refl (λ who apart lives. lives) (λ who apart lives. keeps_same before.files before.files who refl refl);
+  kill = λ before pid status reached half. die_half script before pid status half;
+}) reached

@@ -1,4 +1,0 @@
-pub mod Moving
-pub mod Numbers
-pub mod Replying
-pub mod Leaving

@@ -1,5 +1,0 @@
-use Rattle.place_laws.proofs.PlaceLemmas.{law_changes}
-use Rattle.place_laws.proofs.an_object_changes_in_its_place.Goals as goal
-
-pub returns : goal.returns
-returns g c = law_changes

@@ -1,3 +1,0 @@
-pub mod Having
-pub mod Naming
-pub mod Queues

@@ -1,0 +1,44 @@
+-- A number names a description that is open: heap, table, tree and names go on standing for files.
+use Rattle.std.proofs.Common.{◌≡◌, ℕ, ◌+◌, List, Option, ap, subst, sym}
+use Rattle.kheap_slabs.specs.declared.objects.Sock.{Sock}
+use Rattle.kheap_slabs.specs.Heap.{Heap}
+use Rattle.memfs_ops.specs.FileTree.{TreeView}
+use Rattle.open_laws.specs.Placed.{Numbers}
+use Rattle.posix_defs.specs.Files.Descriptors.{Descriptor}
+use Rattle.posix_defs.specs.Files.State.{Files, with_open}
+use Rattle.proc_table.specs.Table.{TableView}
+use Rattle.proc_numbers.specs.Having.{HaveOpen}
+use Rattle.proc_files.specs.Holding.{CachesStay}
+use Rattle.proc_files.specs.Holders.{holders, times}
+use Rattle.proc_files.proofs.Holding.{same_pins, stands_on}
+use Rattle.proc_files.proofs.Openings.{same_nodes}
+use Rattle.proc_files.specs.Names.{AreBound, name_of}
+use Rattle.proc_files.specs.NameHolding.{HoldNames}
+
+-- a share leaves the caches
+caches_shared : (old new : Heap) → new ≡ record old { procs = new.procs; descs = new.descs } → CachesStay old new
+caches_shared old new beside = record {
+  vnodes = ap (λ (h : Heap). h.vnodes) beside;
+  names = ap (λ (h : Heap). h.names) beside;
+  blocks = ap (λ (h : Heap). h.blocks) beside;
+  size = ap (λ (h : Heap). h.heap) beside;
+}
+
+-- descriptors alone are others
+pub hold_named : (numbers : Numbers) (others : ℕ → ℕ) (old new : Heap) (kept : TableView) (fs : TreeView) (names : List (Option ℕ)) (files : Files) (pid fd : ℕ) (descriptor : Option Descriptor)
+    → new ≡ record old { procs = new.procs; descs = new.descs } → HoldNames numbers others old kept fs names files → HaveOpen numbers new kept (with_open files pid fd descriptor)
+    → HoldNames numbers others new kept fs names (with_open files pid fd descriptor)
+hold_named numbers others old new kept fs names files pid fd descriptor beside hold have = record {
+  held = record {
+    opened = have;
+    tree =
+        same_pins new fs files.tree (holders others files) (holders others (with_open files pid fd descriptor))
+        (λ n. ap (λ nodes. others n + times n nodes) (same_nodes files (with_open files pid fd descriptor) files.descriptions))
+        (stands_on old new fs files.tree (holders others files) (caches_shared old new beside) hold.held.tree);
+    nodes = hold.held.nodes;
+    beside = hold.held.beside;
+  };
+  bound = subst (λ (socks : List (Option Sock)). AreBound (name_of socks) names) (sym (ap (λ (h : Heap). h.socks) beside)) hold.bound;
+  named = record { bound = hold.named.bound; waiting = hold.named.waiting };
+  places = hold.places;
+}

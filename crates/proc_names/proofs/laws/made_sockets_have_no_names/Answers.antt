@@ -1,5 +1,0 @@
-use Rattle.proc_names.proofs.Anew.{names_anew}
-use Rattle.proc_names.proofs.laws.made_sockets_have_no_names.Goals as goal
-
-pub returns : goal.returns
-returns c = names_anew

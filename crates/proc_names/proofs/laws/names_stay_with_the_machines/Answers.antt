@@ -1,5 +1,0 @@
-use Rattle.proc_names.proofs.GoesOn.{names_on}
-use Rattle.proc_names.proofs.laws.names_stay_with_the_machines.Goals as goal
-
-pub returns : goal.returns
-returns c = names_on

@@ -1,4 +1,0 @@
-pub mod Holding
-pub mod Answering
-pub mod Closing
-pub mod Ending

@@ -1,0 +1,40 @@
+-- What a number of a process names: a Desc of the heap, and the description that it stands for.
+use Rattle.std.specs.Prelude.{◌≡◌, ℕ, ℤ, pos, negsuc, List, Option, None, Some, IsSome, slice_index_or}
+use Rattle.kheap_slabs.specs.Objects.{object}
+use Rattle.kheap_slabs.specs.declared.objects.Desc.{Desc}
+use Rattle.kheap_slabs.specs.declared.objects.Descriptor.{Descriptor}
+use Rattle.kheap_slabs.specs.declared.objects.Target.{Target}
+use Rattle.kheap_slabs.specs.declared.objects.Target.TheVariants as target
+use Rattle.kheap_slabs.specs.Heap.{Heap}
+use Rattle.open_laws.specs.Described.{counted_in}
+use Rattle.open_laws.specs.Placed.{Numbers}
+use Rattle.posix_defs.specs.Calls.Opened.{Opened}
+use Rattle.proc_table.specs.Table.{TableView}
+use Rattle.proc_numbers.specs.Naming.{named_by}
+use Rattle.proc_numbers.specs.declared.lookups.Found.{Found}
+
+-- what the descriptors of a process have at a number as a call has it
+abbrev pub held_at : List (Option Descriptor) → ℤ → Option Descriptor
+held_at places (pos fd) = slice_index_or places fd None
+held_at places (negsuc _) = None
+
+-- the description that was found, with its place
+abbrev pub opened_in : Numbers → Found → Opened
+opened_in numbers found = record { place = numbers.descs found.key; is = (counted_in numbers found.desc).is }
+
+-- the pipe that a target is
+abbrev pub pipe_in : Target → Option ℕ
+pipe_in (target.Inode number) = None
+pipe_in (target.Pipe key) = Some key
+pipe_in (target.Sock key) = None
+
+-- a number of a process that is open is open on a pipe
+abbrev pub IsOnPipe : Heap → TableView → ℕ → ℤ → Type 0
+IsOnPipe h kept pid fd =
+    (held : Descriptor) (desc : Desc) → named_by h kept pid fd ≡ Some held → object h.descs held.desc ≡ Some desc → IsSome (pipe_in desc.target)
+
+-- The number is the one by which this Desc was found.
+pub record IsNamed (h : Heap) (kept : TableView) (pid : ℕ) (fd : ℤ) (found : Found) : Type 0 where
+  pub held : Descriptor
+  pub is : named_by h kept pid fd ≡ Some held
+  pub same : held.desc ≡ found.key

@@ -1,0 +1,13 @@
+pub mod Having
+pub mod Naming
+pub mod Queues
+pub mod Answering
+pub mod PipeOpening
+pub mod Found
+pub mod PipeMoving
+pub mod Spaces
+pub mod Standing
+pub mod Finding
+pub mod Owning
+pub mod SocketOpening
+pub mod SocketMoving

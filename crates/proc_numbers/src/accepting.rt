@@ -1,0 +1,125 @@
+//! `accept`.
+
+ghost use Rattle.std.specs.Prelude.{◌≡◌, ◌-◌, ◌<◌, ℕ, ℤ, [], IsSome, Ok};
+ghost use Rattle.std.specs.List.{Contains};
+ghost use Rattle.kabi_types.specs.declared.scripts.Script.{Script};
+ghost use Rattle.kabi_types.specs.declared.classes.Class.TheVariants as class;
+ghost use Rattle.kabi_types.specs.Counts.{with_count};
+ghost use Rattle.kheap_slabs.specs.Paid.{CanPay, IsPaid};
+ghost use Rattle.open_laws.specs.Owned.{HasItsOwners, socks_named};
+ghost use Rattle.open_laws.specs.Placed.{Numbers};
+ghost use Rattle.posix_defs.specs.Answer.{Answer};
+ghost use Rattle.posix_defs.specs.Calls.OnSockets.{accept as plain_accept};
+ghost use Rattle.posix_defs.specs.Calls.Opened.{Opened};
+ghost use Rattle.posix_defs.specs.Machine.{blocks};
+ghost use Rattle.posix_defs.specs.Plain.{Plain};
+ghost use Rattle.proc_table.specs.Table.{key_of};
+ghost use Rattle.proc_numbers.specs.Having.{AreListed, HaveOpen, OpensNoNode};
+ghost use Rattle.proc_numbers.specs.Naming.{ChangesNumbers};
+ghost use Rattle.proc_numbers.specs.Queues.{QueuesStand};
+ghost use Rattle.proc_numbers.specs.Finding.{FindsSocket};
+ghost use Rattle.proc_numbers.specs.SocketOpening.{Accepts, IfTaken, StillUsed, UnlessTaken};
+
+use crate::describing::open_on;
+use crate::finding::{OpenSocket, lowest_from, socket_of};
+use kabi_types::Errno;
+use kheap_slabs::{KHeap, Purse};
+use proc_table::ProcTable;
+use usock_core::{Accepted, accept};
+
+/// The lowest number of a process that is free names the socket that waited first for the one that a number is open on. That
+/// number; None where it would have to wait.
+///
+/// EBADF where the number isn't open, ENOTSOCK where it is open on something else, EINVAL where the socket doesn't listen, EMFILE
+/// where no number is free, EAGAIN where none waits and the caller doesn't wait. Nothing is changed but where one is taken.
+///
+/// <https://pubs.opengroup.org/onlinepubs/9699919799/functions/accept.html>
+pub fn accept_number(
+    heap: &mut KHeap,
+    purse: &mut Purse,
+    procs: &ProcTable,
+    pid: u32,
+    fd: i64,
+) -> Result<Option<u32>, Errno>
+    requires listed { AreListed heap.old procs.now }
+    requires owners { HasItsOwners heap.old [] }
+    requires there { IsSome (key_of procs.now.listed pid) }
+    requires pays { CanPay heap.old purse.old }
+    requires left { 0 < purse.old.left.desc }
+    ensures answers { (numbers : Numbers) (script : Script) (plain : Plain) → HaveOpen numbers heap.old procs.now plain.files
+        → Accepts numbers heap.old heap.new procs.now script plain pid (plain_accept script plain pid fd) result }
+    ensures nodes { OpensNoNode heap.old.descs → OpensNoNode heap.new.descs }
+    ensures listed { AreListed heap.new procs.now }
+    ensures owners { HasItsOwners heap.new [] }
+    ensures changes { ChangesNumbers heap.old heap.new procs.now pid }
+    ensures still { StillUsed heap.old heap.new }
+    ensures queues { QueuesStand heap.old heap.new }
+    ensures unchanged { UnlessTaken result ((heap.new ≡ heap.old) × (purse.new ≡ purse.old)) }
+    ensures paid { IsPaid heap.old purse.old heap.new purse.new }
+    ensures pays { CanPay heap.new purse.new }
+    ensures spent { IfTaken result (purse.new
+        ≡ record purse.old { left = with_count purse.old.left class.Desc (purse.old.left.desc - 1) }) }
+{
+    match socket_of(heap, procs, pid, fd) {
+        Ok(found) => accept_on(heap, purse, procs, pid, found),
+        Err(errno) => Err(errno),
+    }
+}
+
+/// Whether an `accept` would have to wait.
+pub fn accept_waits(heap: &KHeap, procs: &ProcTable, pid: u32, fd: i64) -> bool
+    requires listed { AreListed heap.now procs.now }
+    requires owners { HasItsOwners heap.now [] }
+    requires there { IsSome (key_of procs.now.listed pid) }
+    ensures { (numbers : Numbers) (script : Script) (plain : Plain) → HaveOpen numbers heap.now procs.now plain.files
+        → result ≡ blocks (plain_accept script plain pid fd) }
+{
+    let Ok(found) = socket_of(heap, procs, pid, fd) else {
+        return false;
+    };
+    let lowest = lowest_from(heap, procs, pid, 0);
+    usock_core::accept_waits(heap, found.key, lowest.is_some(), found.nonblock)
+}
+
+// The lowest number of a process that is free names the socket that waited first for this one; None where it would have to wait.
+fn accept_on(
+    heap: &mut KHeap,
+    purse: &mut Purse,
+    procs: &ProcTable,
+    pid: u32,
+    on: OpenSocket,
+) -> Result<Option<u32>, Errno>
+    requires listed { AreListed heap.old procs.now }
+    requires owners { HasItsOwners heap.old [] }
+    requires there { IsSome (key_of procs.now.listed pid) }
+    requires named { Contains (socks_named heap.old.descs) on.key }
+    requires pays { CanPay heap.old purse.old }
+    requires left { 0 < purse.old.left.desc }
+    ensures answers { (numbers : Numbers) (script : Script) (plain : Plain) (fd : ℤ) → HaveOpen numbers heap.old procs.now plain.files
+        → ((answer : Opened → ℕ → Answer) → FindsSocket numbers script plain pid fd answer (Ok on))
+        → Accepts numbers heap.old heap.new procs.now script plain pid (plain_accept script plain pid fd) result }
+    ensures nodes { OpensNoNode heap.old.descs → OpensNoNode heap.new.descs }
+    ensures listed { AreListed heap.new procs.now }
+    ensures owners { HasItsOwners heap.new [] }
+    ensures changes { ChangesNumbers heap.old heap.new procs.now pid }
+    ensures still { StillUsed heap.old heap.new }
+    ensures queues { QueuesStand heap.old heap.new }
+    ensures unchanged { UnlessTaken result ((heap.new ≡ heap.old) × (purse.new ≡ purse.old)) }
+    ensures paid { IsPaid heap.old purse.old heap.new purse.new }
+    ensures pays { CanPay heap.new purse.new }
+    ensures spent { IfTaken result (purse.new
+        ≡ record purse.old { left = with_count purse.old.left class.Desc (purse.old.left.desc - 1) }) }
+{
+    let lowest = lowest_from(heap, procs, pid, 0);
+    match accept(heap, on.key, lowest.is_some(), on.nonblock) {
+        Accepted::Took(taken) => {
+            let Some(number) = lowest else {
+                unreachable!();
+            };
+            open_on(heap, purse, procs, pid, number, taken);
+            Ok(Some(number))
+        }
+        Accepted::Blocked => Ok(None),
+        Accepted::Fault(errno) => Err(errno),
+    }
+}

@@ -1,0 +1,44 @@
+//! The calls of a process by its numbers, over heap and table alone, as the machine answers them: what it has open, and how numbers
+//! open, close and are shared; pipes and sockets, made, read and written; `poll` of any number.
+//!
+//! Each changes the heap and leaves the table as it was. Where the machine's answer blocks the call is told to sleep and nothing
+//! changes; whether it would is told without making it. What else a call does, to the caller's control and to pins, is its
+//! caller's.
+#![tactic(auto)]
+
+mod accepting;
+mod buffer;
+mod closing;
+mod controlling;
+mod describing;
+mod finding;
+pub mod laws;
+mod lookups;
+mod making;
+mod opening;
+mod pipe_reading;
+mod pipe_writing;
+mod piping;
+mod polling;
+mod sharing;
+mod shutting;
+mod socket_reading;
+mod socket_writing;
+mod spaces;
+
+pub use accepting::{accept_number, accept_waits};
+pub use buffer::{Buffer, CAPACITY};
+pub use closing::close_one;
+pub use controlling::control;
+pub use finding::{OpenSocket, is_on_socket, socket_of};
+pub use lookups::{Found, opened};
+pub use making::{make_pair, make_socket};
+pub use opening::{count_of, descriptor_of, may_be_descriptor, open_one, places_of};
+pub use pipe_reading::{read, read_waits};
+pub use pipe_writing::{write, write_waits};
+pub use piping::make_pipe;
+pub use polling::{poll, poll_waits};
+pub use sharing::{dup_one, share_at};
+pub use shutting::{listen_number, shut_number};
+pub use socket_reading::{read_socket, read_socket_waits};
+pub use socket_writing::{write_socket, write_socket_waits};

@@ -1,0 +1,118 @@
+//! `poll`.
+
+ghost use Rattle.std.specs.Prelude.{◌≡◌, ◌==◌, ◌&&◌, ◌≤◌, ℤ, IsSome, length};
+ghost use Rattle.kabi_types.specs.Arguments.{is_minus_one};
+ghost use Rattle.kabi_types.specs.declared.calls.Call.{Call};
+ghost use Rattle.kabi_types.specs.declared.scripts.Script.{Script};
+ghost use Rattle.open_laws.specs.Placed.{Numbers};
+ghost use Rattle.posix_defs.specs.Account.{Account};
+ghost use Rattle.open_laws.specs.Open.{renumbered};
+ghost use Rattle.open_laws.specs.Polled.{IsOpenIn};
+ghost use Rattle.posix_defs.specs.Calls.Polling.{hits_of, poll, revents_of};
+ghost use Rattle.posix_defs.specs.Files.Descriptors.{descriptor_of};
+ghost use Rattle.posix_defs.specs.Files.State.{Files, descriptors_of};
+ghost use Rattle.posix_defs.specs.Machine.{blocks};
+ghost use Rattle.posix_defs.specs.Plain.{Plain};
+ghost use Rattle.proc_numbers.specs.Having.{HaveOpen};
+ghost use Rattle.proc_table.specs.Table.{key_of};
+ghost use Rattle.proc_numbers.specs.Standing.{IsKept, Leads, StandsFor};
+
+use desc_table::Descs;
+use kabi_types::{PollEntry, PollHits, PollList, Reply, Revents};
+use kheap_slabs::KHeap;
+use posix_defs::Turned;
+use proc_table::ProcTable;
+
+/// The timeout that waits until an entry has an event.
+const FOREVER: i64 = -1;
+
+/// What each entry is ready for, whatever its number is open on; with timeout -1 it sleeps where none is ready for anything
+/// (POSIX poll).
+pub fn poll(heap: &KHeap, procs: &ProcTable, pid: u32, timeout: i64, entries: &PollList) -> Turned
+    requires kept { IsKept heap.now procs.now }
+    requires there { IsSome (key_of procs.now.listed pid) }
+    ensures { (script : Script) (numbers : Numbers) (plain : Plain) (account : Account)
+        → StandsFor numbers heap.now procs.now plain account
+        → Leads script numbers heap.now procs.now plain account pid (Call.Poll timeout entries.now)
+        (poll script plain pid timeout entries.now) result }
+{
+    let revents = revents_of(heap, procs, pid, entries.items());
+    let hits = hits_of(revents.items());
+    if sleeps(hits, timeout) {
+        Turned::Sleep
+    } else {
+        Turned::Done(Reply::Polled(PollHits { hits, revents }))
+    }
+}
+
+/// Whether a `poll` would sleep.
+pub fn poll_waits(
+    heap: &KHeap,
+    procs: &ProcTable,
+    pid: u32,
+    timeout: i64,
+    entries: &PollList,
+) -> bool
+    requires kept { IsKept heap.now procs.now }
+    requires there { IsSome (key_of procs.now.listed pid) }
+    ensures { (script : Script) (numbers : Numbers) (plain : Plain) → HaveOpen numbers heap.now procs.now plain.files
+        → result ≡ blocks (poll script plain pid timeout entries.now) }
+{
+    let revents = revents_of(heap, procs, pid, entries.items());
+    sleeps(hits_of(revents.items()), timeout)
+}
+
+// Whether a `poll` with so many hits waits for more.
+fn sleeps(hits: u32, timeout: i64) -> bool
+    ensures { result ≡ ((hits == 0) && is_minus_one timeout) }
+{
+    hits == 0 && timeout == FOREVER
+}
+
+// What each entry is told.
+fn revents_of(heap: &KHeap, procs: &ProcTable, pid: u32, entries: &[PollEntry]) -> Revents
+    requires kept { IsKept heap.now procs.now }
+    requires there { IsSome (key_of procs.now.listed pid) }
+    requires few { length entries.now ≤ 8 }
+    ensures { (numbers : Numbers) (files : Files) → HaveOpen numbers heap.now procs.now files
+        → result ≡ revents_of files pid entries.now }
+{
+    // These are many, so they are taken once and not for each entry.
+    let descs = descs_of(heap, procs, pid);
+    let mut events = [0; 8];
+    for place in 0..entries.len() {
+        events[place] = descs.polled(heap, &entries[place]);
+    }
+    let Some(revents) = Revents::of(&events[..entries.len()]) else {
+        unreachable!();
+    };
+    revents
+}
+
+// What a process has open.
+fn descs_of(heap: &KHeap, procs: &ProcTable, pid: u32) -> Descs
+    requires kept { IsKept heap.now procs.now }
+    requires there { IsSome (key_of procs.now.listed pid) }
+    ensures open { (fd : ℤ) → IsOpenIn heap.now (descriptor_of result fd) }
+    ensures are { (numbers : Numbers) (files : Files) → HaveOpen numbers heap.now procs.now files
+        → descriptors_of files pid ≡ renumbered numbers.descs result }
+{
+    let Some(key) = procs.key_of(pid) else {
+        unreachable!();
+    };
+    Descs::of(heap.get_proc(key).descriptors)
+}
+
+// How many entries are told something.
+fn hits_of(revents: &[u8]) -> u32
+    requires few { length revents.now ≤ 8 }
+    ensures { result ≡ hits_of revents.now }
+{
+    let mut hits = 0;
+    for events in revents {
+        if *events != 0 {
+            hits += 1;
+        }
+    }
+    hits
+}

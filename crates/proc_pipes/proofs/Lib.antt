@@ -1,9 +1,0 @@
-pub mod Changes
-pub mod Answered
-pub mod Lowest
-pub mod Flags
-pub mod Made
-pub mod PipeMade
-pub mod PipeAnswers
-pub mod PipeSteps
-pub mod Booted

@@ -1,4 +1,0 @@
-pub mod Found
-pub mod Moving
-pub mod Spaces
-pub mod Standing

@@ -1,4 +1,0 @@
-pub mod Finding
-pub mod Owning
-pub mod Opening
-pub mod Moving

@@ -1,0 +1,41 @@
+//! Laws of stores of which a call changes what is open, the tree with what is cached of it, or names of sockets: they go on. Each is
+//! the contract of a function that does nothing.
+
+ghost use Rattle.kabi_types.specs.declared.calls.Call.{Call};
+ghost use Rattle.kabi_types.specs.declared.scripts.Control.{Control};
+ghost use Rattle.kabi_types.specs.declared.scripts.Script.{Script};
+ghost use Rattle.kabi_types.specs.declared.replies.Reply.{Reply};
+ghost use Rattle.store_objects.specs.FileMoves.{CachesWithin, FileMoves};
+ghost use Rattle.store_objects.specs.FileWorlds.{HasAnswered, HasTurned};
+ghost use Rattle.posix_defs.specs.Answer.{Answer};
+ghost use Rattle.posix_defs.specs.Plain.{Plain};
+ghost use Rattle.posix_defs.specs.Process.{is_alive};
+ghost use Rattle.posix_defs.specs.World.{World};
+ghost use Rattle.posix_defs.specs.declared.turner.Turned.{Turned};
+ghost use Rattle.posix_defs.specs.declared.turner.Turned.TheVariants as turned;
+ghost use Rattle.std.specs.Prelude.{◌≡◌, ℕ, true};
+ghost use Rattle.store_objects.specs.Objects.{AreKept, Runs};
+ghost use Rattle.store_objects.specs.Standing.{IsSound, StandsFor, answered_in};
+ghost use Rattle.store_objects.specs.Walking.{Serves};
+ghost use Rattle.store_objects.specs.declared.objects.Objects.{Objects};
+
+/// Where of a store only what is open, memory, the tree of files and names of sockets have changed, its objects are kept, who ran
+/// runs where he stood, and they stand for each world of which they have what has changed.
+pub fn a_store_goes_on_with_its_files()
+    ensures kept { (script : Script) (old : Objects) (new : Objects) → AreKept script old → FileMoves old new → AreKept script new }
+    ensures runs { (old : Objects) (new : Objects) (pid : ℕ) (control : Control) → FileMoves old new → Runs old pid control → Runs new pid control }
+    ensures stands { (script : Script) (old : Objects) (new : Objects) (world : World) (next : World)
+        → StandsFor script old world → FileMoves old new → HasTurned new world next → StandsFor script new next }
+{}
+
+/// Where a call on files has changed a store so, has cached no more than its need has, and was answered in each sound world with a
+/// reply, behind which its caller goes on, the store stands for the worlds that its answers reach.
+pub fn a_call_on_files_serves()
+    ensures { (script : Script) (old : Objects) (mid : Objects) (new : Objects) (pid : ℕ) (call : Call) (said : Reply) (told : Turned)
+        (answer : Plain → Answer)
+        → FileMoves old mid → CachesWithin old mid call → told ≡ turned.Done said
+        → ((world : World) → StandsFor script mid world → StandsFor script new (answered_in script world pid said))
+        → ((world : World) → StandsFor script old world → IsSound world.plain → is_alive world.plain.table pid ≡ true
+        → HasAnswered script old mid world pid call (answer world.plain) said)
+        → Serves script old pid call answer told new }
+{}

@@ -1,0 +1,354 @@
+-- Of two machines that a process sees as the same, its next call blocks in both or in neither.
+use Rattle.std.proofs.Common.{◌≡◌, ℕ, pos, negsuc, ℤ, ◌+◌, ◌-◌, ◌==◌, ◌&&◌, ◌||◌, nat_lt, min, Bool, true, false, if◌then◌else◌, List, [], ◌∷◌, length, map, Option, None, Some, is_some, Result, Ok, Err, refl, ap, ap₂, sym, subst, ◌∙◌}
+use Rattle.kabi_types.specs.Arguments.{argument_fault, count_of, is_minus_one}
+use Rattle.kabi_types.specs.declared.calls.Call.{Call}
+use Rattle.kabi_types.specs.declared.calls.Call.TheVariants as call
+use Rattle.kabi_types.specs.declared.errnos.Errno.{Errno}
+use Rattle.kabi_types.specs.declared.errnos.Errno.TheVariants.{EBADF, ECHILD, EFAULT, EISDIR, ENOTCONN, EPIPE}
+use Rattle.kabi_types.specs.declared.replies.Reply.{Reply}
+use Rattle.kabi_types.specs.declared.replies.Reply.TheVariants.{Polled, Val}
+use Rattle.kabi_types.specs.declared.short_lists.PollEntry.{PollEntry}
+use Rattle.kabi_types.specs.declared.scripts.Script.{Script}
+use Rattle.answer_laws.specs.Shapes.{may_block}
+use Rattle.answer_laws.proofs.Blocking.{blocked_may}
+use Rattle.posix_defs.specs.Answer.{Answer, Blocked, failed, replied}
+use Rattle.posix_defs.specs.Control as program
+use Rattle.posix_defs.specs.Calls.OnSockets.{accept, accept_at, accepted_under, socket_target}
+use Rattle.posix_defs.specs.Calls.Opened.{Opened, answer_on, opened_at}
+use Rattle.posix_defs.specs.Calls.Polling.{hits_of, poll, polled, polled_at, polled_node, polled_opened, polled_target, revents_of}
+use Rattle.posix_defs.specs.Calls.Reading.{is_directory_target, of_bytes, read, read_from_pipe, read_from_socket, read_target, unless_directory}
+use Rattle.posix_defs.specs.Calls.Writing.{bytes_left, did_part, put_in_socket, put_in_pipe, write, write_queue, write_target, wrote}
+use Rattle.posix_defs.specs.Files.Descriptors.{lowest_free}
+use Rattle.posix_defs.specs.Files.Descriptions.{Access, Target, OnNode, OnPipe, OnSocket, may_read, may_write}
+use Rattle.posix_defs.specs.Files.State.{Files, descriptors_of, pipe_at}
+use Rattle.posix_defs.specs.Machine.{blocks, machine, unless_wrong, would_block}
+use Rattle.posix_defs.specs.Memory.{is_mapped_range}
+use Rattle.posix_defs.specs.Pipe.{Moving, Moves, Blocks, Fails, is_asked, not_now, pipe_read, pipe_write, polled_to_read, polled_to_write}
+use Rattle.posix_defs.specs.Plain.{Plain, call_of, control_of, with_files}
+use Rattle.posix_defs.specs.Process.{memory_of}
+use Rattle.posix_defs.specs.Socket.{Accepting, Stage, Idle, Listening, Connected, Takes, Waits, Refuses, accept as accept_in, is_connected, is_shut_read, is_shut_write}
+use Rattle.posix_defs.specs.Sockets.{Sockets, free_at, polled_connected, polled_in_stage, read_connected, read_in_stage, sock_polled, sock_read, sock_write, socket_at, stage_at, write_in_stage, write_to, write_within, writes_no_more}
+use Rattle.posix_defs.specs.Tree.{Tree, is_directory}
+use Rattle.posix_defs.specs.Waiting.{Exited, any_from, exited_from, is_nohang, not_yet, waited_for, waitpid}
+
+-- ---- what a process sees of a machine
+
+-- two descriptors are open on the same and for the same, and both wait or neither; or neither is open
+abbrev pub SameOpened : Option Opened → Option Opened → Type 0
+SameOpened None None = Unit {0}
+SameOpened (Some was) (Some now) = (now.is.target ≡ was.is.target) × (now.is.access ≡ was.is.access) × (now.is.nonblock ≡ was.is.nonblock)
+SameOpened None (Some now) = ⊥
+SameOpened (Some was) None = ⊥
+
+-- The sockets of all places have come as far, and have the same bytes to read. Their names are no part of this.
+pub record SameSockets (old new : Sockets) : Type 0 where
+  pub stage : (place : ℕ) → stage_at new place ≡ stage_at old place
+  pub bytes : (place : ℕ) → (socket_at new place).bytes ≡ (socket_at old place).bytes
+
+-- All that the next call of a process may wait for.
+pub record SeesSame (who : ℕ) (old new : Plain) : Type 0 where
+  pub control : control_of new who ≡ control_of old who
+  pub memory : memory_of new.table who ≡ memory_of old.table who
+  pub exited : (which : ℤ) → exited_from who which 1 new.table ≡ exited_from who which 1 old.table
+  pub any : (which : ℤ) → any_from who which 1 new.table ≡ any_from who which 1 old.table
+  pub numbers : descriptors_of new.files who ≡ descriptors_of old.files who
+  pub opened : (fd : ℤ) → SameOpened (opened_at old.files who fd) (opened_at new.files who fd)
+  pub pipes : (place : ℕ) → pipe_at new.files place ≡ pipe_at old.files place
+  pub sockets : SameSockets old.files.sockets new.files.sockets
+
+-- ---- what it is answered
+
+-- of two answers both are that the call would block, or neither
+abbrev Agree : Answer → Answer → Type 0
+Agree one other = blocks one ≡ blocks other
+
+fork : (one other : Bool) (a b c d : Answer) → one ≡ other → Agree a c → Agree b d → Agree (if one then a else b) (if other then c else d)
+fork true true a b c d same e f = e
+fork false false a b c d same e f = f
+fork true false a b c d same e f = cc
+fork false true a b c d same e f = cc
+
+both : {X : Type 0} {b : Bool} → b ≡ true → b ≡ false → X
+both e f = cc
+
+-- ---- sockets
+
+module _ (old new : Sockets) (same : SameSockets old new) where
+  shut_write : (peer : ℕ) → is_shut_write (stage_at new peer) ≡ is_shut_write (stage_at old peer)
+  shut_write peer = ap is_shut_write (same.stage peer)
+
+  free : (peer : ℕ) → free_at new peer ≡ free_at old peer
+  free peer = ap (λ bytes. 4096 - length bytes) (same.bytes peer)
+
+  reads_in : (stage : Stage) (bytes : List ℕ) (nonblock : Bool) (n : ℕ) → read_in_stage new stage bytes nonblock n ≡ read_in_stage old stage bytes nonblock n
+  reads_in Idle bytes nonblock n = refl
+  reads_in (Listening waiting) bytes nonblock n = refl
+  reads_in (Connected None shut_read shut_written) bytes nonblock n = refl
+  reads_in (Connected (Some peer) shut_read shut_written) bytes nonblock n =
+      ap (λ (shut : Bool). if shut_read then Moves 0 else (if nat_lt 0 (length bytes) then Moves (min n (length bytes)) else (if shut then Moves 0 else not_now nonblock))) (shut_write peer)
+
+  reads : (place : ℕ) (nonblock : Bool) (n : ℕ) → sock_read new place nonblock n ≡ sock_read old place nonblock n
+  reads place nonblock n =
+      ap (λ stage. read_in_stage new stage (socket_at new place).bytes nonblock n) (same.stage place)
+      ∙ ap (λ bytes. read_in_stage new (stage_at old place) bytes nonblock n) (same.bytes place)
+      ∙ reads_in (stage_at old place) (socket_at old place).bytes nonblock n
+
+  writes_in : (stage : Stage) (nonblock : Bool) (m : ℕ) → write_in_stage new stage nonblock m ≡ write_in_stage old stage nonblock m
+  writes_in Idle nonblock m = refl
+  writes_in (Listening waiting) nonblock m = refl
+  writes_in (Connected None shut_read shut_written) nonblock m = refl
+  writes_in (Connected (Some peer) shut_read shut_written) nonblock m =
+      ap (λ (stage : Stage). if shut_written then Fails EPIPE else (if is_shut_read stage then Fails EPIPE else write_within (free_at new peer) nonblock m)) (same.stage peer)
+      ∙ ap (λ room. if shut_written then Fails EPIPE else (if is_shut_read (stage_at old peer) then Fails EPIPE else write_within room nonblock m)) (free peer)
+
+  writes : (place : ℕ) (nonblock : Bool) (m : ℕ) → sock_write new place nonblock m ≡ sock_write old place nonblock m
+  writes place nonblock m = ap (λ stage. write_in_stage new stage nonblock m) (same.stage place) ∙ writes_in (stage_at old place) nonblock m
+
+  polls_in : (stage : Stage) (bytes : List ℕ) (events : ℤ) → polled_in_stage new stage bytes events ≡ polled_in_stage old stage bytes events
+  polls_in Idle bytes events = refl
+  polls_in (Listening waiting) bytes events = refl
+  polls_in (Connected None shut_read shut_written) bytes events = refl
+  polls_in (Connected (Some peer) shut_read shut_written) bytes events =
+      ap (λ (shut : Bool). (if is_asked events 1 && (nat_lt 0 (length bytes) || shut) then 1 else 0) + (if is_asked events 4 && nat_lt 0 (free_at new peer) then 4 else 0)) (shut_write peer)
+      ∙ ap (λ room. (if is_asked events 1 && (nat_lt 0 (length bytes) || is_shut_write (stage_at old peer)) then 1 else 0) + (if is_asked events 4 && nat_lt 0 room then 4 else 0)) (free peer)
+
+  polls : (place : ℕ) (events : ℤ) → sock_polled new place events ≡ sock_polled old place events
+  polls place events =
+      ap (λ stage. polled_in_stage new stage (socket_at new place).bytes events) (same.stage place)
+      ∙ ap (λ bytes. polled_in_stage new (stage_at old place) bytes events) (same.bytes place)
+      ∙ polls_in (stage_at old place) (socket_at old place).bytes events
+
+-- ---- the calls that may block
+
+module _ (script : Script) (who : ℕ) (old new : Plain) (same : SeesSame who old new) where
+  waits_or_not : (nohang : Bool) → Agree (if nohang then replied script new who (Val (pos 0)) else Blocked) (if nohang then replied script old who (Val (pos 0)) else Blocked)
+  waits_or_not true = refl
+  waits_or_not false = refl
+
+  child_waits : (which options : ℤ) → Agree (waitpid script new who which options) (waitpid script old who which options)
+  child_waits which options =
+      ap (λ found. blocks (waited_for script new who which options found)) (same.exited which) ∙ by (exited_from who which 1 old.table)
+    where
+      by : (found : Option Exited) → Agree (waited_for script new who which options found) (waited_for script old who which options found)
+      by (Some exited) = refl
+      by None =
+          fork (any_from who which 1 new.table) (any_from who which 1 old.table) (not_yet script new who options) (failed script new who ECHILD)
+          (not_yet script old who options) (failed script old who ECHILD) (same.any which) (waits_or_not (is_nohang options)) refl
+
+  on_opened : (f g : Opened → Answer) (was now : Option Opened) → SameOpened was now
+      → ((it other : Opened) → SameOpened (Some it) (Some other) → Agree (f other) (g it))
+      → Agree (answer_on script new who f now) (answer_on script old who g was)
+  on_opened f g None None alike each = refl
+  on_opened f g (Some it) (Some other) alike each = each it other alike
+  on_opened f g None (Some other) alike each = absurd alike
+  on_opened f g (Some it) None alike each = absurd alike
+
+  bytes_wait : (addr n : ℤ) (a b : Answer) → Agree a b → Agree (of_bytes script new who addr n a) (of_bytes script old who addr n b)
+  bytes_wait addr n a b e = fork _ _ _ _ _ _ (ap (λ memory. is_mapped_range memory (count_of addr) (count_of n)) same.memory) (some (count_of n == 0)) refl
+    where
+      some : (none : Bool) → Agree (if none then replied script new who (Val (pos 0)) else a) (if none then replied script old who (Val (pos 0)) else b)
+      some true = refl
+      some false = e
+
+  pipe_read_waits : (place : ℕ) (addr : ℤ) (moving : Moving)
+      → Agree (read_from_pipe script new who place addr moving) (read_from_pipe script old who place addr moving)
+  pipe_read_waits place addr (Moves k) = refl
+  pipe_read_waits place addr Blocks = refl
+  pipe_read_waits place addr (Fails errno) = refl
+
+  socket_read_waits : (place : ℕ) (addr : ℤ) (moving : Moving)
+      → Agree (read_from_socket script new who place addr moving) (read_from_socket script old who place addr moving)
+  socket_read_waits place addr (Moves k) = refl
+  socket_read_waits place addr Blocks = refl
+  socket_read_waits place addr (Fails errno) = refl
+
+  target_read_waits : (was now : Opened) (addr : ℤ) (n : ℕ) (target : Target) → now.is.nonblock ≡ was.is.nonblock
+      → Agree (read_target script new who now addr n target) (read_target script old who was addr n target)
+  target_read_waits was now addr n (OnNode number) alike = refl
+  target_read_waits was now addr n (OnPipe place) alike =
+      ap (λ moving. blocks (read_from_pipe script new who place addr moving)) (ap₂ (λ pipe nonblock. pipe_read pipe nonblock n) (same.pipes place) alike) ∙ pipe_read_waits place addr _
+  target_read_waits was now addr n (OnSocket place) alike =
+      ap (λ moving. blocks (read_from_socket script new who place addr moving))
+      (reads old.files.sockets new.files.sockets same.sockets place now.is.nonblock n ∙ ap (λ nonblock. sock_read old.files.sockets place nonblock n) alike)
+      ∙ socket_read_waits place addr _
+
+  -- a directory isn't read, and nothing else that a descriptor may be open on is one
+  unless_directory_waits : (was now : Opened) (a b : Answer) (target : Target) → now.is.target ≡ target → was.is.target ≡ target → Agree a b
+      → ((number : ℕ) → target ≡ OnNode number → blocks a ≡ false) → ((number : ℕ) → target ≡ OnNode number → blocks b ≡ false)
+      → Agree (unless_directory script new who now a) (unless_directory script old who was b)
+  unless_directory_waits was now a b target here there e f g =
+      ap (λ t. blocks (if is_directory_target new.files.tree t then failed script new who EISDIR else a)) here
+      ∙ by target f g
+      ∙ sym (ap (λ t. blocks (if is_directory_target old.files.tree t then failed script old who EISDIR else b)) there)
+    where
+      none : (test : Bool) (fault rest : Answer) → blocks fault ≡ false → blocks rest ≡ false → blocks (if test then fault else rest) ≡ false
+      none true fault rest x y = x
+      none false fault rest x y = y
+
+      by : (target : Target) → ((number : ℕ) → target ≡ OnNode number → blocks a ≡ false) → ((number : ℕ) → target ≡ OnNode number → blocks b ≡ false)
+          → blocks (if is_directory_target new.files.tree target then failed script new who EISDIR else a)
+          ≡ blocks (if is_directory_target old.files.tree target then failed script old who EISDIR else b)
+      by (OnNode number) f g =
+          none (is_directory new.files.tree number) (failed script new who EISDIR) a refl (f number refl)
+          ∙ sym (none (is_directory old.files.tree number) (failed script old who EISDIR) b refl (g number refl))
+      by (OnPipe place) f g = e
+      by (OnSocket place) f g = e
+
+  file_goes_on : (plain : Plain) (opened : Opened) (addr n : ℤ) (target : Target) (number : ℕ) → target ≡ OnNode number
+      → blocks (of_bytes script plain who addr n (read_target script plain who opened addr (count_of n) target)) ≡ false
+  file_goes_on plain opened addr n (OnNode other) number is = go (is_mapped_range (memory_of plain.table who) (count_of addr) (count_of n)) (count_of n == 0)
+    where
+      go : (mapped none : Bool) → blocks (if mapped then (if none then replied script plain who (Val (pos 0)) else read_target script plain who opened addr (count_of n) (OnNode other)) else failed script plain who EFAULT) ≡ false
+      go true true = refl
+      go true false = refl
+      go false none = refl
+  file_goes_on plain opened addr n (OnPipe place) number is = cc
+  file_goes_on plain opened addr n (OnSocket place) number is = cc
+
+  read_waits : (fd addr n : ℤ) → Agree (read script new who fd addr n) (read script old who fd addr n)
+  unfolding read
+  read_waits fd addr n = on_opened _ _ (opened_at old.files who fd) (opened_at new.files who fd) (same.opened fd) (λ it other alike.
+      fork _ _ _ _ _ _ (ap may_read alike.1)
+      (unless_directory_waits it other _ _ it.is.target alike.0 refl
+      (bytes_wait addr n _ _
+      (ap (λ target. blocks (read_target script new who other addr (count_of n) target)) alike.0 ∙ target_read_waits it other addr (count_of n) it.is.target alike.2))
+      (λ number on. file_goes_on new other addr n other.is.target number (alike.0 ∙ on))
+      (λ number on. file_goes_on old it addr n it.is.target number on))
+      refl)
+
+  file_write_waits : (was now : Opened) (at_place at_other : ℕ) (written changed : Result (ℕ × Tree) Errno)
+      → Agree (wrote script new who now at_place written) (wrote script old who was at_other changed)
+  file_write_waits was now at_place at_other (Ok it) (Ok other) = refl
+  file_write_waits was now at_place at_other (Err errno) (Ok other) = refl
+  file_write_waits was now at_place at_other (Ok it) (Err other) = refl
+  file_write_waits was now at_place at_other (Err errno) (Err other) = refl
+
+  -- a write of a queue blocks where nothing can move, whatever else it would come to
+  abbrev queue_blocks : (plain : Plain) (nonblock : Bool) (n done : ℕ) (next : ℕ → Files) (moving : Moving) → Bool
+  queue_blocks plain nonblock n done next moving = blocks (write_queue script plain who nonblock n done next moving)
+
+  queue_goes : (plain : Plain) (nonblock : Bool) (n done k : ℕ) (next : ℕ → Files) → queue_blocks plain nonblock n done next (Moves k) ≡ false
+  queue_goes plain nonblock n done k next = go (k == n - done) nonblock
+    where
+      go : (all early : Bool) → blocks (if all then replied script (with_files plain (next k)) who (Val (pos n)) else (if early then replied script (with_files plain (next k)) who (Val (pos (done + k))) else did_part (with_files plain (next k)) who k)) ≡ false
+      go true early = refl
+      go false true = refl
+      go false false = refl
+
+  queue_stops : (plain : Plain) (nonblock : Bool) (n done : ℕ) (next : ℕ → Files) (errno : Errno) → queue_blocks plain nonblock n done next (Fails errno) ≡ false
+  queue_stops plain nonblock n done next errno = go (done == 0)
+    where
+      go : (none : Bool) → blocks (if none then failed script plain who errno else replied script plain who (Val (pos done))) ≡ false
+      go true = refl
+      go false = refl
+
+  queue_write_waits : (nonblock early : Bool) (n done : ℕ) (next other : ℕ → Files) (moving : Moving)
+      → Agree (write_queue script new who nonblock n done next moving) (write_queue script old who early n done other moving)
+  queue_write_waits nonblock early n done next other (Moves k) = queue_goes new nonblock n done k next ∙ sym (queue_goes old early n done k other)
+  queue_write_waits nonblock early n done next other Blocks = refl
+  queue_write_waits nonblock early n done next other (Fails errno) = queue_stops new nonblock n done next errno ∙ sym (queue_stops old early n done other errno)
+
+  target_write_waits : (was now : Opened) (addr : ℤ) (n done : ℕ) (target : Target) → now.is.nonblock ≡ was.is.nonblock
+      → Agree (write_target script new who now addr n done target) (write_target script old who was addr n done target)
+  target_write_waits was now addr n done (OnNode number) alike = file_write_waits was now _ _ _ _
+  target_write_waits was now addr n done (OnPipe place) alike =
+      ap (λ moving. blocks (write_queue script new who now.is.nonblock n done (put_in_pipe new.files place (bytes_left new who addr n done)) moving))
+      (ap₂ (λ pipe nonblock. pipe_write pipe nonblock n (n - done)) (same.pipes place) alike)
+      ∙ queue_write_waits now.is.nonblock was.is.nonblock n done _ _ _
+  target_write_waits was now addr n done (OnSocket place) alike =
+      fork _ _ _ _ _ _ (ap is_connected (let sockets = same.sockets in sockets.stage place))
+      (ap (λ moving. blocks (write_queue script new who now.is.nonblock n done (put_in_socket new.files place (bytes_left new who addr n done)) moving))
+      (writes old.files.sockets new.files.sockets same.sockets place now.is.nonblock (n - done) ∙ ap (λ nonblock. sock_write old.files.sockets place nonblock (n - done)) alike)
+      ∙ queue_write_waits now.is.nonblock was.is.nonblock n done _ _ _)
+      refl
+
+  write_waits : (fd addr n : ℤ) (done : ℕ) → Agree (write script new who fd addr n done) (write script old who fd addr n done)
+  unfolding write
+  write_waits fd addr n done = on_opened _ _ (opened_at old.files who fd) (opened_at new.files who fd) (same.opened fd) (λ it other alike.
+      fork _ _ _ _ _ _ (ap may_write alike.1)
+      (bytes_wait addr n _ _
+      (ap (λ target. blocks (write_target script new who other addr (count_of n) done target)) alike.0 ∙ target_write_waits it other addr (count_of n) done it.is.target alike.2))
+      refl)
+
+  peer_waits : (listener : ℕ) (fd : Option ℕ) (accepting : Accepting)
+      → Agree (accepted_under script new who listener fd accepting) (accepted_under script old who listener fd accepting)
+  peer_waits listener (Some fd) (Takes taken) = refl
+  peer_waits listener None (Takes taken) = refl
+  peer_waits listener fd Waits = refl
+  peer_waits listener fd (Refuses errno) = refl
+
+  socket_waits : (f g : ℕ → Answer) (target : Target) → ((place : ℕ) → Agree (f place) (g place))
+      → Agree (socket_target script new who f target) (socket_target script old who g target)
+  socket_waits f g (OnNode number) each = refl
+  socket_waits f g (OnPipe place) each = refl
+  socket_waits f g (OnSocket place) each = each place
+
+  accept_waits : (fd : ℤ) → Agree (accept script new who fd) (accept script old who fd)
+  unfolding accept
+  accept_waits fd = on_opened _ _ (opened_at old.files who fd) (opened_at new.files who fd) (same.opened fd) (λ it other alike.
+      ap (λ target. blocks (socket_target script new who (accept_at script new who (lowest_free (descriptors_of new.files who)) other) target)) alike.0
+      ∙ socket_waits _ _ it.is.target (λ listener.
+      ap (λ free. blocks (accepted_under script new who listener free (accept_in (stage_at new.files.sockets listener) (is_some free) other.is.nonblock))) (ap lowest_free same.numbers)
+      ∙ ap₂ (λ stage nonblock. blocks (accepted_under script new who listener (lowest_free (descriptors_of old.files who)) (accept_in stage (is_some (lowest_free (descriptors_of old.files who))) nonblock)))
+      (let sockets = same.sockets in sockets.stage listener) alike.2
+      ∙ peer_waits listener _ _))
+
+  target_polls : (was now : Opened) (events : ℤ) (target : Target) → now.is.access ≡ was.is.access
+      → polled_target new.files now.is events target ≡ polled_target old.files was.is events target
+  target_polls was now events (OnNode number) alike = refl
+  target_polls was now events (OnPipe place) alike =
+      ap₂ (λ access pipe. if may_write access then polled_to_write pipe events else polled_to_read pipe events) alike (same.pipes place)
+  target_polls was now events (OnSocket place) alike = polls old.files.sockets new.files.sockets same.sockets place events
+
+  entry_polls : (fd events : ℤ) → polled_at new.files who fd events ≡ polled_at old.files who fd events
+  entry_polls (negsuc n) events = refl
+  entry_polls (pos fd) events = go (opened_at old.files who (pos fd)) (opened_at new.files who (pos fd)) (same.opened (pos fd))
+    where
+      go : (was now : Option Opened) → SameOpened was now → polled_opened new.files events now ≡ polled_opened old.files events was
+      go None None alike = refl
+      go (Some it) (Some other) alike = ap (polled_target new.files other.is events) alike.0 ∙ target_polls it other events it.is.target alike.1
+      go None (Some other) alike = absurd alike
+      go (Some it) None alike = absurd alike
+
+  all_poll : (entries : List PollEntry) → revents_of new.files who entries ≡ revents_of old.files who entries
+  all_poll [] = refl
+  all_poll (entry ∷ entries) = ap₂ (λ one rest. one ∷ rest) (entry_polls entry.fd entry.events) (all_poll entries)
+
+  polled_waits : (timeout : ℤ) (revents : List ℕ) → Agree (polled script new who timeout revents) (polled script old who timeout revents)
+  polled_waits timeout revents = go ((hits_of revents == 0) && is_minus_one timeout)
+    where
+      go : (none : Bool) → Agree (if none then Blocked else replied script new who (Polled (record { hits = hits_of revents; revents = revents })))
+          (if none then Blocked else replied script old who (Polled (record { hits = hits_of revents; revents = revents })))
+      go true = refl
+      go false = refl
+
+  poll_waits : (timeout : ℤ) (entries : List PollEntry) → Agree (poll script new who timeout entries) (poll script old who timeout entries)
+  unfolding poll
+  poll_waits timeout entries = ap (λ revents. blocks (polled script new who timeout revents)) (all_poll entries) ∙ polled_waits timeout (revents_of old.files who entries)
+
+  right_or_wrong : (fault : Option Errno) (a b : Answer) → Agree a b → Agree (unless_wrong script new who fault a) (unless_wrong script old who fault b)
+  right_or_wrong None a b e = e
+  right_or_wrong (Some errno) a b e = refl
+
+  -- a call that may not block goes on
+  goes_on_in : (plain : Plain) (which : Call) → may_block which ≡ false → blocks (machine script plain who which) ≡ false
+  goes_on_in plain which never = go (machine script plain who which) refl
+    where
+      go : (answer : Answer) → machine script plain who which ≡ answer → blocks answer ≡ false
+      go Blocked is = both (blocked_may script plain who which is) never
+      go _ is = refl
+
+  quiet : (which : Call) → may_block which ≡ false → Agree (machine script new who which) (machine script old who which)
+  quiet which never = goes_on_in new which never ∙ sym (goes_on_in old which never)
+
+  all_agree : (which : Call) → Agree (machine script new who which) (machine script old who which)
+  all_agree (call.Waitpid child options) = right_or_wrong (argument_fault (call.Waitpid child options)) _ _ (child_waits child options)
+  all_agree (call.Read fd addr n) = right_or_wrong (argument_fault (call.Read fd addr n)) _ _ (read_waits fd addr n)
+  all_agree (call.Write fd addr n done) = right_or_wrong (argument_fault (call.Write fd addr n done)) _ _ (write_waits fd addr n done)
+  all_agree (call.Accept fd) = right_or_wrong (argument_fault (call.Accept fd)) _ _ (accept_waits fd)
+  all_agree (call.Poll timeout entries) = right_or_wrong (argument_fault (call.Poll timeout entries)) _ _ (poll_waits timeout entries)
+  all_agree which = quiet which refl
+
+  -- its next call blocks in both or in neither
+  pub blocks_alike : would_block script new who ≡ would_block script old who
+  blocks_alike = ap (λ control. blocks (machine script new who (program.call_of script control))) same.control ∙ all_agree (call_of script old who)
