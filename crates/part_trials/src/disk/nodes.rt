@@ -16,7 +16,8 @@ use std::test::Fail;
 fn links_and_frees(b: &mut RamDisk) -> bool
     requires { Sound b.old.blocks }
 {
-    let Some(number) = lowest_node(b) else {
+    let first = b.full_blocks();
+    let Some(number) = lowest_node(b, first) else {
         return false;
     };
     if !has_room(b, 1) {
@@ -29,7 +30,8 @@ fn links_and_frees(b: &mut RamDisk) -> bool
     let stays = !drop_link(b, number, &mut node, false);
     let once = node.nlink == 1 && inode_at(b, number) == node;
     free_node(b, number, &node);
-    full && twice && stays && once && has_room(b, 13) && lowest_node(b) == Some(number)
+    let first = b.full_blocks();
+    full && twice && stays && once && has_room(b, 13) && lowest_node(b, first) == Some(number)
 }
 
 /// A new disk of 16 blocks has 13 free ones.

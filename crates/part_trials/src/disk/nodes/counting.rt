@@ -51,6 +51,10 @@ pub(crate) fn new_file(rt: &impl Abort, b: &mut Counting, number: u32) -> Inode
     ensures kind { result.kind ≡ 1 }
     ensures size { result.size ≡ 0 }
 {
-    assert!(rt; lowest_node(b) == Some(number), "node {number} is free");
+    let full = b.disk.full_blocks();
+    assert!(rt;
+        lowest_node(b, full) == Some(number),
+        "node {number} is free"
+    );
     make_node(b, number, NewNode::File)
 }

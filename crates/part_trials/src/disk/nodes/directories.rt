@@ -179,7 +179,7 @@ fn check_steps(rt: &impl Abort, b: &mut Counting, dir: &mut Inode, rows: &[Row])
         let answered = take(b, dir, *step);
         let got = b.disk.reads().saturating_sub(got);
         let put = b.sets.saturating_sub(put);
-        let left = free_count(b);
+        let left = free_count(b, 4096);
         let cost = got == *gets && put == *sets;
         let right = answered == *answer && cost && left == *free && dir.size / 32 == *entries;
         assert!(rt; right, "step {k}: {got} gets, {put} sets, {left} free");

@@ -89,7 +89,7 @@ fn check_changes(rt: &impl Abort, b: &mut Counting, number: u32, inode: &mut Ino
         let answered = change_file(b, number, inode, change);
         let got = b.disk.reads().saturating_sub(got);
         let put = b.sets.saturating_sub(put);
-        let left = free_count(b);
+        let left = free_count(b, 4096);
         let right = answered == *answer && got == *gets && put == *sets && left == *free;
         assert!(rt; right, "change {k}: {got} gets, {put} sets, {left} free");
     }
