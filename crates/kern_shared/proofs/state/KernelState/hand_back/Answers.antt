@@ -1,4 +1,4 @@
-use Rattle.std.proofs.Common.{◌≡◌, ap, ◌∙◌, arith}
+use Rattle.std.proofs.Common.{◌≡◌, ◌+◌, ◌≤◌, ℕ, ap, ◌∙◌, arith}
 use Rattle.kern_shared.specs.Attends.{reserved_for}
 use Rattle.kern_shared.proofs.Keeping.{seated}
 use Rattle.kern_shared.proofs.state.KernelState.hand_back.Goals as goal
