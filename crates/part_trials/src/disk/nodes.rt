@@ -12,6 +12,14 @@ use memfs_node::{
 };
 use std::test::Fail;
 
+/// Whether this node is the lowest free one.
+fn is_lowest(b: &mut RamDisk, number: u32) -> bool
+    requires { Sound b.old.blocks }
+{
+    let first = b.full_blocks();
+    lowest_node(b, first) == Some(number)
+}
+
 /// Makes a directory, counts links of it up and down, and frees it. Whether each step left what it should.
 fn links_and_frees(b: &mut RamDisk) -> bool
     requires { Sound b.old.blocks }
@@ -30,8 +38,7 @@ fn links_and_frees(b: &mut RamDisk) -> bool
     let stays = !drop_link(b, number, &mut node, false);
     let once = node.nlink == 1 && inode_at(b, number) == node;
     free_node(b, number, &node);
-    let first = b.full_blocks();
-    full && twice && stays && once && has_room(b, 13) && lowest_node(b, first) == Some(number)
+    full && twice && stays && once && has_room(b, 13) && is_lowest(b, number)
 }
 
 /// A new disk of 16 blocks has 13 free ones.
