@@ -1,31 +1,35 @@
 #!/usr/bin/env python3
-"""How much of its bound each call uses: tools/bound_use.py [--programs KRES METER | --made KRES] [FOLDER..]
+"""How much of its bound each call uses: tools/bound_use.py [--compare] [--programs KRES METER]
 
-Prints the table of docs/KERNEL.md, over `gen 1000`, a thousand random scripts, and each script NAME.kres below the folders.
+Prints the table of docs/KERNEL.md: over `gen 1000`, the scripts of examples, docs/reserving and tests/rows and a thousand random
+ones the most that a turn of each call used, and beside it what the script of tests/reached does that is made for it. With --compare
+nothing is printed but what isn't as the page or these scripts say, and the status is 1 where there is something.
 
 Two programs run each script by `sim`. KRES is that of these sources; METER is made of a copy in which one number is another: where
 KRES tells after a turn what is charged, METER tells the most bytes that were live in it, as the heap's own meter has it. Nothing
 else of their reports may differ, which is looked at line by line, so what was live before a turn stands in the one and its most in
 the other. Without --programs both are built here, without their proof, which takes some minutes.
-
-With --made one program is enough, and only calls are told that make objects and free none: of these the most that was live in a
-turn is what is live behind it, which the report tells.
 """
 import os
+import re
 import subprocess
 import sys
 import tempfile
 from concurrent.futures import ThreadPoolExecutor
 from dataclasses import dataclass
+from itertools import takewhile
 
 import random_scripts
 from copies import TOP, copy_to, files_below, places
 from report import AT_BOOT, KEPT_BACK
 
 CLOSE = ("close", "dup2", "exec", "exit", "kill")  # these may use what is kept back
-ONLY_MAKE = ("fork", "mmap", "store", "pipe", "socket", "socketpair", "accept")
-TURNS = ("done", "part", "sleep", "ended", "gone")
+KILLED = "a kill for want of heap"  # no call, and it may use what is kept back
+TURNS = ("done", "part", "sleep", "ended")
 RANDOM = range(1, 1001)
+REACHED = f"{TOP}/tests/reached"
+SAID = re.compile(r"# (?P<call>\w+) uses (?P<used>\d+) of (?P<may>\d+) and leaves (?P<left>-?\d+)\n")
+PAGE = f"{TOP}/docs/KERNEL.md"
 
 # What METER is made by: of each file a text that stands there once, and the one in its place.
 CHANGES = (
@@ -35,97 +39,92 @@ CHANGES = (
      "    fn most(&self) -> u64;\n\n    /// Whether a process is there and has not ended.\n"),
     ("crates/call_run/src/store.rt", "    fn alive(&self, pid: u32) -> bool {",
      "    fn most(&self) -> u64 {\n        self.objects.heap.last_high()\n    }\n\n    fn alive(&self, pid: u32) -> bool {"),
-    ("crates/kern_events/src/cores.rt", "noted_of(Event::Turn(pid), asked, Some(entry), self.charged)",
+    ("crates/kern_events/src/cores/events.rt", "noted_of(Event::Turn(pid), asked, Some(entry), self.charged)",
      "noted_of(Event::Turn(pid), asked, Some(entry), self.store.most())"),
+    ("crates/kern_events/src/cores/events.rt", "live,\n            }),\n            bound: 0,\n            charged: self.charged,",
+     "live,\n            }),\n            bound: 0,\n            charged: self.store.most(),"),
 )
 
 
-def build_meter(folder):
-    """Builds METER of a copy with the changes."""
-    room = copy_to(f"{folder}/copy")
-    for name, old, new in CHANGES:
-        with open(f"{TOP}/{name}", encoding="utf-8") as file:
-            text = file.read()
-        if text.count(old) != 1:
-            sys.exit(f"bound_use: {name} has changed: {old.strip()!r} stands there {text.count(old)} times")
-        os.remove(f"{room}/{name}")  # it is the same file as the sources'
-        with open(f"{room}/{name}", "w", encoding="utf-8") as file:
-            file.write(text.replace(old, new))
-    os.makedirs(f"{room}/tools")
-    os.link(f"{TOP}/tools/unproved.py", f"{room}/tools/unproved.py")
-    subprocess.run([f"{room}/tools/unproved.py", f"{folder}/meter"], check=True)
-    return f"{folder}/meter"
+def change(path, name, old, new):
+    """Puts one text of a file in the place of another; the file isn't the sources' any more then."""
+    with open(path, encoding="utf-8") as file:
+        text = file.read()
+    if text.count(old) != 1:
+        sys.exit(f"bound_use: {name} has changed: {old.strip()!r} stands there {text.count(old)} times")
+    os.remove(path)
+    with open(path, "w", encoding="utf-8") as file:
+        file.write(text.replace(old, new))
 
 
 def build_both(folder):
-    subprocess.run([f"{TOP}/tools/unproved.py", f"{folder}/kres"], check=True)
-    return f"{folder}/kres", build_meter(folder)
+    """Builds KRES of the sources, and METER of a copy with the changes."""
+    subprocess.run([f"{TOP}/tools/unproved.py", f"{folder}/kres"], check=True, stdout=subprocess.DEVNULL)
+    copy = copy_to(f"{folder}/copy")
+    for name, old, new in CHANGES:
+        change(f"{copy}/{name}", name, old, new)
+    os.makedirs(f"{copy}/tools")
+    os.link(f"{TOP}/tools/unproved.py", f"{copy}/tools/unproved.py")
+    subprocess.run([f"{copy}/tools/unproved.py", f"{folder}/meter"], check=True, stdout=subprocess.DEVNULL)
+    return f"{folder}/kres", f"{folder}/meter"
 
 
 @dataclass
 class Turn:
-    """A turn: its call, what it could use and what it used, in bytes, and where it stands."""
+    """A turn: its call and its bound, the bytes that it used and those that it left behind it, and where it stands."""
 
     call: str
     bound: int
     used: int
+    left: int
     place: str
 
+    def kept_back(self):
+        return KEPT_BACK if self.call in (*CLOSE, KILLED) else 0
+
     def may_use(self):
-        return self.bound + (KEPT_BACK if self.call in CLOSE else 0)
+        return self.bound + self.kept_back()
 
     def unused(self):
         return self.may_use() - self.used
 
 
-@dataclass
-class Use:
-    """What is known of a call: how often it had a turn, how often one reached all it could use, and the turns that used most and
-    that left least."""
+class Reading:
+    """Goes through a run's lines, each as both programs tell it."""
 
-    turns: int = 0
-    reached: int = 0
-    most: Turn = None
-    nearest: Turn = None
+    def __init__(self):
+        self.calls, self.held, self.charged = {}, {}, AT_BOOT
 
-    def add(self, turn):
-        self.turns += 1
-        self.reached += turn.unused() == 0
-        if self.most is None or turn.used > self.most.used:
-            self.most = turn
-        if self.nearest is None or turn.unused() < self.nearest.unused():
-            self.nearest = turn
+    def live(self):
+        return self.charged - KEPT_BACK - sum(self.held.values())
 
-
-def line_apart(one, other, turn):
-    """What METER's line tells in place of KRES's; both are equal but for that, and equal where no turn is told."""
-    (head, _, charged), (its_head, _, most) = one.rpartition(" "), other.rpartition(" ")
-    if head != its_head or (not turn and charged != most):
-        sys.exit(f"bound_use: the reports differ: {one!r} and {other!r}")
-    return int(charged), int(most)
+    def line(self, one, other, place):
+        """The turn that a line tells, or None; both tell the same but for their last word, and that where no turn is told."""
+        (head, _, charged), (its_head, _, most) = one.rpartition(" "), other.rpartition(" ")
+        pid, word, *rest = one.split()[1:]
+        told = word in (*TURNS, "killed")
+        if head != its_head or (not told and charged != most):
+            sys.exit(f"bound_use: the reports of {place} differ: {one!r} and {other!r}")
+        before = self.live()
+        self.charged = int(charged)
+        if word in ("ask", "wake"):
+            self.calls[pid] = rest[0], int(rest[2])
+        elif word == "admit":
+            self.held[pid] = self.calls[pid][1]
+        elif word in (*TURNS, "gone", "abandon"):
+            self.held.pop(pid, None)
+        call, bound = (KILLED, 0) if word == "killed" else self.calls.get(pid, ("", 0))
+        return Turn(call, bound, int(most) - before, self.live() - before, place) if told else None
 
 
 def turns_of(name, report, metered):
-    """Each turn of a run, by the reports of both programs; by that of one where `metered` is None."""
-    calls, held, charged = {}, {}, AT_BOOT
-    lines, others = report.splitlines()[:-1], (metered or report).splitlines()[:-1]
+    """Each turn of a run, by the reports of both programs."""
+    lines, others = report.splitlines()[:-1], metered.splitlines()[:-1]
     if len(lines) != len(others):
         sys.exit(f"bound_use: the reports of {name} differ in length")
-    for one, other in zip(lines, others):
-        words = one.split()
-        pid, word = words[1], words[2]
-        live = charged - KEPT_BACK - sum(held.values())
-        charged, most = line_apart(one, other, word in TURNS)
-        if word in ("ask", "wake"):
-            calls[pid] = words[3], int(words[5])
-        elif word == "admit":
-            held[pid] = calls[pid][1]
-        elif word in (*TURNS, "abandon"):
-            held.pop(pid, None)
-        if metered is None:
-            most = charged - KEPT_BACK - sum(held.values())
-        if word in TURNS and word != "gone" and (metered is not None or calls[pid][0] in ONLY_MAKE):
-            yield Turn(*calls[pid], most - live, f"{name}, event {words[0]}")
+    reading = Reading()
+    told = (reading.line(one, other, f"{name}, event {place}") for place, (one, other) in enumerate(zip(lines, others), 1))
+    return [turn for turn in told if turn]
 
 
 def run(program, script):
@@ -134,59 +133,114 @@ def run(program, script):
 
 def uses_of(programs, name, script):
     """The turns of a script; none where it is at fault."""
-    report = run(programs[0], script)
-    if "\nend " not in report:
-        return []
-    return list(turns_of(name, report, programs[1] and run(programs[1], script)))
+    report, metered = (run(program, script) for program in programs)
+    return turns_of(name, report, metered) if "\nend " in report else []
 
 
-def scripts_of(kres, folders):
+def calls_in(rows):
+    """The scripts of a file of calls: behind `==` and the settings a call each line, with what is told of it."""
+    for section in re.split(r"^==", "\n" + rows, flags=re.M)[1:]:
+        settings, *lines = (it for it in section.splitlines() if not it.startswith("## "))
+        calls = [it.rpartition(" = ")[0] for it in lines]
+        yield "\n".join([*settings.strip().split(", "), "program init", *calls, "end", ""])
+
+
+def row_scripts(path):
+    """The scripts of a file of tests/rows that has some."""
+    with open(path, encoding="utf-8", errors="surrogateescape") as file:
+        text = file.read()
+    folder = os.path.basename(os.path.dirname(path))
+    if folder == "calls":
+        return list(calls_in(text))
+    if folder == "runs":
+        # Its first line has the words, and behind the next such line stands what comes of it.
+        lines = text.splitlines(keepends=True)[1:]
+        return ["".join(takewhile(lambda it: not it.startswith("== "), lines))]
+    return [text] if path.endswith(".kres") else []
+
+
+def scripts_of(kres):
     """Each script with its name."""
     yield "gen 1000", subprocess.run([kres, "gen", "1000"], capture_output=True, check=True).stdout
+    for folder in ("examples", "docs/reserving", "tests/rows"):
+        for path in files_below(f"{TOP}/{folder}"):
+            if path.endswith(".kres") or folder == "tests/rows":
+                yield from ((os.path.relpath(path, TOP), it.encode(errors="surrogateescape")) for it in row_scripts(path))
     calls = random_scripts.calls_of(["all"])
     yield from ((f"random {number}", random_scripts.script(number, calls)) for number in RANDOM)
-    for folder in folders:
-        for path in (it for it in files_below(folder) if it.endswith(".kres")):
-            with open(path, "rb") as file:
-                yield os.path.relpath(path, folder), file.read()
 
 
-def row(call, use):
-    most, nearest = use.most, use.nearest
-    kept = KEPT_BACK if call in CLOSE else 0
-    reached = f"{use.reached} times, first in {nearest.place}" if use.reached else f"no; {nearest.unused()} left in {nearest.place}"
-    return f"| `{call}` | {use.turns} | {most.used} | {most.bound} | {kept} | {reached} |"
+def made_scripts():
+    """Of each call that has one the script that is made for it, and what its first line says."""
+    for path in files_below(REACHED):
+        with open(path, encoding="utf-8") as file:
+            text = file.read()
+        said = SAID.match(text)
+        yield said["call"], text, tuple(int(said[it]) for it in ("used", "may", "left"))
 
 
-def table(uses):
-    """The calls that may use something, and the names of those that may not and used nothing."""
-    some = {call: use for call, use in sorted(uses.items()) if use.most.may_use() or use.most.used or use.nearest.may_use()}
-    yield "| call | turns | most used | its bound | of the 2176 | reached |"
-    yield "|---|---|---|---|---|---|"
-    yield from (row(call, use) for call, use in some.items())
-    rest = sorted(set(uses) - set(some))
-    if rest:
-        yield f"\nwithout a bound, and nothing used in {sum(uses[it].turns for it in rest)} turns: {', '.join(rest)}"
+def of_call(turns, call):
+    """The turn that a script is made for: the last of its call."""
+    return [it for it in turns if it.call == call][-1]
+
+
+def most_of(turns):
+    """Of some turns the one that used most; of equals the one that could use least."""
+    return max(turns, key=lambda it: (it.used, -it.may_use()))
+
+
+def row(call, turns, made):
+    most = most_of(turns)
+    reached = sum(it.unused() == 0 for it in turns if it.may_use())
+    used, may, _ = made
+    return f"| `{call}` | {len(turns)} | {most.used} | {most.bound} | {most.kept_back()} | {reached} | [{used} of {may}](../tests/reached/{call}.kres) |"
+
+
+def table(turns, made):
+    """A row of each call for which a script is made; what a kill uses; and the names of the calls that use nothing."""
+    yield "| call | turns | most used | its bound | kept back | reached | in a script made for it |"
+    yield "|---|---|---|---|---|---|---|"
+    yield from (row(call, turns[call], made[call]) for call in sorted(made))
+    rest = sorted(set(turns) - set(made) - {KILLED})
+    yield f"| {', '.join(f'`{it}`' for it in rest)} | {sum(len(turns[it]) for it in rest)} | 0 | 0 | 0 | | |"
+    killed = turns[KILLED]
+    yield f"| {KILLED} | {len(killed)} | {most_of(killed).used} | 0 | {KEPT_BACK} | {sum(it.unused() == 0 for it in killed)} | |"
+
+
+def faults(turns, programs):
+    """What isn't as it has to be: a turn above its bound, and a script that doesn't do what it says."""
+    for turn in (it for of in turns.values() for it in of if it.unused() < 0):
+        yield f"above its bound: {turn}"
+    for call, text, said in made_scripts():
+        turn = of_call(uses_of(programs, call, text.encode()), call)
+        if (turn.used, turn.may_use(), turn.left) != said:
+            yield f"tests/reached/{call}.kres says {said}, and it is {turn}"
+
+
+def measured(programs):
+    """The turns of all scripts, by their calls."""
+    turns = {}
+    with ThreadPoolExecutor(places()) as pool:
+        for turn in (it for of in pool.map(lambda it: uses_of(programs, *it), scripts_of(programs[0])) for it in of):
+            turns.setdefault(turn.call, []).append(turn)
+    return turns
 
 
 def main(words):
-    how, folders, named = words[0] if words else None, words, None
-    if how == "--programs":
-        named, folders = words[1:3], words[3:]
-    elif how == "--made":
-        named, folders = [words[1], None], words[2:]
-    uses = {}
+    named = words[words.index("--programs") + 1:][:2] if "--programs" in words else None
     with tempfile.TemporaryDirectory() as folder:
         programs = named or build_both(folder)
-        with ThreadPoolExecutor(places()) as pool:
-            for turns in pool.map(lambda it: uses_of(programs, *it), scripts_of(programs[0], folders)):
-                for turn in turns:
-                    uses.setdefault(turn.call, Use()).add(turn)
-    print("\n".join(table(uses)))
-    above = [use.nearest for use in uses.values() if use.nearest.unused() < 0]
-    for turn in above:
-        print(f"ABOVE ITS BOUND: {turn}")
-    return 1 if above else 0
+        turns = measured(programs)
+        told = list(faults(turns, programs))
+    text = "\n".join(table(turns, {call: said for call, _, said in made_scripts()}))
+    with open(PAGE, encoding="utf-8") as file:
+        same = text in file.read()
+    if "--compare" not in words:
+        print(text)
+    elif not same:
+        told.append("docs/KERNEL.md has another table")
+    print("".join(f"bound_use: {it}\n" for it in told), end="")
+    return 1 if told else 0
 
 
 if __name__ == "__main__":

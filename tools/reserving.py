@@ -1,8 +1,8 @@
 #!/usr/bin/env python3
-"""What reserving brings and takes, measured: tools/reserving.py [KRES]
+"""What reserving brings and takes, measured: tools/reserving.py [--compare | --cost] [KRES]
 
 Runs the four loads of docs/reserving, each over heaps of eight sizes with ten seeds, by `sim` of the program KRES (./kres where
-none is named), writes the graphs there anew, and prints the tables of docs/RESERVING.md. For each time a call begins (it is
+none is named), writes the graphs there anew, and prints the tables of docs/RESERVING.md, where they have to be put by hand. For each time a call begins (it is
 asked, or has woken) the report tells what was live then, what its turn made, and when it was let in. With --compare nothing is
 written: the status is 1 where a graph or a table is another one. With --cost it prints what each event of a call takes in
 instructions instead, by valgrind: a run of one event more takes as many more.
@@ -15,6 +15,7 @@ import tempfile
 from dataclasses import dataclass, fields
 
 from report import AT_BOOT, KEPT_BACK
+from reserving_graphs import Graph, percents, powers
 
 TOP = os.path.dirname(os.path.dirname(os.path.realpath(__file__)))
 FOLDER = f"{TOP}/docs/reserving"
@@ -205,80 +206,49 @@ def cost_rows(kres):
         yield f"| `{name}` | " + " | ".join(told) + " |"
 
 
-# The graphs: a panel for each load, in which the heaps stand from left to right.
+# The graphs.
 
-INK, MUTED, FAINT, RED, AMBER, GREEN, BLUE = "#1f2933", "#66727f", "#e3e8ee", "#cf3a3a", "#e8a317", "#4d9c8c", "#2f6fd0"
-WIDTH, HEIGHT, LEFT, GAP = 400, 190, 56, 62
-
-
-def text_at(x, y, said, colour=INK, anchor="start", size=11):
-    return (f'<text x="{x:.1f}" y="{y:.1f}" fill="{colour}" text-anchor="{anchor}" font-size="{size}" '
-            f'font-family="Helvetica, Arial, sans-serif">{said}</text>')
-
-
-def line_at(x, y, x2, y2, colour, width=1.0):
-    return f'<line x1="{x:.1f}" y1="{y:.1f}" x2="{x2:.1f}" y2="{y2:.1f}" stroke="{colour}" stroke-width="{width}"/>'
-
-
-def frame(x, y, title, most, unit):
-    """A panel's title, its lines from 0 to the most, and the heaps below it."""
-    drawn = [text_at(x, y - 12, title, size=13)]
-    for quarter in range(5):
-        at = y + HEIGHT * (1 - quarter / 4)
-        drawn += [line_at(x, at, x + WIDTH, at, FAINT), text_at(x - 6, at + 4, f"{most * quarter / 4:g}{unit}", MUTED, "end", 10)]
-    for place, heap in enumerate(HEAPS):
-        drawn.append(text_at(x + WIDTH * (place + 0.5) / len(HEAPS), y + HEIGHT + 15, f"{heap // 1024}K", MUTED, "middle", 10))
-    return drawn
+def middle_graph(found):
+    """Of what begins the calls that wait, by what came of it."""
+    shares = {at: [it.share(part) for part in (it.middle, it.in_vain, it.waited - it.let_in)] for at, it in found.items()}
+    kinds = ("out", "vain", "wait")
+    graph = Graph(
+        "Of a hundred calls that begin, those that wait for room",
+        "a bar is all that wait, and its colours tell what becomes of them; no bar: none waits",
+        [("out", "would have run out of heap in the middle"), ("vain", "waits in vain: would have had room"),
+         ("wait", "is never let in: killed, or the run ends")],
+        percents(max(sum(it) for it in shares.values())), LOADS, HEAPS)
+    for (load, heap), parts in shares.items():
+        graph.stack(load, heap, zip(kinds, parts))
+    return graph
 
 
-def curve(x, y, values, most, colour):
-    """The values of the heaps, joined."""
-    points = [(x + WIDTH * (place + 0.5) / len(values), y + HEIGHT * (1 - min(1, value / most))) for place, value in enumerate(values)]
-    joined = " ".join(f"{at:.1f},{up:.1f}" for at, up in points)
-    dots = [f'<circle cx="{at:.1f}" cy="{up:.1f}" r="3" fill="{colour}"/>' for at, up in points]
-    return [f'<polyline points="{joined}" fill="none" stroke="{colour}" stroke-width="2"/>', *dots]
+def waits_graph(found):
+    """How long those waited that were let in."""
+    graph = Graph(
+        "How many events a call waits for room", "of the calls that wait and are let in; on a scale of powers of ten",
+        [("wait", "the mean; the line reaches up to the longest wait, whose number stands above it")],
+        powers(max(it.longest for it in found.values())), LOADS, HEAPS)
+    for (load, heap), it in found.items():
+        graph.reach(load, heap, "wait", mean_wait(it) if it.let_in else None, it.longest)
+    return graph
 
 
-def round_up(value):
-    """A number from 4, 8, 20, 40, 80, .. that isn't below the value."""
-    return next(step * 10 ** power for power in range(9) for step in (4, 8, 20) if step * 10 ** power >= value)
-
-
-def graph(title, unit, curves):
-    """Four panels; each curve has its colour, its words, and of each load and heap a number."""
-    whole, drawn = 2 * (LEFT + WIDTH) + 40, []
-    for place, load in enumerate(LOADS):
-        x, y = LEFT + place % 2 * (LEFT + WIDTH + 10), 84 + place // 2 * (HEIGHT + GAP)
-        rows = [(colour, [value(load, heap) for heap in HEAPS]) for colour, _, value in curves]
-        most = round_up(max(max(values) for _, values in rows))
-        drawn += frame(x, y, load, most, unit)
-        for colour, values in rows:
-            drawn += curve(x, y, values, most, colour)
-    legend = 24
-    for colour, words, _ in curves:
-        drawn += [line_at(legend, 44, legend + 22, 44, colour, 3), text_at(legend + 28, 48, words)]
-        legend += 44 + 6.1 * len(words)
-    height = 84 + 2 * (HEIGHT + GAP)
-    head = f'<svg xmlns="http://www.w3.org/2000/svg" width="{whole}" height="{height}" viewBox="0 0 {whole} {height}">'
-    white = f'<rect width="{whole}" height="{height}" fill="#ffffff"/>'
-    return "\n".join([head, white, text_at(24, 26, title, size=15), *drawn, "</svg>"]) + "\n"
+def reliefs_graph(found):
+    """What happened so that calls could go on, or since they couldn't."""
+    graph = Graph(
+        "Evictions, kills and refusals", "in ten runs together; on a scale of powers of ten; no bar: none",
+        [("eviction", "objects evicted while a call waited"), ("kill", "processes killed"), ("refusal", "calls refused")],
+        powers(max(it.evicted for it in found.values())), LOADS, HEAPS)
+    for (load, heap), it in found.items():
+        graph.bars(load, heap, [("eviction", it.evicted), ("kill", it.killed), ("refusal", it.refused)])
+    return graph
 
 
 def graphs(found):
     """The graphs by the names of their files."""
-    yield "middle.svg", graph("Of a hundred times that a call begins", "%", [
-        (RED, "out of heap in the middle, if nothing were reserved", lambda *at: found[at].share(found[at].middle)),
-        (AMBER, "waits for room", lambda *at: found[at].share(found[at].waited)),
-        (BLUE, "waits though it would have had room", lambda *at: found[at].share(found[at].in_vain)),
-    ])
-    yield "waits.svg", graph("Events from the beginning of a wait to its end", "", [
-        (AMBER, "mean", lambda *at: mean_wait(found[at])),
-    ])
-    yield "reliefs.svg", graph("Per run, of ten", "", [
-        (GREEN, "evictions", lambda *at: found[at].evicted / len(SEEDS)),
-        (RED, "kills", lambda *at: found[at].killed / len(SEEDS)),
-        (BLUE, "refusals", lambda *at: found[at].refused / len(SEEDS)),
-    ])
+    for name, drawn in (("middle", middle_graph), ("waits", waits_graph), ("reliefs", reliefs_graph)):
+        yield f"{name}.svg", drawn(found).svg()
 
 
 def differing(files, tables):
@@ -303,7 +273,7 @@ def main(words):
     files, tables = list(graphs(found)), {load: table(load, found) for load in LOADS}
     if compare:
         others = list(differing(files, tables))
-        print("\n".join(f"reserving: {it} is another one" for it in others))
+        print("".join(f"reserving: {it} is another one; tools/reserving.py makes it anew\n" for it in others), end="")
         return 1 if others else 0
     for name, text in files:
         with open(f"{FOLDER}/{name}", "w", encoding="utf-8") as file:

@@ -36,6 +36,7 @@ EXCEPTIONS = {
     ("kern_events", "default_event"): "what a run takes that chooses nothing; the program picks by numbers, by ends or by workers",
     ("kern_events", "step"): "an event, and what is noted of it; the program reads what was noted when the run has ended",
     ("charge_words", "settle"): "a seat that goes gives all that it holds to another in one step",
+    ("priced_store", "run_maps"): "what who copies the store begins with: a script run over it",
 }
 
 # The part of crates.txt that names the crates which are tests alone.

@@ -1,6 +1,8 @@
 -- The kernel's value goes on with one more item.
 use Rattle.std.proofs.Common.{◌≡◌, ℕ, ◌+◌, ◌||◌, Bool, true, false, List, [], ◌∷◌, ◌++◌, refl, ap, sym, ◌∙◌, subst}
+use Rattle.kabi_types.specs.declared.calls.Call.{Call}
 use Rattle.kabi_types.specs.declared.scripts.Script.{Script}
+use Rattle.posix_defs.specs.declared.turner.Turned.{Turned}
 use Rattle.posix_defs.specs.History.{Past}
 use Rattle.posix_defs.specs.Licence.{can_evict_any}
 use Rattle.posix_defs.specs.Sizes.{reserve}
@@ -11,6 +13,7 @@ use Rattle.turn_words.specs.declared.items.Item.{Item}
 use Rattle.turn_words.specs.declared.items.Item.TheVariants.{Quiet}
 use Rattle.turn_words.specs.Items.{entry_of}
 use Rattle.turn_words.proofs.Notes.{noted_more}
+use Rattle.kern_shared.specs.Led.{IsLed}
 use Rattle.kern_shared.specs.Shared.{MayShare, goes_on, has_starved, is_starved, is_turn}
 use Rattle.kern_shared.specs.Shares.{AreHeld, ArePresent, HasRoom, IsTold, KernelValue, Shares, last_of}
 use Rattle.kern_shared.proofs.Starving.{starved_stands}
@@ -39,7 +42,7 @@ or_false false c is = is
 pub starved_same : (items : List Item) (x : Item) → is_starved x ≡ false → has_starved (items ++ x ∷ []) ≡ has_starved items
 starved_same items x is = starved_more items x ∙ or_false (has_starved items) (is_starved x) is
 
-module _ {T : Type 0} (stands_for : T → World → Type 0) (script_of : T → Script) where
+module _ {T : Type 0} (stands_for : T → World → Type 0) (script_of : T → Script) (beside : T → ℕ → Call → Turned → T → Type 0) where
   -- What has to be shown of one more item and of the value behind it.
   pub record IsBehind (script : Script) (steps : ℕ) (charge : ChargeWord) (old new : KernelValue T) (items : List Item) (past : Past) (x : Item) : Type 0 where
     pub next : Past
@@ -48,6 +51,7 @@ module _ {T : Type 0} (stands_for : T → World → Type 0) (script_of : T → S
     pub turns : is_turn x ≡ true → has_starved items ≡ false
     pub named : script_of new.store ≡ script
     pub stands : stands_for new.store world
+    pub led : IsLed stands_for beside script new.history world new.store
     pub plain : world.plain ≡ next.plain
     pub account : world.account ≡ next.account
     pub may_keep : MayKeep world.plain world.kept
@@ -65,14 +69,15 @@ module _ {T : Type 0} (stands_for : T → World → Type 0) (script_of : T → S
     pub same_heap : new.heap ≡ old.heap
     pub room : HasRoom steps new.entry_room new.held_room new.awake_room new.dozing_room
 
-  pub behind : (script : Script) (steps : ℕ) (charge : ChargeWord) (old new : KernelValue T) (items : List Item) (s : Shares stands_for script_of script steps charge old items)
-      (x : Item) → IsBehind script steps charge old new items s.past x → Shares stands_for script_of script steps charge new (items ++ x ∷ [])
+  pub behind : (script : Script) (steps : ℕ) (charge : ChargeWord) (old new : KernelValue T) (items : List Item) (s : Shares stands_for script_of beside script steps charge old items)
+      (x : Item) → IsBehind script steps charge old new items s.past x → Shares stands_for script_of beside script steps charge new (items ++ x ∷ [])
   behind script steps charge old new items s x is = record {
     past = is.next;
     world = is.world;
     shared = goes_on items s.past is.next x s.shared is.may;
     named = is.named;
     stands = is.stands;
+    led = is.led;
     plain = is.plain;
     account = is.account;
     may_keep = is.may_keep;

@@ -2,8 +2,10 @@
 use Rattle.std.proofs.Common.{◌≡◌, ℕ, zero, suc, ◌+◌, ◌≤◌, ◌==◌, ◌||◌, ◌&&◌, Bool, true, false, true≢false, List, [], ◌∷◌, ◌++◌, length, refl, ap, sym, ◌∙◌, subst, arith, append-nil}
 use Rattle.std.proofs.lemmas.Bool.{eqb-true}
 use Rattle.std.proofs.lemmas.List.{length-map}
+use Rattle.kabi_types.specs.declared.calls.Call.{Call}
 use Rattle.kabi_types.specs.declared.entries.Entry.{Entry}
 use Rattle.kabi_types.specs.declared.scripts.Script.{Script}
+use Rattle.posix_defs.specs.declared.turner.Turned.{Turned}
 use Rattle.posix_defs.specs.CoreRun.{IsCoreRun, boots}
 use Rattle.posix_defs.specs.CoreState.{boot_state}
 use Rattle.posix_defs.specs.History.{boot_past, is_among}
@@ -21,6 +23,7 @@ use Rattle.turn_words.specs.declared.items.Item.TheVariants.{Given, Back, Starve
 use Rattle.turn_words.specs.Items.{entry_of, is_given, noted}
 use Rattle.turn_words.proofs.Held.{not_true}
 use Rattle.kern_shared.specs.declared.held.Held.{Held}
+use Rattle.kern_shared.specs.Led.{starts as begins}
 use Rattle.kern_shared.specs.Shared.{MayShare, has_starved, is_turn, starts}
 use Rattle.kern_shared.specs.Shares.{AreHeld, FewAreHeld, HasRoom, IsTold, KernelValue, ReservedBeforeStarved, Shares, StandsAtBoot, StandsBehindBack, StandsBehindGiven, StandsBehindLive, StandsBehindStarved, at_start, pids_of, without}
 use Rattle.kern_shared.proofs.Behind.{behind, starved_more, starved_same}
@@ -40,8 +43,8 @@ none_dozing : (b : Bool) → false ≡ (b && false)
 none_dozing true = refl
 none_dozing false = refl
 
-module _ {T : Type 0} (stands_for : T → World → Type 0) (script_of : T → Script) where
-  pub at_boot : StandsAtBoot stands_for script_of
+module _ {T : Type 0} (stands_for : T → World → Type 0) (script_of : T → Script) (beside : T → ℕ → Call → Turned → T → Type 0) where
+  pub at_boot : StandsAtBoot stands_for script_of beside
   unfolding no_places
   at_boot store seat steps total entry_room held_room awake_room dozing_room stands boot holds heap same_heap room = record {
     past = boot_past (script_of store);
@@ -49,6 +52,7 @@ module _ {T : Type 0} (stands_for : T → World → Type 0) (script_of : T → S
     shared = starts;
     named = refl;
     stands = stands;
+    led = begins store stands;
     plain = refl;
     account = refl;
     may_keep = (let run : IsCoreRun (script_of store) 0 [] (boot_state (script_of store)) = boots in (is_sound run).may_keep);
@@ -75,19 +79,20 @@ module _ {T : Type 0} (stands_for : T → World → Type 0) (script_of : T → S
   }
 
   -- an item without an entry, which leaves the store, its seat and who is live
-  quietly : (script : Script) (steps : ℕ) (charge : ChargeWord) (value : KernelValue T) (items : List Item) (s : Shares stands_for script_of script steps charge value items)
+  quietly : (script : Script) (steps : ℕ) (charge : ChargeWord) (value : KernelValue T) (items : List Item) (s : Shares stands_for script_of beside script steps charge value items)
       (x : Item) (held : List Held) (starved : Bool) → MayShare script steps items s.past x s.past → entry_of x ≡ [] → is_turn x ≡ false
       → AreHeld script s.past.plain held (items ++ x ∷ []) → starved ≡ has_starved (items ++ x ∷ [])
       → IsTold s.world x → (has_starved (items ++ x ∷ []) ≡ true → can_evict_any s.world ≡ false)
-      → Shares stands_for script_of script steps charge (record value { held = held; starved = starved }) (items ++ x ∷ [])
+      → Shares stands_for script_of beside script steps charge (record value { held = held; starved = starved }) (items ++ x ∷ [])
   quietly script steps charge value items s x held starved may none no_turn are answered tells bare =
-      behind stands_for script_of script steps charge value (record value { held = held; starved = starved }) items s x (record {
+      behind stands_for script_of beside script steps charge value (record value { held = held; starved = starved }) items s x (record {
         next = s.past;
         world = s.world;
         may = may;
         turns = λ turn. absurd (true≢false (sym turn ∙ no_turn));
         named = s.named;
         stands = s.stands;
+        led = s.led;
         plain = s.plain;
         account = s.account;
         may_keep = s.may_keep;
@@ -106,14 +111,14 @@ module _ {T : Type 0} (stands_for : T → World → Type 0) (script_of : T → S
         room = s.room;
       })
 
-  pub behind_given : StandsBehindGiven stands_for script_of
+  pub behind_given : StandsBehindGiven stands_for script_of beside
   behind_given script steps charge value items s h may is_bound =
       quietly script steps charge value items s (Given h.pid) (value.held ++ h ∷ []) value.starved (may, refl) refl refl
       (held_more script items s.past value.held h may.free is_bound s.held)
       (s.starved ∙ sym (starved_same items (Given h.pid) refl)) tt
       (λ starved. s.bare (sym (starved_same items (Given h.pid) refl) ∙ starved))
 
-  pub behind_back : StandsBehindBack stands_for script_of
+  pub behind_back : StandsBehindBack stands_for script_of beside
   behind_back script steps charge value items s pid is_held =
       let may : MayShare script steps items s.past (Back pid) s.past = (is_held, refl) in
       quietly script steps charge value items s (Back pid) (without pid value.held) value.starved may refl refl
@@ -121,7 +126,7 @@ module _ {T : Type 0} (stands_for : T → World → Type 0) (script_of : T → S
       (s.starved ∙ sym (starved_same items (Back pid) refl)) tt
       (λ starved. s.bare (sym (starved_same items (Back pid) refl) ∙ starved))
 
-  pub behind_live : StandsBehindLive stands_for script_of
+  pub behind_live : StandsBehindLive stands_for script_of beside
   behind_live script steps charge value items s =
       let n = live_of s.world in
       quietly script steps charge value items s (Live n) value.held value.starved refl refl refl
@@ -129,7 +134,7 @@ module _ {T : Type 0} (stands_for : T → World → Type 0) (script_of : T → S
       (s.starved ∙ sym (starved_same items (Live n) refl)) refl
       (λ starved. s.bare (sym (starved_same items (Live n) refl) ∙ starved))
 
-  pub behind_starved : StandsBehindStarved stands_for script_of
+  pub behind_starved : StandsBehindStarved stands_for script_of beside
   behind_starved script steps charge value items s is_held starves bare =
       let may : MayShare script steps items s.past Starved s.past = (is_held, starves, refl) in
       quietly script steps charge value items s Starved value.held true may refl refl
@@ -140,7 +145,7 @@ module _ {T : Type 0} (stands_for : T → World → Type 0) (script_of : T → S
       or_true true = refl
       or_true false = refl
 
-  pub before_starved : ReservedBeforeStarved stands_for script_of
+  pub before_starved : ReservedBeforeStarved stands_for script_of beside
   before_starved script steps charge value items s pid alive fits =
       s.starved ∙ no_room script items s.past s.world pid s.still s.plain s.account s.may_keep alive
       (subst (λ n. n + bound (call_of script s.past.plain pid) ≤ script.heap) s.holds fits)
@@ -151,17 +156,17 @@ module _ {T : Type 0} (stands_for : T → World → Type 0) (script_of : T → S
       → script ≡ script_of store → steps ≡ limit → charge ≡ seat.charge → history ≡ [] → held ≡ [] → awake ≡ 1 ∷ [] → dozing ≡ []
       → stands_for store (boot_world (script_of store)) → seat.known.is_boot ≡ true → seat.known.holds ≡ fixed → seat.charge.heap ≡ (script_of store).heap → total ≡ (script_of store).heap
       → HasRoom limit entry_room held_room awake_room dozing_room
-      → Shares stands_for script_of script steps charge
+      → Shares stands_for script_of beside script steps charge
       (record (at_start store seat limit total entry_room held_room awake_room dozing_room) { history = history; held = held; awake = awake; dozing = dozing }) []
   named_at_boot script steps limit charge store seat history held awake dozing total entry_room held_room awake_room dozing_room
       script_is steps_is charge_is history_is held_is awake_is dozing_is stands boot holds heap same_heap room =
-      subst (λ sc. Shares stands_for script_of sc steps charge (value history held awake dozing) []) (sym script_is)
-      (subst (λ n. Shares stands_for script_of (script_of store) n charge (value history held awake dozing) []) (sym steps_is)
-      (subst (λ w. Shares stands_for script_of (script_of store) limit w (value history held awake dozing) []) (sym charge_is)
-      (subst (λ l. Shares stands_for script_of (script_of store) limit seat.charge (value l held awake dozing) []) (sym history_is)
-      (subst (λ l. Shares stands_for script_of (script_of store) limit seat.charge (value [] l awake dozing) []) (sym held_is)
-      (subst (λ l. Shares stands_for script_of (script_of store) limit seat.charge (value [] [] l dozing) []) (sym awake_is)
-      (subst (λ l. Shares stands_for script_of (script_of store) limit seat.charge (value [] [] (1 ∷ []) l) []) (sym dozing_is)
+      subst (λ sc. Shares stands_for script_of beside sc steps charge (value history held awake dozing) []) (sym script_is)
+      (subst (λ n. Shares stands_for script_of beside (script_of store) n charge (value history held awake dozing) []) (sym steps_is)
+      (subst (λ w. Shares stands_for script_of beside (script_of store) limit w (value history held awake dozing) []) (sym charge_is)
+      (subst (λ l. Shares stands_for script_of beside (script_of store) limit seat.charge (value l held awake dozing) []) (sym history_is)
+      (subst (λ l. Shares stands_for script_of beside (script_of store) limit seat.charge (value [] l awake dozing) []) (sym held_is)
+      (subst (λ l. Shares stands_for script_of beside (script_of store) limit seat.charge (value [] [] l dozing) []) (sym awake_is)
+      (subst (λ l. Shares stands_for script_of beside (script_of store) limit seat.charge (value [] [] (1 ∷ []) l) []) (sym dozing_is)
       (at_boot store seat limit total entry_room held_room awake_room dozing_room stands boot holds heap same_heap room)))))))
     where
       value : List Entry → List Held → List ℕ → List ℕ → KernelValue T
@@ -169,15 +174,16 @@ module _ {T : Type 0} (stands_for : T → World → Type 0) (script_of : T → S
           record (at_start store seat limit total entry_room held_room awake_room dozing_room) { history = entries; held = pids; awake = up; dozing = sleepers }
 
   -- another state of its charge seat that holds as much
-  pub seated : (script : Script) (steps : ℕ) (charge : ChargeWord) (value : KernelValue T) (items : List Item) → Shares stands_for script_of script steps charge value items
+  pub seated : (script : Script) (steps : ℕ) (charge : ChargeWord) (value : KernelValue T) (items : List Item) → Shares stands_for script_of beside script steps charge value items
       → (seat : SeatState) → seat.charge ≡ charge → seat.known.is_boot ≡ true → seat.known.holds ≡ value.seat.known.holds
-      → Shares stands_for script_of script steps charge (record value { seat = seat }) items
+      → Shares stands_for script_of beside script steps charge (record value { seat = seat }) items
   seated script steps charge value items s seat of_charge boot holds = record {
     past = s.past;
     world = s.world;
     shared = s.shared;
     named = s.named;
     stands = s.stands;
+    led = s.led;
     plain = s.plain;
     account = s.account;
     may_keep = s.may_keep;
@@ -201,14 +207,14 @@ module _ {T : Type 0} (stands_for : T → World → Type 0) (script_of : T → S
   -- a process is taken back, in a list with the same room
   pub released : (script : Script) (steps : ℕ) (charge : ChargeWord) (value : KernelValue T) (pid : ℕ) (held : List Held) (held_room : ℕ)
       → held ≡ without pid value.held → held_room ≡ value.held_room
-      → (items : List Item) → Shares stands_for script_of script steps charge value items → is_given pid items ≡ true
-      → Shares stands_for script_of script steps charge (record value { held = held; held_room = held_room }) (items ++ Back pid ∷ [])
+      → (items : List Item) → Shares stands_for script_of beside script steps charge value items → is_given pid items ≡ true
+      → Shares stands_for script_of beside script steps charge (record value { held = held; held_room = held_room }) (items ++ Back pid ∷ [])
   released script steps charge value pid held held_room held_is room_is items s is_held =
-      subst (λ l. Shares stands_for script_of script steps charge (record value { held = l; held_room = held_room }) (items ++ Back pid ∷ [])) (sym held_is)
-      (subst (λ n. Shares stands_for script_of script steps charge (record value { held = without pid value.held; held_room = n }) (items ++ Back pid ∷ [])) (sym room_is)
+      subst (λ l. Shares stands_for script_of beside script steps charge (record value { held = l; held_room = held_room }) (items ++ Back pid ∷ [])) (sym held_is)
+      (subst (λ n. Shares stands_for script_of beside script steps charge (record value { held = without pid value.held; held_room = n }) (items ++ Back pid ∷ [])) (sym room_is)
       (behind_back script steps charge value items s pid is_held))
 
-  pub few_held : FewAreHeld stands_for script_of
+  pub few_held : FewAreHeld stands_for script_of beside
   few_held script steps charge value items s =
       let most : length (pids_of value.held) ≤ last_pid s.past.plain =
       few_among (pids_of value.held) (last_pid s.past.plain) s.held.once (λ pid among. held_made script steps items s.past s.shared pid (sym (s.held.pids pid) ∙ among)) in

@@ -8,6 +8,7 @@ use Rattle.kabi_types.specs.declared.entries.End.{End}
 use Rattle.kabi_types.specs.declared.entries.End.TheVariants as end
 use Rattle.kabi_types.specs.declared.entries.Entry.{Entry}
 use Rattle.kabi_types.specs.declared.scripts.Script.{Script}
+use Rattle.posix_defs.specs.declared.turner.Turned.{Turned}
 use Rattle.posix_defs.specs.History.{Past, is_among}
 use Rattle.posix_defs.specs.Machine.{would_block}
 use Rattle.posix_defs.specs.Needs.{bound}
@@ -200,23 +201,23 @@ pub goes_still : (script : Script) (steps : ℕ) (items : List Item) (past : Pas
     → IsOver script steps items past → ⊥
 goes_still script steps items past fed left held over = ⊎_elim fed (λ h. ⊎_elim left (λ k. held k.0) h) over
 
-module _ {T : Type 0} (stands_for : T → World → Type 0) (script_of : T → Script) where
+module _ {T : Type 0} (stands_for : T → World → Type 0) (script_of : T → Script) (beside : T → ℕ → Call → Turned → T → Type 0) where
   -- what holds of the past that a value has holds of every past that its items lead to
-  pub at_past : (script : Script) (steps : ℕ) (charge : ChargeWord) (value : KernelValue T) (items : List Item) (s : Shares stands_for script_of script steps charge value items)
+  pub at_past : (script : Script) (steps : ℕ) (charge : ChargeWord) (value : KernelValue T) (items : List Item) (s : Shares stands_for script_of beside script steps charge value items)
       (past : Past) → IsShared script steps items past → (P : Past → Type 0) → P s.past → P past
   at_past script steps charge value items s past shared P holds = subst P (one_past script steps items s.past past s.shared shared) holds
 
-  pub present_now : (script : Script) (steps : ℕ) (charge : ChargeWord) (value : KernelValue T) (items : List Item) (s : Shares stands_for script_of script steps charge value items)
+  pub present_now : (script : Script) (steps : ℕ) (charge : ChargeWord) (value : KernelValue T) (items : List Item) (s : Shares stands_for script_of beside script steps charge value items)
       → ArePresent s.past.plain value.awake value.dozing (noted items)
   present_now script steps charge value items s = subst (ArePresent s.past.plain value.awake value.dozing) s.history s.present
 
-  pub dozing_alive : (script : Script) (steps : ℕ) (charge : ChargeWord) (value : KernelValue T) (items : List Item) (s : Shares stands_for script_of script steps charge value items)
+  pub dozing_alive : (script : Script) (steps : ℕ) (charge : ChargeWord) (value : KernelValue T) (items : List Item) (s : Shares stands_for script_of beside script steps charge value items)
       → AreAlive s.world.plain value.dozing
   dozing_alive script steps charge value items s =
       subst (λ p. AreAlive p value.dozing) (sym s.plain) (dozing_live s.past.plain value.awake value.dozing value.history s.present)
 
   -- nobody is held where the list is empty, and somebody is where it isn't
-  pub nobody_held : (script : Script) (steps : ℕ) (charge : ChargeWord) (value : KernelValue T) (items : List Item) (s : Shares stands_for script_of script steps charge value items)
+  pub nobody_held : (script : Script) (steps : ℕ) (charge : ChargeWord) (value : KernelValue T) (items : List Item) (s : Shares stands_for script_of beside script steps charge value items)
       → (length value.held == 0) ≡ true → NobodyHeld items
   nobody_held script steps charge value items s none = by_list value.held (λ pid. s.held.pids pid) (eqb-true (length value.held) 0 none)
     where
@@ -224,7 +225,7 @@ module _ {T : Type 0} (stands_for : T → World → Type 0) (script_of : T → S
       by_list [] pids is = λ pid. sym (pids pid)
       by_list (h ∷ l) pids is = absurd (omega arith)
 
-  pub somebody_held : (script : Script) (steps : ℕ) (charge : ChargeWord) (value : KernelValue T) (items : List Item) (s : Shares stands_for script_of script steps charge value items)
+  pub somebody_held : (script : Script) (steps : ℕ) (charge : ChargeWord) (value : KernelValue T) (items : List Item) (s : Shares stands_for script_of beside script steps charge value items)
       → (length value.held == 0) ≡ false → NobodyHeld items → ⊥
   somebody_held script steps charge value items s some nobody = by_list value.held (λ pid. s.held.pids pid) some
     where
@@ -237,12 +238,12 @@ module _ {T : Type 0} (stands_for : T → World → Type 0) (script_of : T → S
   empty_of (x ∷ l) h = (let is : length (x ∷ l) ≡ 0 = eqb-true (length (x ∷ l)) 0 h in absurd (omega arith))
 
   -- what the tests of the two lists say of who sleeps
-  pub awake_says : (script : Script) (steps : ℕ) (charge : ChargeWord) (value : KernelValue T) (items : List Item) (s : Shares stands_for script_of script steps charge value items)
+  pub awake_says : (script : Script) (steps : ℕ) (charge : ChargeWord) (value : KernelValue T) (items : List Item) (s : Shares stands_for script_of beside script steps charge value items)
       → (length value.awake == 0) ≡ false → AllAsleep script items s.past → ⊥
   awake_says script steps charge value items s some =
       some_awake script items s.past value.awake value.dozing value.held (present_now script steps charge value items s) s.held some
 
-  pub asleep_says : (script : Script) (steps : ℕ) (charge : ChargeWord) (value : KernelValue T) (items : List Item) (s : Shares stands_for script_of script steps charge value items)
+  pub asleep_says : (script : Script) (steps : ℕ) (charge : ChargeWord) (value : KernelValue T) (items : List Item) (s : Shares stands_for script_of beside script steps charge value items)
       (dozing : List ℕ) (result : Bool) → (length value.awake == 0) ≡ true → dozing ≡ value.dozing
       → result ≡ list_all (λ pid. would_block (script_of value.store) s.world.plain pid) dozing → Says result (AllAsleep script items s.past)
   asleep_says script steps charge value items s dozing result none dozing_is is = says result is
@@ -257,24 +258,24 @@ module _ {T : Type 0} (stands_for : T → World → Type 0) (script_of : T → S
       says false h = some_ready script items s.past value.awake value.dozing value.held (present_now script steps charge value items s) s.held (sym test_is ∙ sym h)
 
   -- what the store answers, said of the past
-  pub alive_is : (script : Script) (steps : ℕ) (charge : ChargeWord) (value : KernelValue T) (items : List Item) (s : Shares stands_for script_of script steps charge value items)
+  pub alive_is : (script : Script) (steps : ℕ) (charge : ChargeWord) (value : KernelValue T) (items : List Item) (s : Shares stands_for script_of beside script steps charge value items)
       (pid : ℕ) (result b : Bool) → result ≡ is_alive s.world.plain.table pid → result ≡ b → is_alive s.past.plain.table pid ≡ b
   alive_is script steps charge value items s pid result b is told = ap (λ (p : Plain). is_alive p.table pid) (sym s.plain) ∙ sym is ∙ told
 
-  pub call_is : (script : Script) (steps : ℕ) (charge : ChargeWord) (value : KernelValue T) (items : List Item) (s : Shares stands_for script_of script steps charge value items)
+  pub call_is : (script : Script) (steps : ℕ) (charge : ChargeWord) (value : KernelValue T) (items : List Item) (s : Shares stands_for script_of beside script steps charge value items)
       (pid : ℕ) (call : Call) → call ≡ call_of (script_of value.store) s.world.plain pid → call ≡ call_of script s.past.plain pid
   call_is script steps charge value items s pid call is = is ∙ ap (λ sc. call_of sc s.world.plain pid) s.named ∙ ap (λ p. call_of script p pid) s.plain
 
-  pub lives_in_world : (script : Script) (steps : ℕ) (charge : ChargeWord) (value : KernelValue T) (items : List Item) (s : Shares stands_for script_of script steps charge value items)
+  pub lives_in_world : (script : Script) (steps : ℕ) (charge : ChargeWord) (value : KernelValue T) (items : List Item) (s : Shares stands_for script_of beside script steps charge value items)
       (pid : ℕ) → is_alive s.past.plain.table pid ≡ true → is_alive s.world.plain.table pid ≡ true
   lives_in_world script steps charge value items s pid alive = ap (λ (p : Plain). is_alive p.table pid) s.plain ∙ alive
 
   -- whether all steps are used up
-  pub spent_is : (script : Script) (steps : ℕ) (charge : ChargeWord) (value : KernelValue T) (items : List Item) (s : Shares stands_for script_of script steps charge value items)
+  pub spent_is : (script : Script) (steps : ℕ) (charge : ChargeWord) (value : KernelValue T) (items : List Item) (s : Shares stands_for script_of beside script steps charge value items)
       → (length value.history == value.steps) ≡ true → length (noted items) ≡ steps
   spent_is script steps charge value items s all = sym (ap length s.history) ∙ eqb-true (length value.history) value.steps all ∙ s.limit
 
-  pub below_is : (script : Script) (steps : ℕ) (charge : ChargeWord) (value : KernelValue T) (items : List Item) (s : Shares stands_for script_of script steps charge value items)
+  pub below_is : (script : Script) (steps : ℕ) (charge : ChargeWord) (value : KernelValue T) (items : List Item) (s : Shares stands_for script_of beside script steps charge value items)
       → (length value.history == value.steps) ≡ false → length value.history < steps
   below_is script steps charge value items s left =
       let within : length (noted items) ≤ steps = entries_within script steps items s.past s.shared in
@@ -283,12 +284,12 @@ module _ {T : Type 0} (stands_for : T → World → Type 0) (script_of : T → S
       ⊎_elim (λ h. let more = h.1 in contrary (length value.history == value.steps) (eq-eqb (length value.history) value.steps (omega (arith, within, same, limit, more))) left) (λ h. h.1)
       (leb_tells steps (length value.history))
 
-  pub below_noted : (script : Script) (steps : ℕ) (charge : ChargeWord) (value : KernelValue T) (items : List Item) (s : Shares stands_for script_of script steps charge value items)
+  pub below_noted : (script : Script) (steps : ℕ) (charge : ChargeWord) (value : KernelValue T) (items : List Item) (s : Shares stands_for script_of beside script steps charge value items)
       → (length value.history == value.steps) ≡ false → length (noted items) < steps
   below_noted script steps charge value items s left = subst (λ l. length l < steps) s.history (below_is script steps charge value items s left)
 
   -- whether an end that stands is one of the run
-  pub may_be : (script : Script) (steps : ℕ) (charge : ChargeWord) (value : KernelValue T) (items : List Item) (s : Shares stands_for script_of script steps charge value items)
+  pub may_be : (script : Script) (steps : ℕ) (charge : ChargeWord) (value : KernelValue T) (items : List Item) (s : Shares stands_for script_of beside script steps charge value items)
       (result : Bool) → result ≡ (value.starved || (length value.history == value.steps) || (length value.held == 0)) → result ≡ true
       → (has_starved items ≡ true) ⊎ ((length (noted items) ≡ steps) ⊎ NobodyHeld items)
   may_be script steps charge value items s result is told =
@@ -301,7 +302,7 @@ module _ {T : Type 0} (stands_for : T → World → Type 0) (script_of : T → S
       one false e false f true g h = inr (inr (nobody_held script steps charge value items s g))
       one false e false f false g h = absurd (true≢false (sym h))
 
-  pub may_not_be : (script : Script) (steps : ℕ) (charge : ChargeWord) (value : KernelValue T) (items : List Item) (s : Shares stands_for script_of script steps charge value items)
+  pub may_not_be : (script : Script) (steps : ℕ) (charge : ChargeWord) (value : KernelValue T) (items : List Item) (s : Shares stands_for script_of beside script steps charge value items)
       (result : Bool) → result ≡ (value.starved || (length value.history == value.steps) || (length value.held == 0)) → result ≡ false → IsOver script steps items s.past → ⊥
   may_not_be script steps charge value items s result is told =
       one value.starved refl (length value.history == value.steps) refl (length value.held == 0) refl (sym is ∙ told)
@@ -314,7 +315,7 @@ module _ {T : Type 0} (stands_for : T → World → Type 0) (script_of : T → S
       one false e false f false g h = goes_still script steps items s.past (λ starved. contrary (has_starved items) starved (sym s.starved ∙ e))
           (λ all. let below = below_noted script steps charge value items s f in absurd (omega arith)) (somebody_held script steps charge value items s g)
 
-  pub lowest_says : (script : Script) (steps : ℕ) (charge : ChargeWord) (value : KernelValue T) (items : List Item) (s : Shares stands_for script_of script steps charge value items)
+  pub lowest_says : (script : Script) (steps : ℕ) (charge : ChargeWord) (value : KernelValue T) (items : List Item) (s : Shares stands_for script_of beside script steps charge value items)
       (awake dozing : List ℕ) (held others : List Held) (first result : Option ℕ) → awake ≡ value.awake → held ≡ value.held → dozing ≡ value.dozing → others ≡ value.held
       → first ≡ lowest (λ pid. not (is_held pid held)) None awake
       → result ≡ lowest (λ pid. not (is_held pid others) && not (would_block (script_of value.store) s.world.plain pid)) first dozing
@@ -328,10 +329,10 @@ module _ {T : Type 0} (stands_for : T → World → Type 0) (script_of : T → S
       ∙ ap (lowest (λ pid. not (is_held pid value.held) && not (would_block script s.past.plain pid)) first) dozing_is)
 
   -- a process may be given, and there is room to hold it
-  pub room_for_one : (script : Script) (steps : ℕ) (charge : ChargeWord) (value : KernelValue T) (items : List Item) (s : Shares stands_for script_of script steps charge value items)
+  pub room_for_one : (script : Script) (steps : ℕ) (charge : ChargeWord) (value : KernelValue T) (items : List Item) (s : Shares stands_for script_of beside script steps charge value items)
       → (IsOver script steps items s.past → ⊥) → length value.held < value.held_room
   room_for_one script steps charge value items s goes =
-      let few : length value.held ≤ length value.history + 1 = few_held stands_for script_of script steps charge value items s in
+      let few : length value.held ≤ length value.history + 1 = few_held stands_for script_of beside script steps charge value items s in
       let within : length (noted items) ≤ steps = entries_within script steps items s.past s.shared in
       let same : length value.history ≡ length (noted items) = ap length s.history in
       let room : steps + 1 ≤ value.held_room = s.room.held in
@@ -340,10 +341,10 @@ module _ {T : Type 0} (stands_for : T → World → Type 0) (script_of : T → S
 
   pub given_now : (script : Script) (steps : ℕ) (charge : ChargeWord) (value : KernelValue T) (h : Held) (held : List Held) (held_room : ℕ)
       → held ≡ value.held ++ h ∷ [] → held_room ≡ value.held_room
-      → (items : List Item) (s : Shares stands_for script_of script steps charge value items) → MayGive script steps items s.past h.pid
+      → (items : List Item) (s : Shares stands_for script_of beside script steps charge value items) → MayGive script steps items s.past h.pid
       → h.bound ≡ bound (call_of script s.past.plain h.pid)
-      → Shares stands_for script_of script steps charge (record value { held = held; held_room = held_room }) (items ++ Given h.pid ∷ [])
+      → Shares stands_for script_of beside script steps charge (record value { held = held; held_room = held_room }) (items ++ Given h.pid ∷ [])
   given_now script steps charge value h held held_room held_is room_is items s may is_bound =
-      subst (λ l. Shares stands_for script_of script steps charge (record value { held = l; held_room = held_room }) (items ++ Given h.pid ∷ [])) (sym held_is)
-      (subst (λ n. Shares stands_for script_of script steps charge (record value { held = value.held ++ h ∷ []; held_room = n }) (items ++ Given h.pid ∷ [])) (sym room_is)
-      (behind_given stands_for script_of script steps charge value items s h may is_bound))
+      subst (λ l. Shares stands_for script_of beside script steps charge (record value { held = l; held_room = held_room }) (items ++ Given h.pid ∷ [])) (sym held_is)
+      (subst (λ n. Shares stands_for script_of beside script steps charge (record value { held = value.held ++ h ∷ []; held_room = n }) (items ++ Given h.pid ∷ [])) (sym room_is)
+      (behind_given stands_for script_of beside script steps charge value items s h may is_bound))

@@ -1,11 +1,13 @@
 -- The kernel's value behind what frees heap, as it leaves it.
 use Rattle.std.proofs.Common.{◌≡◌, ℕ, ◌+◌, ◌-◌, ◌*◌, ◌<◌, ◌≤◌, ◌||◌, Bool, true, false, cond, List, [], ◌∷◌, ◌++◌, length, Some, None, refl, ap, sym, ◌∙◌, subst, arith}
+use Rattle.kabi_types.specs.declared.calls.Call.{Call}
 use Rattle.kabi_types.specs.declared.entries.Cached.{Cached}
 use Rattle.kabi_types.specs.declared.entries.Cached.TheVariants.{Name, Block, Vnode}
 use Rattle.kabi_types.specs.declared.entries.Entry.{Entry}
 use Rattle.kabi_types.specs.declared.entries.Entry.TheVariants as entry
 use Rattle.kabi_types.specs.declared.scripts.Script.{Script}
 use Rattle.kern_events.specs.Reliefs.{first_evictable}
+use Rattle.posix_defs.specs.declared.turner.Turned.{Turned}
 use Rattle.posix_defs.specs.History.{Past}
 use Rattle.posix_defs.specs.Licence.{can_evict_any}
 use Rattle.posix_defs.specs.Needs.{bound}
@@ -73,15 +75,15 @@ nothing_before world what e = go (can_evict world.plain world.kept Name) refl (c
 pub freed : (holds live after : ℕ) → holds ≡ live + reserve → after ≤ live → holds - (live - after) ≡ after + reserve
 freed holds live after holds_is less = omega (arith, holds_is, less)
 
-module _ {T : Type 0} (stands_for : T → World → Type 0) (script_of : T → Script) where
-  pub vain_here : (script : Script) (steps : ℕ) (charge : ChargeWord) (value : KernelValue T) (items : List Item) (s : Shares stands_for script_of script steps charge value items)
+module _ {T : Type 0} (stands_for : T → World → Type 0) (script_of : T → Script) (beside : T → ℕ → Call → Turned → T → Type 0) where
+  pub vain_here : (script : Script) (steps : ℕ) (charge : ChargeWord) (value : KernelValue T) (items : List Item) (s : Shares stands_for script_of beside script steps charge value items)
       (past : Past) → IsShared script steps items past → (waiter need live : ℕ) → WaitsInVain script steps items past waiter need live
       → WaitsInVain script steps items s.past waiter need live
   vain_here script steps charge value items s past shared waiter need live may =
       subst (λ p. WaitsInVain script steps items p waiter need live) (one_past script steps items past s.past shared s.shared) may
 
   -- the call doesn't fit beside what the store's seat holds
-  pub full_beside : (script : Script) (steps : ℕ) (charge : ChargeWord) (value : KernelValue T) (items : List Item) (s : Shares stands_for script_of script steps charge value items)
+  pub full_beside : (script : Script) (steps : ℕ) (charge : ChargeWord) (value : KernelValue T) (items : List Item) (s : Shares stands_for script_of beside script steps charge value items)
       (waiter need live : ℕ) → live ≡ live_of s.world → WaitsInVain script steps items s.past waiter need live
       → script.heap < value.seat.known.holds + bound (call_of script s.past.plain waiter)
   full_beside script steps charge value items s waiter need live live_is may =
@@ -90,55 +92,55 @@ module _ {T : Type 0} (stands_for : T → World → Type 0) (script_of : T → S
       let is : need ≡ bound (call_of script s.past.plain waiter) = may.is_need in
       omega (arith, full, held, live_is, is)
 
-  pub victim_here : (script : Script) (steps : ℕ) (charge : ChargeWord) (value : KernelValue T) (items : List Item) (s : Shares stands_for script_of script steps charge value items)
+  pub victim_here : (script : Script) (steps : ℕ) (charge : ChargeWord) (value : KernelValue T) (items : List Item) (s : Shares stands_for script_of beside script steps charge value items)
       (pid : ℕ) → victim_of (script_of value.store).policy s.world.plain s.world.account ≡ Some pid → victim_of script.policy s.past.plain s.past.account ≡ Some pid
   victim_here script steps charge value items s pid victim =
       ap (λ p. victim_of script.policy p s.past.account) (sym s.plain) ∙ ap (victim_of script.policy s.world.plain) (sym s.account)
       ∙ ap (λ (sc : Script). victim_of sc.policy s.world.plain s.world.account) (sym s.named) ∙ victim
 
-  pub victim_here_none : (script : Script) (steps : ℕ) (charge : ChargeWord) (value : KernelValue T) (items : List Item) (s : Shares stands_for script_of script steps charge value items)
+  pub victim_here_none : (script : Script) (steps : ℕ) (charge : ChargeWord) (value : KernelValue T) (items : List Item) (s : Shares stands_for script_of beside script steps charge value items)
       → victim_of (script_of value.store).policy s.world.plain s.world.account ≡ None → victim_of script.policy s.past.plain s.past.account ≡ None
   victim_here_none script steps charge value items s none =
       ap (λ p. victim_of script.policy p s.past.account) (sym s.plain) ∙ ap (victim_of script.policy s.world.plain) (sym s.account)
       ∙ ap (λ (sc : Script). victim_of sc.policy s.world.plain s.world.account) (sym s.named) ∙ none
 
   -- the entry of a kill, by the numbers at hand
-  pub killed_is : (script : Script) (steps : ℕ) (charge : ChargeWord) (value : KernelValue T) (items : List Item) (s : Shares stands_for script_of script steps charge value items)
+  pub killed_is : (script : Script) (steps : ℕ) (charge : ChargeWord) (value : KernelValue T) (items : List Item) (s : Shares stands_for script_of beside script steps charge value items)
       (pid waiter need live : ℕ) → live ≡ live_of s.world → WaitsInVain script steps items s.past waiter need live
       → entry.Killed pid waiter need live ≡ killed_for script s.past s.world pid waiter
   killed_is script steps charge value items s pid waiter need live live_is may =
       ap (λ n. entry.Killed pid waiter n live) may.is_need ∙ ap (λ n. entry.Killed pid waiter (bound (call_of script s.past.plain waiter)) n) live_is
 
   -- the same kill, by the numbers at hand
-  pub named_kill : (script : Script) (steps : ℕ) (charge : ChargeWord) (value : KernelValue T) (items : List Item) (s : Shares stands_for script_of script steps charge value items)
+  pub named_kill : (script : Script) (steps : ℕ) (charge : ChargeWord) (value : KernelValue T) (items : List Item) (s : Shares stands_for script_of beside script steps charge value items)
       (new : KernelValue T) (pid waiter need live : ℕ) → live ≡ live_of s.world → WaitsInVain script steps items s.past waiter need live
-      → Shares stands_for script_of script steps charge new (items ++ Noted (killed_for script s.past s.world pid waiter) ∷ [])
-      → Shares stands_for script_of script steps charge new (items ++ Noted (entry.Killed pid waiter need live) ∷ [])
+      → Shares stands_for script_of beside script steps charge new (items ++ Noted (killed_for script s.past s.world pid waiter) ∷ [])
+      → Shares stands_for script_of beside script steps charge new (items ++ Noted (entry.Killed pid waiter need live) ∷ [])
   named_kill script steps charge value items s new pid waiter need live live_is may shares =
-      subst (λ n. Shares stands_for script_of script steps charge new (items ++ Noted (entry.Killed pid waiter n live) ∷ [])) (sym may.is_need)
-      (subst (λ n. Shares stands_for script_of script steps charge new (items ++ Noted (entry.Killed pid waiter (bound (call_of script s.past.plain waiter)) n) ∷ [])) (sym live_is) shares)
+      subst (λ n. Shares stands_for script_of beside script steps charge new (items ++ Noted (entry.Killed pid waiter n live) ∷ [])) (sym may.is_need)
+      (subst (λ n. Shares stands_for script_of beside script steps charge new (items ++ Noted (entry.Killed pid waiter (bound (call_of script s.past.plain waiter)) n) ∷ [])) (sym live_is) shares)
 
-  pub named_clear : (script : Script) (steps : ℕ) (charge : ChargeWord) (value : KernelValue T) (items : List Item) (s : Shares stands_for script_of script steps charge value items)
+  pub named_clear : (script : Script) (steps : ℕ) (charge : ChargeWord) (value : KernelValue T) (items : List Item) (s : Shares stands_for script_of beside script steps charge value items)
       (new : KernelValue T) (what : Cached) (live : ℕ) → live ≡ live_of s.world
-      → Shares stands_for script_of script steps charge new (items ++ Cleared what (live_of s.world) ∷ []) → Shares stands_for script_of script steps charge new (items ++ Cleared what live ∷ [])
+      → Shares stands_for script_of beside script steps charge new (items ++ Cleared what (live_of s.world) ∷ []) → Shares stands_for script_of beside script steps charge new (items ++ Cleared what live ∷ [])
   named_clear script steps charge value items s new what live live_is shares =
-      subst (λ n. Shares stands_for script_of script steps charge new (items ++ Cleared what n ∷ [])) (sym live_is) shares
+      subst (λ n. Shares stands_for script_of beside script steps charge new (items ++ Cleared what n ∷ [])) (sym live_is) shares
 
   -- an object went from a cache
-  pub cleared_now : (script : Script) (steps : ℕ) (charge : ChargeWord) (value : KernelValue T) (items : List Item) (s : Shares stands_for script_of script steps charge value items)
+  pub cleared_now : (script : Script) (steps : ℕ) (charge : ChargeWord) (value : KernelValue T) (items : List Item) (s : Shares stands_for script_of beside script steps charge value items)
       (store : T) (seat : SeatState) (after : World) (what : Cached) (history : List Entry) (entry_room : ℕ) → length (noted items) < steps → SomeLiveHeld items s.past
       → NothingBefore s.world what → can_evict s.world.plain s.world.kept what ≡ true → script_of store ≡ script → stands_for store after → Evicts s.world what after
       → seat.charge ≡ charge → seat.known.is_boot ≡ true → seat.known.holds ≡ live_of after + reserve
       → history ≡ value.history ++ entry.Evicted what ∷ [] → entry_room ≡ value.entry_room
-      → Shares stands_for script_of script steps charge (record value { store = store; seat = seat; history = history; entry_room = entry_room })
+      → Shares stands_for script_of beside script steps charge (record value { store = store; seat = seat; history = history; entry_room = entry_room })
       (items ++ Cleared what (live_of s.world) ∷ [])
   cleared_now script steps charge value items s store seat after what history entry_room below live_held before can named stands evicts of_charge boot holds history_is entries_same =
-      subst (λ v. Shares stands_for script_of script steps charge v (items ++ Cleared what (live_of s.world) ∷ [])) (cc (history_is, entries_same))
-      (behind_cleared stands_for script_of script steps charge value items s store seat after what (subst (λ l. length l < steps) (sym s.history) below) live_held before can
+      subst (λ v. Shares stands_for script_of beside script steps charge v (items ++ Cleared what (live_of s.world) ∷ [])) (cc (history_is, entries_same))
+      (behind_cleared stands_for script_of beside script steps charge value items s store seat after what (subst (λ l. length l < steps) (sym s.history) below) live_held before can
       named stands evicts of_charge boot holds)
 
   -- the victim was killed
-  pub killed_now : (script : Script) (steps : ℕ) (charge : ChargeWord) (value : KernelValue T) (items : List Item) (s : Shares stands_for script_of script steps charge value items)
+  pub killed_now : (script : Script) (steps : ℕ) (charge : ChargeWord) (value : KernelValue T) (items : List Item) (s : Shares stands_for script_of beside script steps charge value items)
       (store : T) (seat : SeatState) (after : World) (pid waiter before : ℕ) (history : List Entry) (awake dozing : List ℕ) (entry_room awake_room dozing_room : ℕ)
       → length (noted items) < steps → is_given waiter items ≡ true → is_alive s.past.plain.table waiter ≡ true → bound (call_of script s.past.plain waiter) ≤ room script.heap
       → script.heap < value.seat.known.holds + bound (call_of script s.past.plain waiter) → can_evict_any s.world ≡ false
@@ -147,7 +149,7 @@ module _ {T : Type 0} (stands_for : T → World → Type 0) (script_of : T → S
       → history ≡ value.history ++ killed_for script s.past s.world pid waiter ∷ []
       → awake ≡ awake_after after.plain pid false before value.awake → dozing ≡ dozing_after after.plain pid false value.dozing
       → entry_room ≡ value.entry_room → awake_room ≡ value.awake_room → dozing_room ≡ value.dozing_room
-      → Shares stands_for script_of script steps charge (record value {
+      → Shares stands_for script_of beside script steps charge (record value {
         store = store;
         seat = seat;
         history = history;
@@ -160,21 +162,21 @@ module _ {T : Type 0} (stands_for : T → World → Type 0) (script_of : T → S
   killed_now script steps charge value items s store seat after pid waiter before history awake dozing entry_room awake_room dozing_room below given alive fits full bare victim
       named stands kills of_charge boot holds before_is history_is awake_is dozing_is entries_same awake_same dozing_same =
       let leads = kill_leads script s.past s.world pid after (sym s.plain) (sym s.account) s.filled kills in
-      subst (λ v. Shares stands_for script_of script steps charge v (items ++ Noted (killed_for script s.past s.world pid waiter) ∷ []))
+      subst (λ v. Shares stands_for script_of beside script steps charge v (items ++ Noted (killed_for script s.past s.world pid waiter) ∷ []))
       (cc (history_is, awake_is, dozing_is, entries_same, awake_same, dozing_same))
-      (behind_killed stands_for script_of script steps charge value items s store seat (awake_after after.plain pid false before value.awake) (dozing_after after.plain pid false value.dozing)
+      (behind_killed stands_for script_of beside script steps charge value items s store seat (awake_after after.plain pid false before value.awake) (dozing_after after.plain pid false value.dozing)
       after pid waiter (subst (λ l. length l < steps) (sym s.history) below) given alive fits full bare victim named stands kills of_charge boot holds
-      (present_then stands_for script_of script steps charge value items s (past_killed script s.past pid) after.plain (killed_for script s.past s.world pid waiter) pid false before
+      (present_then stands_for script_of beside script steps charge value items s (past_killed script s.past pid) after.plain (killed_for script s.past s.world pid waiter) pid false before
       (killed_legal script s.past s.world pid waiter s.plain s.account s.may_keep bare victim alive (held_up script steps items s.past s.shared waiter given) fits
       (subst (λ n. script.heap < n + bound (call_of script s.past.plain waiter)) s.holds full))
       leads.plain_is (λ other. refl) (λ other same. refl) before_is))
 
   -- nothing helps the first process: nobody else is alive to be killed
-  pub starves_now : (script : Script) (steps : ℕ) (charge : ChargeWord) (value : KernelValue T) (items : List Item) (s : Shares stands_for script_of script steps charge value items)
+  pub starves_now : (script : Script) (steps : ℕ) (charge : ChargeWord) (value : KernelValue T) (items : List Item) (s : Shares stands_for script_of beside script steps charge value items)
       (waiter : ℕ) → is_given waiter items ≡ true → is_alive s.past.plain.table waiter ≡ true → bound (call_of script s.past.plain waiter) ≤ room script.heap
       → script.heap < value.seat.known.holds + bound (call_of script s.past.plain waiter) → can_evict_any s.world ≡ false
       → victim_of script.policy s.past.plain s.past.account ≡ None
-      → Shares stands_for script_of script steps charge (record value { starved = true }) (items ++ Starved ∷ [])
+      → Shares stands_for script_of beside script steps charge (record value { starved = true }) (items ++ Starved ∷ [])
   starves_now script steps charge value items s waiter given alive fits full bare none =
       let first : waiter ≡ 1 = no_victim script.policy s.past.plain s.past.account waiter none alive in
       let given_one : is_given 1 items ≡ true = subst (λ (k : ℕ). is_given k items ≡ true) first given in
@@ -183,7 +185,7 @@ module _ {T : Type 0} (stands_for : T → World → Type 0) (script_of : T → S
       let full_one : script.heap < value.seat.known.holds + bound (call_of script s.past.plain 1) =
       subst (λ (k : ℕ). script.heap < value.seat.known.holds + bound (call_of script s.past.plain k)) first full in
       let held : value.seat.known.holds ≡ live_of s.world + 2176 = s.holds in
-      behind_starved stands_for script_of script steps charge value items s given_one (record {
+      behind_starved stands_for script_of beside script steps charge value items s given_one (record {
         alive = subst (λ (k : ℕ). is_alive s.past.plain.table k ≡ true) first alive;
         alone = λ other lives. no_victim script.policy s.past.plain s.past.account other none lives;
         up = held_up script steps items s.past s.shared 1 given_one;

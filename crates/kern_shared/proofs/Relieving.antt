@@ -2,9 +2,11 @@
 use Rattle.std.proofs.Common.{◌≡◌, ℕ, ◌+◌, ◌-◌, ◌*◌, ◌<◌, ◌≤◌, ◌&&◌, ◌⊎◌, ⊎_elim, false, List, ◌∷◌, ◌++◌, [], length, Option, None, Some, ap, sym, ◌∙◌, subst, arith}
 use Rattle.std.specs.Prelude.{nat_le}
 use Rattle.std.proofs.lemmas.Bool.Decides.{leb_tells}
+use Rattle.kabi_types.specs.declared.calls.Call.{Call}
 use Rattle.kabi_types.specs.declared.scripts.Script.{Script}
 use Rattle.kern_events.specs.declared.reliefs.Relief.{Relief}
 use Rattle.kern_events.specs.declared.reliefs.Relief.TheVariants as relief
+use Rattle.posix_defs.specs.declared.turner.Turned.{Turned}
 use Rattle.posix_defs.specs.Licence.{can_evict_any}
 use Rattle.posix_defs.specs.History.{Past}
 use Rattle.posix_defs.specs.Needs.{bound}
@@ -35,8 +37,8 @@ frees_relieves script steps items past word waiter need live (relief.Killed pid)
 frees_relieves script steps items past word waiter need live relief.Starved x stuck first word_is frees = (stuck, word_is ∙ ap (λ n. n + reserve) frees.0, frees.1)
 frees_relieves script steps items past word waiter need live relief.Spent x stuck first word_is frees = absurd frees
 
-module _ {T : Type 0} (stands_for : T → World → Type 0) (script_of : T → Script) where
-  module _ (script : Script) (steps : ℕ) (charge : ChargeWord) (value : KernelValue T) (items : List Item) (s : Shares stands_for script_of script steps charge value items) where
+module _ {T : Type 0} (stands_for : T → World → Type 0) (script_of : T → Script) (beside : T → ℕ → Call → Turned → T → Type 0) where
+  module _ (script : Script) (steps : ℕ) (charge : ChargeWord) (value : KernelValue T) (items : List Item) (s : Shares stands_for script_of beside script steps charge value items) where
     abbrev need : ℕ → ℕ
     need pid = bound (call_of script s.past.plain pid)
 
@@ -118,5 +120,5 @@ module _ {T : Type 0} (stands_for : T → World → Type 0) (script_of : T → S
     pub bare_live : (live : ℕ) → live ≡ live_of s.world → can_evict_any s.world ≡ false → live ≡ base s.past.plain s.past.account + 128 * pins s.past.plain
     bare_live live is bare = is ∙ all_pinned s.world s.may_keep bare ∙ ap (λ p. base p s.world.account + 128 * pins p) s.plain ∙ ap (λ a. base s.past.plain a + 128 * pins s.past.plain) s.account
 
-    pub live_told : (live : ℕ) → live ≡ live_of s.world → Shares stands_for script_of script steps charge value (items ++ Live live ∷ [])
-    live_told live is = subst (λ n. Shares stands_for script_of script steps charge value (items ++ Live n ∷ [])) (sym is) (behind_live stands_for script_of script steps charge value items s)
+    pub live_told : (live : ℕ) → live ≡ live_of s.world → Shares stands_for script_of beside script steps charge value (items ++ Live live ∷ [])
+    live_told live is = subst (λ n. Shares stands_for script_of beside script steps charge value (items ++ Live n ∷ [])) (sym is) (behind_live stands_for script_of beside script steps charge value items s)

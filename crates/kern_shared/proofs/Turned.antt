@@ -111,28 +111,28 @@ pub most_live : (script : Script) (world : World) (pid : ℕ) (call : Call) (tol
 most_live script world pid call told after alive turns =
     let answers : Answers script world pid call told after = subst (λ b. TurnsWhere b script world pid call told after) alive turns in answers.live
 
-module _ {T : Type 0} (stands_for : T → World → Type 0) (script_of : T → Script) where
-  pub turn_here : (script : Script) (steps : ℕ) (charge : ChargeWord) (value : KernelValue T) (items : List Item) (s : Shares stands_for script_of script steps charge value items)
+module _ {T : Type 0} (stands_for : T → World → Type 0) (script_of : T → Script) (beside : T → ℕ → Call → Turned → T → Type 0) where
+  pub turn_here : (script : Script) (steps : ℕ) (charge : ChargeWord) (value : KernelValue T) (items : List Item) (s : Shares stands_for script_of beside script steps charge value items)
       (past : Past) → IsShared script steps items past → (pid : ℕ) (call : Call) → MayTurn script steps items past pid call → MayTurn script steps items s.past pid call
   turn_here script steps charge value items s past shared pid call may = subst (λ p. MayTurn script steps items p pid call) (one_past script steps items past s.past shared s.shared) may
 
-  pub refuse_here : (script : Script) (steps : ℕ) (charge : ChargeWord) (value : KernelValue T) (items : List Item) (s : Shares stands_for script_of script steps charge value items)
+  pub refuse_here : (script : Script) (steps : ℕ) (charge : ChargeWord) (value : KernelValue T) (items : List Item) (s : Shares stands_for script_of beside script steps charge value items)
       (past : Past) → IsShared script steps items past → (pid : ℕ) (call : Call) → MayRefuse script steps items past pid call → MayRefuse script steps items s.past pid call
   refuse_here script steps charge value items s past shared pid call may = subst (λ p. MayRefuse script steps items p pid call) (one_past script steps items past s.past shared s.shared) may
 
   -- the call of the past is the one that the store's process makes
-  pub call_there : (script : Script) (steps : ℕ) (charge : ChargeWord) (value : KernelValue T) (items : List Item) (s : Shares stands_for script_of script steps charge value items)
+  pub call_there : (script : Script) (steps : ℕ) (charge : ChargeWord) (value : KernelValue T) (items : List Item) (s : Shares stands_for script_of beside script steps charge value items)
       (pid : ℕ) (call : Call) → call ≡ call_of script s.past.plain pid → call ≡ call_of (script_of value.store) s.world.plain pid
   call_there script steps charge value items s pid call is = is ∙ ap (λ p. call_of script p pid) (sym s.plain) ∙ ap (λ sc. call_of sc s.world.plain pid) (sym s.named)
 
   -- what a held process's call may come to, by the tests
-  pub give_up_may : (script : Script) (steps : ℕ) (charge : ChargeWord) (value : KernelValue T) (items : List Item) (s : Shares stands_for script_of script steps charge value items)
+  pub give_up_may : (script : Script) (steps : ℕ) (charge : ChargeWord) (value : KernelValue T) (items : List Item) (s : Shares stands_for script_of beside script steps charge value items)
       (pid : ℕ) (call : Call) (which : CallKind) → HoldsCall script steps items pid call → is_alive s.past.plain.table pid ≡ false → which ≡ kind_of call → length (noted items) < steps
       → MayGiveUp script steps items s.past pid which
   give_up_may script steps charge value items s pid call which has ended is below =
       record { given = has.given; ended = ended; of_kind = is ∙ ap kind_of (has.is_call s.past s.shared); below = below }
 
-  pub refuse_may : (script : Script) (steps : ℕ) (charge : ChargeWord) (value : KernelValue T) (items : List Item) (s : Shares stands_for script_of script steps charge value items)
+  pub refuse_may : (script : Script) (steps : ℕ) (charge : ChargeWord) (value : KernelValue T) (items : List Item) (s : Shares stands_for script_of beside script steps charge value items)
       (pid : ℕ) (call : Call) (needed : ℕ) (fits : Bool) → HoldsCall script steps items pid call → is_alive s.past.plain.table pid ≡ true → needed ≡ bound call
       → fits ≡ nat_le needed (room script.heap) → fits ≡ false → length (noted items) < steps → MayRefuse script steps items s.past pid call
   refuse_may script steps charge value items s pid call needed fits has alive needed_is is told below = record {
@@ -143,7 +143,7 @@ module _ {T : Type 0} (stands_for : T → World → Type 0) (script_of : T → S
     below = below;
   }
 
-  pub turn_may : (script : Script) (steps : ℕ) (charge : ChargeWord) (value : KernelValue T) (items : List Item) (s : Shares stands_for script_of script steps charge value items)
+  pub turn_may : (script : Script) (steps : ℕ) (charge : ChargeWord) (value : KernelValue T) (items : List Item) (s : Shares stands_for script_of beside script steps charge value items)
       (pid : ℕ) (call : Call) (needed : ℕ) (fits : Bool) → HoldsCall script steps items pid call → is_alive s.past.plain.table pid ≡ true → needed ≡ bound call
       → fits ≡ nat_le needed (room script.heap) → fits ≡ true → length (noted items) < steps → MayTurn script steps items s.past pid call
   turn_may script steps charge value items s pid call needed fits has alive needed_is is told below = record {
@@ -155,7 +155,7 @@ module _ {T : Type 0} (stands_for : T → World → Type 0) (script_of : T → S
   }
 
   -- there is room for one entry more, and for the live processes behind it
-  pub room_for_entry : (script : Script) (steps : ℕ) (charge : ChargeWord) (value : KernelValue T) (items : List Item) (s : Shares stands_for script_of script steps charge value items)
+  pub room_for_entry : (script : Script) (steps : ℕ) (charge : ChargeWord) (value : KernelValue T) (items : List Item) (s : Shares stands_for script_of beside script steps charge value items)
       → length (noted items) < steps → (length value.history < value.entry_room) × (length value.awake + 2 ≤ value.awake_room) × (length value.dozing + 1 ≤ value.dozing_room)
   room_for_entry script steps charge value items s below =
       let few = few_present script s.past (noted items) value.awake value.dozing (entries_run script steps items s.past s.shared)
@@ -169,7 +169,7 @@ module _ {T : Type 0} (stands_for : T → World → Type 0) (script_of : T → S
       (omega (arith, same, below, entries), omega (arith, up, below, awake), omega (arith, down, below, dozing))
 
   -- who is live behind an entry of one process, as the lists tell anew
-  pub present_then : (script : Script) (steps : ℕ) (charge : ChargeWord) (value : KernelValue T) (items : List Item) (s : Shares stands_for script_of script steps charge value items)
+  pub present_then : (script : Script) (steps : ℕ) (charge : ChargeWord) (value : KernelValue T) (items : List Item) (s : Shares stands_for script_of beside script steps charge value items)
       (next : Past) (plain : Plain) (e : Entry) (pid : ℕ) (sleeps : Bool) (before : ℕ) → MayFollow script s.past e next → next.plain ≡ plain
       → ((other : ℕ) → is_of other e ≡ (pid == other)) → ((other : ℕ) → (pid == other) ≡ true → sleeps_by other e ≡ sleeps) → before ≡ last_pid s.world.plain
       → ArePresent plain (awake_after plain pid sleeps before value.awake) (dozing_after plain pid sleeps value.dozing) (value.history ++ e ∷ [])
@@ -181,7 +181,7 @@ module _ {T : Type 0} (stands_for : T → World → Type 0) (script_of : T → S
       (subst (ArePresent s.past.plain value.awake value.dozing) s.history s.present))))
 
   -- what was reserved with what was live before is enough for the turn, and what isn't live behind it is given back
-  pub paid : (script : Script) (steps : ℕ) (charge : ChargeWord) (value : KernelValue T) (items : List Item) (s : Shares stands_for script_of script steps charge value items)
+  pub paid : (script : Script) (steps : ℕ) (charge : ChargeWord) (value : KernelValue T) (items : List Item) (s : Shares stands_for script_of beside script steps charge value items)
       (live needed holds heap : ℕ) → live ≡ live_of s.world → holds ≡ value.seat.known.holds + needed → value.seat.known.holds + needed ≤ heap → heap ≡ charge.heap
       → (holds ≡ live + needed + reserve) × (live_of s.world + needed + reserve ≤ script.heap) × (value.seat.known.holds + needed ≤ script.heap)
   paid script steps charge value items s live needed holds heap live_is holds_is within heap_is =
@@ -191,35 +191,35 @@ module _ {T : Type 0} (stands_for : T → World → Type 0) (script_of : T → S
 
   -- a kind by another name
   pub same_kind : (script : Script) (steps : ℕ) (charge : ChargeWord) (value : KernelValue T) (items : List Item) (pid : ℕ) (which other : CallKind) → which ≡ other
-      → Shares stands_for script_of script steps charge value (items ++ Noted (entry.Gone pid which) ∷ [])
-      → Shares stands_for script_of script steps charge value (items ++ Noted (entry.Gone pid other) ∷ [])
-  same_kind script steps charge value items pid which other same s = subst (λ k. Shares stands_for script_of script steps charge value (items ++ Noted (entry.Gone pid k) ∷ [])) same s
+      → Shares stands_for script_of beside script steps charge value (items ++ Noted (entry.Gone pid which) ∷ [])
+      → Shares stands_for script_of beside script steps charge value (items ++ Noted (entry.Gone pid other) ∷ [])
+  same_kind script steps charge value items pid which other same s = subst (λ k. Shares stands_for script_of beside script steps charge value (items ++ Noted (entry.Gone pid k) ∷ [])) same s
 
   -- the call of a held process that has ended is given up
-  pub given_up_now : (script : Script) (steps : ℕ) (charge : ChargeWord) (value : KernelValue T) (items : List Item) (s : Shares stands_for script_of script steps charge value items)
+  pub given_up_now : (script : Script) (steps : ℕ) (charge : ChargeWord) (value : KernelValue T) (items : List Item) (s : Shares stands_for script_of beside script steps charge value items)
       (past : Past) → IsShared script steps items past → (pid : ℕ) (which : CallKind) (history : List Entry) (held : List Held) (entry_room held_room : ℕ)
       → MayGiveUp script steps items past pid which → history ≡ value.history ++ entry.Gone pid which ∷ [] → held ≡ without pid value.held
       → entry_room ≡ value.entry_room → held_room ≡ value.held_room
-      → Shares stands_for script_of script steps charge (record value { history = history; held = held; entry_room = entry_room; held_room = held_room })
+      → Shares stands_for script_of beside script steps charge (record value { history = history; held = held; entry_room = entry_room; held_room = held_room })
       (items ++ Noted (entry.Gone pid which) ∷ [])
   given_up_now script steps charge value items s past shared pid which history held entry_room held_room may history_is held_is entries_same held_same =
-      subst (λ v. Shares stands_for script_of script steps charge v (items ++ Noted (entry.Gone pid which) ∷ []))
+      subst (λ v. Shares stands_for script_of beside script steps charge v (items ++ Noted (entry.Gone pid which) ∷ []))
       (cc (history_is, held_is, entries_same, held_same))
-      (subst (λ k. Shares stands_for script_of script steps charge (with_entry value pid (entry.Gone pid k)) (items ++ Noted (entry.Gone pid k) ∷ [])) (sym here.of_kind)
-      (behind_gone stands_for script_of script steps charge value items s pid (subst (λ l. length l < steps) (sym s.history) here.below) here.given here.ended))
+      (subst (λ k. Shares stands_for script_of beside script steps charge (with_entry value pid (entry.Gone pid k)) (items ++ Noted (entry.Gone pid k) ∷ [])) (sym here.of_kind)
+      (behind_gone stands_for script_of beside script steps charge value items s pid (subst (λ l. length l < steps) (sym s.history) here.below) here.given here.ended))
     where
       here : MayGiveUp script steps items s.past pid which
       here = subst (λ p. MayGiveUp script steps items p pid which) (one_past script steps items past s.past shared s.shared) may
 
   -- a held live process's call is refused
-  pub refused_now : (script : Script) (steps : ℕ) (charge : ChargeWord) (value : KernelValue T) (items : List Item) (s : Shares stands_for script_of script steps charge value items)
+  pub refused_now : (script : Script) (steps : ℕ) (charge : ChargeWord) (value : KernelValue T) (items : List Item) (s : Shares stands_for script_of beside script steps charge value items)
       (past : Past) → IsShared script steps items past → (pid : ℕ) (call : Call) (store : T) (before : ℕ) (history : List Entry) (held : List Held) (awake dozing : List ℕ)
       (entry_room held_room awake_room dozing_room : ℕ) → MayRefuse script steps items past pid call → script_of store ≡ script → stands_for store (refused_in script s.world pid)
       → before ≡ last_pid s.world.plain
       → awake ≡ awake_after (refused_in script s.world pid).plain pid false before value.awake → dozing ≡ dozing_after (refused_in script s.world pid).plain pid false value.dozing
       → history ≡ value.history ++ entry.Refused pid (kind_of call) (bound call) ∷ [] → held ≡ without pid value.held
       → entry_room ≡ value.entry_room → held_room ≡ value.held_room → awake_room ≡ value.awake_room → dozing_room ≡ value.dozing_room
-      → Shares stands_for script_of script steps charge (record value {
+      → Shares stands_for script_of beside script steps charge (record value {
         store = store;
         history = history;
         held = held;
@@ -232,7 +232,7 @@ module _ {T : Type 0} (stands_for : T → World → Type 0) (script_of : T → S
       }) (items ++ Noted (entry.Refused pid (kind_of call) (bound call)) ∷ [])
   refused_now script steps charge value items s past shared pid call store before history held awake dozing entry_room held_room awake_room dozing_room may
       named stands before_is awake_is dozing_is history_is held_is entries_same held_same awake_same dozing_same =
-      subst (λ v. Shares stands_for script_of script steps charge v (items ++ Noted (entry.Refused pid (kind_of call) (bound call)) ∷ []))
+      subst (λ v. Shares stands_for script_of beside script steps charge v (items ++ Noted (entry.Refused pid (kind_of call) (bound call)) ∷ []))
       (cc (awake_is, dozing_is, history_is, held_is, entries_same, held_same, awake_same, dozing_same)) base
     where
       here : MayRefuse script steps items s.past pid call
@@ -251,29 +251,30 @@ module _ {T : Type 0} (stands_for : T → World → Type 0) (script_of : T → S
           (entry.Refused pid (kind_of (call_of script s.past.plain pid)) (bound (call_of script s.past.plain pid))) pid false before
           (refused_legal script s.past pid here.alive never) plain (λ other. refl) (λ other same. refl) before_is
 
-      base : Shares stands_for script_of script steps charge (record (with_entry value pid (entry.Refused pid (kind_of call) (bound call))) {
+      base : Shares stands_for script_of beside script steps charge (record (with_entry value pid (entry.Refused pid (kind_of call) (bound call))) {
         store = store;
         awake = awake_after (refused_in script s.world pid).plain pid false before value.awake;
         dozing = dozing_after (refused_in script s.world pid).plain pid false value.dozing;
       }) (items ++ Noted (entry.Refused pid (kind_of call) (bound call)) ∷ [])
-      base = subst (λ k. Shares stands_for script_of script steps charge (record (with_entry value pid (entry.Refused pid (kind_of k) (bound k))) {
+      base = subst (λ k. Shares stands_for script_of beside script steps charge (record (with_entry value pid (entry.Refused pid (kind_of k) (bound k))) {
         store = store;
         awake = awake_after (refused_in script s.world pid).plain pid false before value.awake;
         dozing = dozing_after (refused_in script s.world pid).plain pid false value.dozing;
       }) (items ++ Noted (entry.Refused pid (kind_of k) (bound k)) ∷ [])) (sym here.is_call)
-          (behind_refused stands_for script_of script steps charge value items s store
+          (behind_refused stands_for script_of beside script steps charge value items s store
           (awake_after (refused_in script s.world pid).plain pid false before value.awake) (dozing_after (refused_in script s.world pid).plain pid false value.dozing) pid
           (subst (λ l. length l < steps) (sym s.history) here.below) here.given here.alive never named stands present)
 
-  pub turned_now : (script : Script) (steps : ℕ) (charge : ChargeWord) (value : KernelValue T) (items : List Item) (s : Shares stands_for script_of script steps charge value items)
+  pub turned_now : (script : Script) (steps : ℕ) (charge : ChargeWord) (value : KernelValue T) (items : List Item) (s : Shares stands_for script_of beside script steps charge value items)
       (pid : ℕ) (told : Turned) (store : T) (seat : SeatState) (after : World) (before : ℕ) (history : List Entry) (held : List Held) (awake dozing : List ℕ)
       (entry_room held_room awake_room dozing_room : ℕ) (call : Call) (answer : Attended) → answer ≡ told_of told → MayTurn script steps items s.past pid call
       → value.seat.known.holds + bound call ≤ script.heap → script_of store ≡ script → stands_for store after → TurnsTo script s.world pid call told after
+      → beside value.store pid call told store
       → seat.charge ≡ charge → seat.known.is_boot ≡ true → seat.known.holds ≡ live_of after + reserve → before ≡ last_pid s.world.plain
       → awake ≡ awake_after after.plain pid (sleeps_told told) before value.awake → dozing ≡ dozing_after after.plain pid (sleeps_told told) value.dozing
       → history ≡ value.history ++ entry_of pid (kind_of call) told ∷ [] → held ≡ without pid value.held
       → entry_room ≡ value.entry_room → held_room ≡ value.held_room → awake_room ≡ value.awake_room → dozing_room ≡ value.dozing_room
-      → Shares stands_for script_of script steps charge (record value {
+      → Shares stands_for script_of beside script steps charge (record value {
         store = store;
         seat = seat;
         history = history;
@@ -286,9 +287,9 @@ module _ {T : Type 0} (stands_for : T → World → Type 0) (script_of : T → S
         dozing_room = dozing_room;
       }) (items ++ told_item pid call answer ∷ [])
   turned_now script steps charge value items s pid told store seat after before history held awake dozing entry_room held_room awake_room dozing_room call answer answer_is may
-      reserved named stands turns of_charge boot holds before_is awake_is dozing_is history_is held_is entries_same held_same awake_same dozing_same =
-      subst (λ x. Shares stands_for script_of script steps charge new (items ++ x ∷ [])) (sym (ap (told_item pid call) answer_is ∙ told_entry pid call told))
-      (subst (λ v. Shares stands_for script_of script steps charge v (items ++ Noted (entry_of pid (kind_of call) told) ∷ []))
+      reserved named stands turns said of_charge boot holds before_is awake_is dozing_is history_is held_is entries_same held_same awake_same dozing_same =
+      subst (λ x. Shares stands_for script_of beside script steps charge new (items ++ x ∷ [])) (sym (ap (told_item pid call) answer_is ∙ told_entry pid call told))
+      (subst (λ v. Shares stands_for script_of beside script steps charge v (items ++ Noted (entry_of pid (kind_of call) told) ∷ []))
       (cc (awake_is, dozing_is, history_is, held_is, entries_same, held_same, awake_same, dozing_same)) base)
     where
       new : KernelValue T
@@ -315,26 +316,27 @@ module _ {T : Type 0} (stands_for : T → World → Type 0) (script_of : T → S
       fits_own = subst (λ k. bound k ≤ room script.heap) may.is_call may.fits
 
       leads : TurnLeads script s.past pid told after.plain
-      leads = turn_of stands_for script_of script steps charge value items s after pid told may.given may.alive fits_own turns_own
+      leads = turn_of stands_for script_of beside script steps charge value items s after pid told may.given may.alive fits_own turns_own
 
       present : ArePresent after.plain (awake_after after.plain pid (sleeps_told told) before value.awake) (dozing_after after.plain pid (sleeps_told told) value.dozing)
           (value.history ++ entry_of pid (kind_of (call_of script s.past.plain pid)) told ∷ [])
       present = present_then script steps charge value items s leads.next after.plain (entry_of pid (kind_of (call_of script s.past.plain pid)) told) pid (sleeps_told told) before
           leads.follows leads.plain_is (entry_is_of pid (kind_of (call_of script s.past.plain pid)) told) (entry_sleeps pid (kind_of (call_of script s.past.plain pid)) told) before_is
 
-      base : Shares stands_for script_of script steps charge (record (with_entry value pid (entry_of pid (kind_of call) told)) {
+      base : Shares stands_for script_of beside script steps charge (record (with_entry value pid (entry_of pid (kind_of call) told)) {
         store = store;
         seat = seat;
         awake = awake_after after.plain pid (sleeps_told told) before value.awake;
         dozing = dozing_after after.plain pid (sleeps_told told) value.dozing;
       }) (items ++ Noted (entry_of pid (kind_of call) told) ∷ [])
-      base = subst (λ k. Shares stands_for script_of script steps charge (record (with_entry value pid (entry_of pid (kind_of k) told)) {
+      base = subst (λ k. Shares stands_for script_of beside script steps charge (record (with_entry value pid (entry_of pid (kind_of k) told)) {
         store = store;
         seat = seat;
         awake = awake_after after.plain pid (sleeps_told told) before value.awake;
         dozing = dozing_after after.plain pid (sleeps_told told) value.dozing;
       }) (items ++ Noted (entry_of pid (kind_of k) told) ∷ [])) (sym may.is_call)
-          (behind_turn stands_for script_of script steps charge value items s store seat
+          (behind_turn stands_for script_of beside script steps charge value items s store seat
           (awake_after after.plain pid (sleeps_told told) before value.awake) (dozing_after after.plain pid (sleeps_told told) value.dozing) after pid told
           (subst (λ l. length l < steps) (sym s.history) may.below) may.given may.alive fits_own
-          (subst (λ k. value.seat.known.holds + bound k ≤ script.heap) may.is_call reserved) named stands turns_own of_charge boot holds present)
+          (subst (λ k. value.seat.known.holds + bound k ≤ script.heap) may.is_call reserved) named stands turns_own
+          (subst (λ k. beside value.store pid k told store) may.is_call said) of_charge boot holds present)

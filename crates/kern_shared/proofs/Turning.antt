@@ -12,6 +12,7 @@ use Rattle.kabi_types.specs.declared.errnos.Errno.TheVariants.{ENOMEM}
 use Rattle.kabi_types.specs.declared.replies.Reply.TheVariants.{Fail}
 use Rattle.posix_defs.specs.declared.turner.Turned.{Turned}
 use Rattle.posix_defs.specs.declared.turner.Turned.TheVariants as turned
+use Rattle.posix_defs.specs.Answer.{Answer, Blocked, Done, Ended, Part}
 use Rattle.posix_defs.specs.CoreEvent.{entry_of, refusal}
 use Rattle.posix_defs.specs.CoreState.{asked_by}
 use Rattle.posix_defs.specs.History.{Past, IsGone, MayFollow, moves_on, others}
@@ -33,6 +34,7 @@ use Rattle.turn_words.specs.declared.items.Item.{Item}
 use Rattle.turn_words.specs.declared.items.Item.TheVariants.{Cleared, Noted}
 use Rattle.turn_words.specs.Items.{is_given, is_own_entry}
 use Rattle.turn_words.proofs.Held.{contrary, not_true}
+use Rattle.kern_shared.specs.Led.{Leads, TurnsOver, goes_on}
 use Rattle.kern_shared.specs.Shared.{MayNote, MayShare, has_starved, is_turn}
 use Rattle.kern_shared.specs.Shares.{ArePresent, KernelValue, NothingBefore, Shares, StandsBehindCleared, StandsBehindGone, StandsBehindKilled, StandsBehindRefused, StandsBehindTurn, class_of, killed_for, with_entry}
 use Rattle.kern_shared.proofs.Behind.{behind, starved_same}
@@ -95,30 +97,51 @@ not_that world what can none = by_cache what can
     by_cache Block is = contrary (can_evict world.plain world.kept Block) is of_all.1
     by_cache Vnode is = contrary (can_evict world.plain world.kept Vnode) is of_all.2
 
-module _ {T : Type 0} (stands_for : T → World → Type 0) (script_of : T → Script) where
+-- POSIX answers no call so that its process had ended before
+never_gone : (given : Answer) (old new : Plain) → Tells given old turned.Gone new → ⊥
+never_gone Blocked old new tells = cc
+never_gone (Done reply next) old new tells = cc
+never_gone (Part moved next) old new tells = cc
+never_gone (Ended status next) old new tells = cc
+
+-- a turn of a live process's call leads where its entry does
+turn_leads : {T : Type 0} {beside : T → ℕ → Call → Turned → T → Type 0} (script : Script) (old : World) (before : T) (pid : ℕ) (which : CallKind) (told : Turned) (new : World) (after : T)
+    → is_alive old.plain.table pid ≡ true → TurnsOver beside script old before pid told new after → Leads beside script old before (entry_of pid which told) new after
+turn_leads script old before pid which (turned.Done _) new after alive over = over
+turn_leads script old before pid which (turned.Part _) new after alive over = over
+turn_leads script old before pid which turned.Sleep new after alive over = over
+turn_leads script old before pid which (turned.Ended _) new after alive over = over
+turn_leads script old before pid which turned.Gone new after alive over =
+    let answers : Answers script old pid (call_of script old.plain pid) turned.Gone new =
+    subst (λ b. TurnsWhere b script old pid (call_of script old.plain pid) turned.Gone new) alive over.turns in
+    absurd (never_gone (machine script old.plain pid (call_of script old.plain pid)) old.plain new.plain answers.answer)
+
+module _ {T : Type 0} (stands_for : T → World → Type 0) (script_of : T → Script) (beside : T → ℕ → Call → Turned → T → Type 0) where
   -- an entry of a turn or of a Gone, and what the store, its seat and who is live are then
-  behind_told : (script : Script) (steps : ℕ) (charge : ChargeWord) (value : KernelValue T) (items : List Item) (s : Shares stands_for script_of script steps charge value items)
+  behind_told : (script : Script) (steps : ℕ) (charge : ChargeWord) (value : KernelValue T) (items : List Item) (s : Shares stands_for script_of beside script steps charge value items)
       (store : T) (seat : SeatState) (awake dozing : List ℕ) (after : World) (next : Past) (pid : ℕ) (told : Turned) (which : CallKind)
       → length value.history < steps → is_given pid items ≡ true → MayFollow script s.past (entry_of pid which told) next
       → (is_turn (Noted (entry_of pid which told)) ≡ true → has_starved items ≡ false)
-      → script_of store ≡ script → stands_for store after → after.plain ≡ next.plain → after.account ≡ next.account → MayKeep after.plain after.kept → AreFilled after.kept next
+      → script_of store ≡ script → stands_for store after → Leads beside script s.world value.store (entry_of pid which told) after store
+      → after.plain ≡ next.plain → after.account ≡ next.account → MayKeep after.plain after.kept → AreFilled after.kept next
       → ArePresent after.plain awake dozing (value.history ++ entry_of pid which told ∷ [])
       → (has_starved items ≡ true → can_evict_any after ≡ false)
       → seat.charge ≡ charge → seat.known.is_boot ≡ true → seat.known.holds ≡ live_of after + reserve
-      → Shares stands_for script_of script steps charge (record (with_entry value pid (entry_of pid which told)) { store = store; seat = seat; awake = awake; dozing = dozing })
+      → Shares stands_for script_of beside script steps charge (record (with_entry value pid (entry_of pid which told)) { store = store; seat = seat; awake = awake; dozing = dozing })
       (items ++ Noted (entry_of pid which told) ∷ [])
-  behind_told script steps charge value items s store seat awake dozing after next pid told which below is_held follows turns named stands plain account may_keep filled
+  behind_told script steps charge value items s store seat awake dozing after next pid told which below is_held follows turns named stands leads plain account may_keep filled
       present bare of_charge boot holds =
       let e = entry_of pid which told in
       let may : MayShare script steps items s.past (Noted e) next =
       (subst (λ l. length l < steps) s.history below, told_by_held items s.past pid which told is_held, follows) in
-      behind stands_for script_of script steps charge value (record (with_entry value pid e) { store = store; seat = seat; awake = awake; dozing = dozing }) items s (Noted e) (record {
+      behind stands_for script_of beside script steps charge value (record (with_entry value pid e) { store = store; seat = seat; awake = awake; dozing = dozing }) items s (Noted e) (record {
         next = next;
         world = after;
         may = may;
         turns = turns;
         named = named;
         stands = stands;
+        led = goes_on value.history s.world after value.store store e s.led leads stands;
         plain = plain;
         account = account;
         may_keep = may_keep;
@@ -137,7 +160,7 @@ module _ {T : Type 0} (stands_for : T → World → Type 0) (script_of : T → S
         room = s.room;
       })
 
-  pub behind_gone : StandsBehindGone stands_for script_of
+  pub behind_gone : StandsBehindGone stands_for script_of beside
   behind_gone script steps charge value items s pid below is_held ended =
       let which = kind_of (call_of script s.past.plain pid) in
       let next : Past = record (moves_on script s.past s.past.plain s.past.account (others pid s.past.asleep)) { gone = pid ∷ s.past.gone } in
@@ -149,13 +172,13 @@ module _ {T : Type 0} (stands_for : T → World → Type 0) (script_of : T → S
         leads = refl;
       } in
       behind_told script steps charge value items s value.store value.seat value.awake value.dozing s.world next pid turned.Gone which below is_held gone
-      (λ turn. absurd (true≢false (sym turn))) s.named s.stands s.plain s.account s.may_keep
+      (λ turn. absurd (true≢false (sym turn))) s.named s.stands (refl, refl) s.plain s.account s.may_keep
       (record { names = s.filled.names; blocks = s.filled.blocks; vnodes = s.filled.vnodes })
       (subst (λ p. ArePresent p value.awake value.dozing (value.history ++ entry.Gone pid which ∷ [])) (sym s.plain) (present_gone s.past.plain value.awake value.dozing value.history pid which ended s.present))
       s.bare s.of_charge s.boot s.holds
 
   -- where a turn of a held live process's call leads the value's history
-  pub turn_of : (script : Script) (steps : ℕ) (charge : ChargeWord) (value : KernelValue T) (items : List Item) (s : Shares stands_for script_of script steps charge value items)
+  pub turn_of : (script : Script) (steps : ℕ) (charge : ChargeWord) (value : KernelValue T) (items : List Item) (s : Shares stands_for script_of beside script steps charge value items)
       (after : World) (pid : ℕ) (told : Turned) → is_given pid items ≡ true → is_alive s.past.plain.table pid ≡ true → bound (call_of script s.past.plain pid) ≤ room script.heap
       → TurnsTo script s.world pid (call_of script s.past.plain pid) told after → TurnLeads script s.past pid told after.plain
   turn_of script steps charge value items s after pid told is_held alive fits turns =
@@ -165,10 +188,10 @@ module _ {T : Type 0} (stands_for : T → World → Type 0) (script_of : T → S
       turn_legal script s.past pid told after.plain alive (held_up script steps items s.past s.shared pid is_held) fits
       (subst (λ p. Tells (machine script p pid (call_of script s.past.plain pid)) p told after.plain) s.plain answers.answer)
 
-  pub behind_turn : StandsBehindTurn stands_for script_of
-  behind_turn script steps charge value items s store seat awake dozing after pid told below is_held alive fits reserved named stands turns of_charge boot holds present =
+  pub behind_turn : StandsBehindTurn stands_for script_of beside
+  behind_turn script steps charge value items s store seat awake dozing after pid told below is_held alive fits reserved named stands turns said of_charge boot holds present =
       behind_told script steps charge value items s store seat awake dozing after leads.next pid told (kind_of call) below is_held leads.follows (λ _. none)
-      named stands (sym leads.plain_is) account answers.may_keep
+      named stands (turn_leads script s.world value.store pid (kind_of call) told after store lives over) (sym leads.plain_is) account answers.may_keep
       (filled_turn s.past leads.next s.world.kept after.kept (need_of call) s.filled leads.filled leads.evicted answers.names answers.blocks answers.vnodes)
       present (λ starved. contrary (has_starved items) starved none) of_charge boot holds
     where
@@ -181,8 +204,14 @@ module _ {T : Type 0} (stands_for : T → World → Type 0) (script_of : T → S
       answers : Answers script s.world pid (call_of script s.past.plain pid) told after
       answers = subst (λ b. TurnsWhere b script s.world pid (call_of script s.past.plain pid) told after) lives turns
 
+      over : TurnsOver beside script s.world value.store pid told after store
+      over = record {
+        turns = subst (λ p. TurnsTo script s.world pid (call_of script p pid) told after) (sym s.plain) turns;
+        says = subst (λ p. beside value.store pid (call_of script p pid) told store) (sym s.plain) said;
+      }
+
       none : has_starved items ≡ false
-      none = sym s.starved ∙ before_starved stands_for script_of script steps charge value items s pid alive reserved
+      none = sym s.starved ∙ before_starved stands_for script_of beside script steps charge value items s pid alive reserved
 
       leads : TurnLeads script s.past pid told after.plain
       leads = turn_of script steps charge value items s after pid told is_held alive fits turns
@@ -193,20 +222,21 @@ module _ {T : Type 0} (stands_for : T → World → Type 0) (script_of : T → S
           ∙ ap (λ p. account_after s.past.account p pid (call_of script s.past.plain pid) (machine script p pid (call_of script s.past.plain pid))) s.plain
           ∙ sym leads.account_is
 
-  pub behind_refused : StandsBehindRefused stands_for script_of
+  pub behind_refused : StandsBehindRefused stands_for script_of beside
   behind_refused script steps charge value items s store awake dozing pid below is_held alive never named stands present =
       let e = refusal pid (asked_by script s.past.plain pid) in
       let next = past_refused script s.past pid in
       let may : MayShare script steps items s.past (Noted e) next =
       (subst (λ l. length l < steps) s.history below, is_held, refused_legal script s.past pid alive never) in
       let plain : (refused_in script s.world pid).plain ≡ next.plain = ap (λ p. answered script p pid (Fail ENOMEM)) s.plain in
-      behind stands_for script_of script steps charge value (record (with_entry value pid e) { store = store; awake = awake; dozing = dozing }) items s (Noted e) (record {
+      behind stands_for script_of beside script steps charge value (record (with_entry value pid e) { store = store; awake = awake; dozing = dozing }) items s (Noted e) (record {
         next = next;
         world = refused_in script s.world pid;
         may = may;
         turns = λ turn. absurd (true≢false (sym turn));
         named = named;
         stands = stands;
+        led = goes_on value.history s.world (refused_in script s.world pid) value.store store e s.led refl stands;
         plain = plain;
         account = s.account;
         may_keep = record {
@@ -233,7 +263,7 @@ module _ {T : Type 0} (stands_for : T → World → Type 0) (script_of : T → S
         room = s.room;
       })
 
-  pub behind_killed : StandsBehindKilled stands_for script_of
+  pub behind_killed : StandsBehindKilled stands_for script_of beside
   behind_killed script steps charge value items s store seat awake dozing after pid waiter below is_held alive fits full bare victim named stands kills of_charge boot holds present =
       let e = killed_for script s.past s.world pid waiter in
       let next = past_killed script s.past pid in
@@ -244,7 +274,7 @@ module _ {T : Type 0} (stands_for : T → World → Type 0) (script_of : T → S
       let leads = kill_leads script s.past s.world pid after (sym s.plain) (sym s.account) s.filled kills in
       let lives = victim_lives script.policy s.past.plain s.past.account pid victim in
       let none : has_starved items ≡ false = not_true (has_starved items) (λ starved. lives.1 ((s.still starved).alone pid lives.0)) in
-      behind stands_for script_of script steps charge value
+      behind stands_for script_of beside script steps charge value
       (record value { history = value.history ++ e ∷ []; store = store; seat = seat; awake = awake; dozing = dozing }) items s (Noted e) (record {
         next = next;
         world = after;
@@ -252,6 +282,7 @@ module _ {T : Type 0} (stands_for : T → World → Type 0) (script_of : T → S
         turns = λ turn. absurd (true≢false (sym turn));
         named = named;
         stands = stands;
+        led = goes_on value.history s.world after value.store store e s.led kills stands;
         plain = sym leads.plain_is;
         account = sym leads.account_is;
         may_keep = kills.may_keep;
@@ -270,19 +301,20 @@ module _ {T : Type 0} (stands_for : T → World → Type 0) (script_of : T → S
         room = s.room;
       })
 
-  pub behind_cleared : StandsBehindCleared stands_for script_of
+  pub behind_cleared : StandsBehindCleared stands_for script_of beside
   behind_cleared script steps charge value items s store seat after what below live_held before can named stands evicts of_charge boot holds =
       let x = Cleared what (live_of s.world) in
       let next = past_evicted script s.past what in
       let leads = eviction_leads script s.past s.world what after s.may_keep s.filled evicts in
       let may : MayShare script steps items s.past x next = (subst (λ l. length l < steps) s.history below, live_held, leads.follows) in
-      behind stands_for script_of script steps charge value (record value { history = value.history ++ entry.Evicted what ∷ []; store = store; seat = seat }) items s x (record {
+      behind stands_for script_of beside script steps charge value (record value { history = value.history ++ entry.Evicted what ∷ []; store = store; seat = seat }) items s x (record {
         next = next;
         world = after;
         may = may;
         turns = λ turn. absurd (true≢false (sym turn));
         named = named;
         stands = stands;
+        led = goes_on value.history s.world after value.store store (entry.Evicted what) s.led evicts stands;
         plain = evicts.plain ∙ s.plain;
         account = evicts.account ∙ s.account;
         may_keep = leads.may_keep;

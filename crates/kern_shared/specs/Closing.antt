@@ -1,9 +1,11 @@
 -- What is left of a shared kernel that is closed, and what its passes are then.
 use Rattle.std.specs.Prelude.{◌≡◌, ℕ, ◌+◌, ◌≤◌, true, false, List, [], ◌∷◌, ◌++◌, Option}
 use Rattle.atomic_table.specs.Seated.{TableId}
+use Rattle.kabi_types.specs.declared.calls.Call.{Call}
 use Rattle.kabi_types.specs.declared.entries.End.{End}
 use Rattle.kabi_types.specs.declared.entries.Entry.{Entry}
 use Rattle.kabi_types.specs.declared.scripts.Script.{Script}
+use Rattle.posix_defs.specs.declared.turner.Turned.{Turned}
 use Rattle.posix_defs.specs.History.{Past}
 use Rattle.posix_defs.specs.Licence.{can_evict_any}
 use Rattle.posix_defs.specs.Sizes.{reserve}
@@ -13,6 +15,7 @@ use Rattle.turn_words.specs.declared.items.Item.{Item}
 use Rattle.turn_words.specs.Items.{noted}
 use Rattle.turn_words.specs.Seats.{SeatState as TurnState}
 use Rattle.kern_shared.specs.Attends.{IsUnused}
+use Rattle.kern_shared.specs.Led.{IsLed}
 use Rattle.kern_shared.specs.Picks.{EndsAs}
 use Rattle.kern_shared.specs.Shared.{has_starved}
 
@@ -36,9 +39,9 @@ pub record IsEmpty (charge : ChargeWord) (own : ChargeState) : Type 0 where
 abbrev pub HasLast : {X : Type 0} → (List X → X → Type 0) → List X → Type 0
 HasLast {X} Holds all = (others : List X) × (last : X) × (all ≡ others ++ last ∷ []) × Holds others last
 
-module _ {T : Type 0} (stands_for : T → World → Type 0) (script_of : T → Script) where
-  -- The history is the entries of these items, the end is the one that they lead to, if they do, and the store stands for where they
-  -- have led. What is charged is what is live in it and the reserve, and lies within the heap. Where Starved was answered nothing is kept
+module _ {T : Type 0} (stands_for : T → World → Type 0) (script_of : T → Script) (beside : T → ℕ → Call → Turned → T → Type 0) where
+  -- The history is the entries of these items, the end is the one that they lead to, if they do, and the store went through them and
+  -- stands for where they have led. What is charged is what is live in it and the reserve, and lies within the heap. Where Starved was answered nothing is kept
   -- that can be evicted.
   pub record Closes (script : Script) (steps : ℕ) (items : List Item) (past : Past) (entries : List Entry) (end : Option End) (bytes : ℕ) (store : T) : Type 0 where
     pub history : entries ≡ noted items
@@ -46,6 +49,7 @@ module _ {T : Type 0} (stands_for : T → World → Type 0) (script_of : T → S
     pub named : script_of store ≡ script
     pub world : World
     pub stands : stands_for store world
+    pub led : IsLed stands_for beside script entries world store
     pub plain : world.plain ≡ past.plain
     pub account : world.account ≡ past.account
     pub may_keep : MayKeep world.plain world.kept

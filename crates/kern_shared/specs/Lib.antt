@@ -2,6 +2,7 @@ pub mod Attends
 pub mod Boxed
 pub mod Closing
 pub mod Laws
+pub mod Led
 pub mod Lists
 pub mod Nameless
 pub mod Passes

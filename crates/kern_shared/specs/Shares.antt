@@ -1,6 +1,7 @@
 -- What the kernel's value keeps of a shared run, and when it stands for a list of items.
 use Rattle.std.specs.Prelude.{◌≡◌, ℕ, ◌+◌, ◌<◌, ◌≤◌, ◌==◌, ◌&&◌, not, Bool, true, false, List, [], ◌∷◌, ◌++◌, filter, length, map, Some}
 use Rattle.std.specs.List.{AllByRecursion}
+use Rattle.kabi_types.specs.declared.calls.Call.{Call}
 use Rattle.kabi_types.specs.declared.entries.Cached.{Cached}
 use Rattle.kabi_types.specs.declared.entries.Cached.TheVariants as cached
 use Rattle.kabi_types.specs.Call.{kind_of}
@@ -29,6 +30,7 @@ use Rattle.turn_words.specs.declared.items.Item.{Item}
 use Rattle.turn_words.specs.declared.items.Item.TheVariants.{Noted, Cleared, Given, Back, Starved, Live, Quiet}
 use Rattle.turn_words.specs.Items.{is_given, noted}
 use Rattle.kern_shared.specs.declared.held.Held.{Held}
+use Rattle.kern_shared.specs.Led.{IsLed}
 use Rattle.kern_shared.specs.Shared.{IsShared, MayGive, SomeLiveHeld, Starves, StarvesStill, dozes, has_starved}
 
 -- the last of the items, or this where there is none
@@ -126,15 +128,16 @@ at_start store seat steps heap entry_room held_room awake_room dozing_room = rec
 abbrev pub killed_for : Script → Past → World → ℕ → ℕ → Entry
 killed_for script past world pid waiter = entry.Killed pid waiter (bound (call_of script past.plain waiter)) (live_of world)
 
-module _ {T : Type 0} (stands_for : T → World → Type 0) (script_of : T → Script) where
-  -- The value stands for these items: they are shared, it keeps what they say, its store stands for the world that they lead to,
-  -- and its charge seat holds what is live in it and the reserve.
+module _ {T : Type 0} (stands_for : T → World → Type 0) (script_of : T → Script) (beside : T → ℕ → Call → Turned → T → Type 0) where
+  -- The value stands for these items: they are shared, it keeps what they say, its store went through their entries and stands for the
+  -- world that they lead to, and its charge seat holds what is live in it and the reserve.
   pub record Shares (script : Script) (steps : ℕ) (charge : ChargeWord) (value : KernelValue T) (items : List Item) : Type 0 where
     pub past : Past
     pub world : World
     pub shared : IsShared script steps items past
     pub named : script_of value.store ≡ script
     pub stands : stands_for value.store world
+    pub led : IsLed stands_for beside script value.history world value.store
     pub plain : world.plain ≡ past.plain
     pub account : world.account ≡ past.account
     pub may_keep : MayKeep world.plain world.kept
@@ -206,6 +209,7 @@ module _ {T : Type 0} (stands_for : T → World → Type 0) (script_of : T → S
       → is_alive shares.past.plain.table pid ≡ true → bound (call_of script shares.past.plain pid) ≤ room script.heap
       → value.seat.known.holds + bound (call_of script shares.past.plain pid) ≤ script.heap
       → script_of store ≡ script → stands_for store after → TurnsTo script shares.world pid (call_of script shares.past.plain pid) told after
+      → beside value.store pid (call_of script shares.past.plain pid) told store
       → seat.charge ≡ charge → seat.known.is_boot ≡ true → seat.known.holds ≡ live_of after + reserve
       → ArePresent after.plain awake dozing (value.history ++ entry_of pid (kind_of (call_of script shares.past.plain pid)) told ∷ [])
       → Shares script steps charge

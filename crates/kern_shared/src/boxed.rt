@@ -140,7 +140,7 @@ impl<T: Turner + Drop, L: RunName> BoxedState<T, L> {
         requires stands { (items : List Item) × ⟦<BoxedState<T, L> as Chronicle>⟧.stands self items }
         requires word { word.now ≡ L.charge }
         ensures { (items : List Item) (past : Past) → ⟦<BoxedState<T, L> as Chronicle>⟧.stands self items → IsShared L.script L.steps items past
-            → Closes T.stands T.script L.script L.steps items past result.history result.end result.charged result.store }
+            → Closes T.stands T.script T.beside L.script L.steps items past result.history result.end result.charged result.store }
     {
         Box::into_inner(self.inside).close(word)
     }

@@ -31,7 +31,7 @@ impl<T: Turner + Drop, L: RunName> KernelState<T, L> {
         requires stands { (items : List Item) × ⟦<KernelState<T, L> as Chronicle>⟧.stands self items }
         requires word { word.now ≡ L.charge }
         ensures { (items : List Item) (past : Past) → ⟦<KernelState<T, L> as Chronicle>⟧.stands self items → IsShared L.script L.steps items past
-            → Closes T.stands T.script L.script L.steps items past result.history result.end result.charged result.store }
+            → Closes T.stands T.script T.beside L.script L.steps items past result.history result.end result.charged result.store }
     {
         let end = self.end();
         let KernelState {
@@ -76,7 +76,7 @@ impl<T: Turner + Drop, L: RunName> Kernel<T, L> {
         requires each { AllByRecursion (λ p. IsAtRest L.script L.steps L.charge self.turns p.turn p.own p.given × (p.given ≡ None)) passes.items }
         requires last { HasLast (λ others last. IsFirst (length others) last.turn) passes.items }
         ensures { (seen : List Item) × (past : Past) × AllByRecursion (λ p. IsPrefix p.turn.known.seen seen) passes.items × IsShared L.script L.steps (heard seen) past
-            × Closes T.stands T.script L.script L.steps (heard seen) past result.history result.end result.charged result.store }
+            × Closes T.stands T.script T.beside L.script L.steps (heard seen) past result.history result.end result.charged result.store }
     {
         let Kernel { turns, charge } = self;
         let mut others = passes;

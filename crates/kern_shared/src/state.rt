@@ -59,7 +59,7 @@ impl<T: Turner + Drop, L: RunName> Chronicle for KernelState<T, L> {
     ghost use Rattle.std.specs.Prelude.{vec_capacity};
     ghost use Rattle.kern_shared.specs.Shares.{Shares};
 
-    ghost stands = { λ state items. Shares T.stands T.script L.script L.steps L.charge (record {
+    ghost stands = { λ state items. Shares T.stands T.script T.beside L.script L.steps L.charge (record {
       store = state.store;
       seat = state.seat;
       steps = state.steps;

@@ -22,13 +22,13 @@ use Rattle.kres_tool.specs.declared.commands.Task.TheVariants as task
 use Rattle.kres_tool.specs.declared.statuses.Status.{Status}
 use Rattle.kres_tool.specs.declared.statuses.Status.TheVariants as status
 use Rattle.kres_tool.specs.Headline.{HasThreaded, IsBareWhere, KeepsNoMore, TellsHistory, ThreadsKeep}
-use Rattle.kres_tool.specs.Run.{IsThreadsRunOf, stands}
+use Rattle.kres_tool.specs.Run.{IsThreadsRunOf, beside, stands}
 use Rattle.kres_tool.specs.Status.{status_of}
 use Rattle.kres_tool.specs.Tool.{Answered, AnswersText, Input, Output, TaskEnds, makes, refuses}
 
 -- what workers have left, with an end that stands
 abbrev pub IsLeft : Script → ℕ → List Entry → Option End → ℕ → StoreView → Type 0
-IsLeft script steps entries found charged store = (which : End) × (found ≡ Some which) × IsWhole stands (λ s. s.script) script steps entries which charged store
+IsLeft script steps entries found charged store = (which : End) × (found ≡ Some which) × IsWhole stands (λ s. s.script) beside script steps entries which charged store
 
 -- of an option that is known there is one value
 one_end : (found : Option End) (which other : End) → found ≡ Some which → found ≡ Some other → which ≡ other
@@ -41,9 +41,9 @@ pub ran_by_threads : {E : Type 0} (script booted : Script) (store : StoreView) (
     → IsLeft booted script.steps entries found charged store → IfOk reported (λ it. IsThreadsRunOf script (string_bytes it.text) handed (status_of it.end))
 ran_by_threads script booted store handed entries found charged (Err _) same is ends text_is left = tt
 ran_by_threads script booted store handed entries found charged (Ok it) same is ends text_is left =
-    let run : IsWhole stands (λ s. s.script) script script.steps entries it.end charged store =
-    subst (λ s. IsWhole stands (λ v. v.script) s script.steps entries it.end charged store) same
-    (subst (λ e. IsWhole stands (λ v. v.script) booted script.steps entries e charged store) (one_end found left.0 it.end left.1 ends) left.2) in
+    let run : IsWhole stands (λ s. s.script) beside script script.steps entries it.end charged store =
+    subst (λ s. IsWhole stands (λ v. v.script) beside s script.steps entries it.end charged store) same
+    (subst (λ e. IsWhole stands (λ v. v.script) beside booted script.steps entries e charged store) (one_end found left.0 it.end left.1 ends) left.2) in
     record {
       entries = entries;
       end = it.end;
@@ -118,6 +118,7 @@ tells_history script whole handed st ran =
       allowed = run.allowed;
       each = entry_keeps script ran.entries run.past run.run;
       left = closes.stands;
+      went = closes.led;
       machine = closes.plain;
       account = closes.account;
       within = closes.within;

@@ -13,6 +13,7 @@ use Rattle.group_heap.specs.Texts.{Groups as Groups'}
 use Rattle.run_report.specs.Headline.{EntryKeeps, KeepsHeadline}
 use Rattle.run_report.specs.Histories.{report_threads}
 use Rattle.run_report.specs.Summaries.{KeepsSummary}
+use Rattle.kern_shared.specs.Led.{IsLed}
 use Rattle.work_crew.specs.Whole.{MayEnd}
 use Rattle.kres_tool.specs.declared.commands.Command.TheVariants.{OnScript, Load, Groups}
 use Rattle.kres_tool.specs.declared.commands.Task.TheVariants.{Sim, Threads}
@@ -21,7 +22,7 @@ use Rattle.kres_tool.specs.declared.statuses.Status.TheVariants.{Finished, Starv
 use Rattle.kres_tool.specs.Causes.{Completes, HasCause}
 use Rattle.kres_tool.specs.Groups.{HasGroupsReadAs}
 use Rattle.kres_tool.specs.Read.{HasReadAs}
-use Rattle.kres_tool.specs.Run.{high, marks, stands}
+use Rattle.kres_tool.specs.Run.{beside, high, marks, stands}
 use Rattle.kres_tool.specs.Status.{status_of}
 use Rattle.kres_tool.specs.Tool.{Input, Obeys, Output, Wrote}
 use Rattle.kres_tool.specs.Words.{Asks}
@@ -81,9 +82,9 @@ IsBareWhere _ world = ⊤
 
 -- The text tells a history, and an end that it allows. The history is a legal one of the machine, which has unlimited memory, of at
 -- most as many entries as the script has steps. A call is refused exactly where its bound is above the room, and no other is answered
--- ENOMEM. The store stands for where the history has led. What is told as charged is at most the heap, and made up of the reserve,
--- what the machine takes by itself, and what is kept: names, blocks, and nodes, those among them that have to be. Where the run starved
--- no other is.
+-- ENOMEM. The store went through the history, entry by entry, each by its definition, also in what is kept and read; it stands for where
+-- that has led. What is told as charged is at most the heap, and made up of the reserve, what the machine takes by itself, and what is
+-- kept: names, blocks, and nodes, those among them that have to be. Where the run starved no other is.
 pub record TellsHistory (script : Script) (store : StoreView) (end : End) (text : List ℕ) : Type 0 where
   pub entries : List Entry
   pub charged : ℕ
@@ -95,6 +96,7 @@ pub record TellsHistory (script : Script) (store : StoreView) (end : End) (text 
   pub allowed : MayEnd script script.steps entries past end
   pub each : (i : ℕ) (added : Entry) → slice_get entries i ≡ Some added → EntryKeeps script (take i entries) added
   pub left : stands store world
+  pub went : IsLed stands beside script entries world store
   pub machine : world.plain ≡ past.plain
   pub account : world.account ≡ past.account
   pub within : charged ≤ script.heap

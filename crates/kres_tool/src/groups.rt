@@ -69,12 +69,13 @@ fn boot_group<F: Scorer, G: Scorer>(
     ensures script { IfOk result (λ group. group.script ≡ script.now) }
     ensures start { IfOk result (IsAtStart stands (λ store. store.script)) }
 {
+    // The greatest is made last, since what is there is let go where memory is wanting.
+    let own = script.copy(alloc)?;
     let store = Store::boot(alloc, script, score)?;
     let core = Core::boot(alloc, store, script.steps, script.heap)?;
-    let script = script.copy(alloc)?;
     Ok(Group {
         name,
-        script,
+        script: own,
         core,
         seat: None,
         text: Text::from_vec(Vec::new(alloc)),

@@ -41,7 +41,7 @@ use Rattle.proc_files.specs.Holders.{holders}
 use Rattle.proc_files.proofs.Beside.{owners_beside, same_descs, same_socks}
 use Rattle.proc_numbers.specs.Finding.{FindsSocket}
 use Rattle.proc_numbers.specs.Owning.{SocketsChange}
-use Rattle.proc_numbers.specs.declared.finding.OpenSocket.{Found}
+use Rattle.proc_numbers.specs.declared.finding.OpenSocket.{OpenSocket}
 use Rattle.proc_numbers.proofs.Told.{have_after, keyed_there}
 use Rattle.proc_files.specs.NameAnswering.{AnswersNaming, NamesChange}
 use Rattle.proc_files.specs.Names.{AreBound, name_of}
@@ -118,7 +118,7 @@ bind_lost numbers others old kept fs names script plain pid fd path errno hold f
 
 -- ---- a socket that a number is open on
 
-module _ (numbers : Numbers) (others : ℕ → ℕ) (old : Heap) (kept : TableView) (fs : TreeView) (names : List (Option ℕ)) (script : Script) (plain : Plain) (pid : ℕ) (fd : ℤ) (path : List ℕ) (on : Found)
+module _ (numbers : Numbers) (others : ℕ → ℕ) (old : Heap) (kept : TableView) (fs : TreeView) (names : List (Option ℕ)) (script : Script) (plain : Plain) (pid : ℕ) (fd : ℤ) (path : List ℕ) (on : OpenSocket)
     (owners : HasItsOwners old []) (named : Contains (socks_named old.descs) on.key) (hold : HoldNames numbers others old kept fs names plain.files)
     (finds : (answer : Opened → ℕ → Answer) → FindsSocket numbers script plain pid fd answer (Ok on)) where
   abbrev keyed : Sockets

@@ -44,7 +44,7 @@ use Rattle.proc_files.proofs.Beside.{owners_beside, same_socks}
 use Rattle.proc_numbers.specs.Answering.{zero_of}
 use Rattle.proc_numbers.specs.Finding.{FindsSocket}
 use Rattle.proc_numbers.specs.SocketOpening.{with_sock}
-use Rattle.proc_numbers.specs.declared.finding.OpenSocket.{Found}
+use Rattle.proc_numbers.specs.declared.finding.OpenSocket.{OpenSocket}
 use Rattle.proc_numbers.proofs.Opens.{have_changed}
 use Rattle.proc_numbers.proofs.Renaming.{new_within}
 use Rattle.proc_numbers.proofs.Told.{keeps_same, keeps_sock, keyed_there}
@@ -131,7 +131,7 @@ fills_spent h before after count (Err errno) spent fills = subst (HasFills h) (s
 
 -- ---- a socket that a number is open on
 
-module _ (numbers : Numbers) (others : ℕ → ℕ) (old : Heap) (kept : TableView) (fs : TreeView) (names : List (Option ℕ)) (script : Script) (plain : Plain) (pid : ℕ) (fd : ℤ) (path : List ℕ) (on : Found)
+module _ (numbers : Numbers) (others : ℕ → ℕ) (old : Heap) (kept : TableView) (fs : TreeView) (names : List (Option ℕ)) (script : Script) (plain : Plain) (pid : ℕ) (fd : ℤ) (path : List ℕ) (on : OpenSocket)
     (owners : HasItsOwners old []) (named : Contains (socks_named old.descs) on.key) (hold : HoldNames numbers others old kept fs names plain.files)
     (finds : (answer : Opened → ℕ → Answer) → FindsSocket numbers script plain pid fd answer (Ok on)) where
   abbrev keyed : Sockets

@@ -73,6 +73,39 @@ fn words_of(rt: &impl AllocGlobal, line: &str) -> Result<Vec<String>, Memory> {
     Ok(words)
 }
 
+/// What the tool answers to these words with scores of its caller's, and what it leaves.
+fn run_with<D: Door + Sync, F: Scorer + Send + Copy, G: Scorer + Send + Copy>(
+    rt: &(impl AllocGlobal + Threads + Wait + Sync),
+    words: &[String],
+    source: &mut MemSource,
+    sink: &mut MemSink,
+    door: &D,
+    heaviest: F,
+    youngest: G,
+) -> (Status, Left)
+    requires by_weight { F.scores heaviest Heaviest }
+    requires by_age { G.scores youngest Youngest }
+{
+    let mut store_out = None;
+    let status = run_tool(
+        rt,
+        rt.alloc(),
+        words,
+        source,
+        sink,
+        door,
+        heaviest,
+        youngest,
+        &mut store_out,
+    );
+    let left = match &store_out {
+        Some(store) => Some((store.live(), store.reads())),
+        None => None,
+    };
+    drop(store_out);
+    (status, left)
+}
+
 /// What the tool makes of the words of a line on a text, with scores of its caller's, where workers pass this door.
 pub fn outcome_with<D: Door + Sync, F: Scorer + Send + Copy, G: Scorer + Send + Copy>(
     rt: &(impl AllocGlobal + Threads + Wait + Sync),
@@ -86,32 +119,21 @@ pub fn outcome_with<D: Door + Sync, F: Scorer + Send + Copy, G: Scorer + Send + 
     requires by_weight { F.scores heaviest Heaviest }
     requires by_age { G.scores youngest Youngest }
 {
-    let alloc = rt.alloc();
+    let puts = trouble.puts.to_vec(rt.alloc())?;
+    let mut sink = MemSink::new(rt.alloc(), ROOM, puts, trouble.holds)?;
+    let takes = trouble.takes.to_vec(rt.alloc())?;
+    let text = text.as_bytes().to_vec(rt.alloc())?;
+    let mut source = MemSource::new(text, takes, most_of(trouble.gives_one));
     let words = words_of(rt, line)?;
-    let text = text.as_bytes().to_vec(alloc)?;
-    let mut source = MemSource::new(
-        text,
-        trouble.takes.to_vec(alloc)?,
-        most_of(trouble.gives_one),
-    );
-    let mut sink = MemSink::new(alloc, ROOM, trouble.puts.to_vec(alloc)?, trouble.holds)?;
-    let mut store = None;
-    let status = run_tool(
+    let (status, left) = run_with(
         rt,
-        alloc,
         words.as_slice(),
         &mut source,
         &mut sink,
         door,
         heaviest,
         youngest,
-        &mut store,
     );
-    let left = match &store {
-        Some(store) => Some((store.live(), store.reads())),
-        None => None,
-    };
-    drop(store);
     Ok(Outcome {
         status,
         left,

@@ -2,10 +2,12 @@
 use Rattle.std.proofs.Common.{◌≡◌, ℕ, ◌≤◌, ◌⊎◌, ⊎_elim, true, true≢false, List, [], ◌∷◌, ◌++◌, length, Option, Some, None, refl, ap, sym, ◌∙◌, subst, inl, inr, arith, append_assoc, append-nil}
 use mathlib.Core.List.{IsPrefix}
 use Rattle.std.specs.Prelude.{◌&&◌}
+use Rattle.kabi_types.specs.declared.calls.Call.{Call}
 use Rattle.kabi_types.specs.declared.entries.End.{End}
 use Rattle.kabi_types.specs.declared.entries.End.TheVariants as end
 use Rattle.kabi_types.specs.declared.entries.Entry.{Entry}
 use Rattle.kabi_types.specs.declared.scripts.Script.{Script}
+use Rattle.posix_defs.specs.declared.turner.Turned.{Turned}
 use Rattle.posix_defs.specs.History.{IsRun, Past, boot_past}
 use Rattle.posix_defs.specs.Machine.{would_block}
 use Rattle.posix_defs.specs.Process.{is_alive}
@@ -78,11 +80,11 @@ may_end script steps items past entries end.AllAsleep is ends = (
 may_end script steps items past entries (end.Starved pid need) is ends = (ends.4, ends.5, ends.3)
 may_end script steps items past entries end.Spent is ends = (ends.0.alive, ap length is ∙ ends.1)
 
-module _ {T : Type 0} (stands_for : T → World → Type 0) (script_of : T → Script) where
+module _ {T : Type 0} (stands_for : T → World → Type 0) (script_of : T → Script) (beside : T → ℕ → Call → Turned → T → Type 0) where
   -- what is left of a kernel that is closed, where its history is over
   pub whole : (script : Script) (steps : ℕ) (items : List Item) (past : Past) (entries : List Entry) (found : Option End) (bytes : ℕ) (store : T) → EntriesAreARun
-      → IsShared script steps items past → IsOver script steps items past → Closes stands_for script_of script steps items past entries found bytes store
-      → (which : End) × (found ≡ Some which) × IsWhole stands_for script_of script steps entries which bytes store
+      → IsShared script steps items past → IsOver script steps items past → Closes stands_for script_of beside script steps items past entries found bytes store
+      → (which : End) × (found ≡ Some which) × IsWhole stands_for script_of beside script steps entries which bytes store
   whole script steps items past entries None bytes store runs shared over closes = absurd (no_end script steps items past over closes.ends)
   whole script steps items past entries (Some which) bytes store runs shared over closes = (
     which,

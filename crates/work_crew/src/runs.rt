@@ -44,7 +44,7 @@ pub fn run_workers<
     requires holds { seat.known.holds ≡ fixed }
     requires unused { seat.known.reserves ≡ 0 }
     ensures { IfOk result (λ closed. (end : End) × (closed.end ≡ Some end)
-        × IsWhole T.stands T.script (T.script store) steps closed.history end closed.charged closed.store) }
+        × IsWhole T.stands T.script T.beside (T.script store) steps closed.history end closed.charged closed.store) }
 {
     let (kernel, mut passes) = Kernel::<T, L>::boot(
         alloc, store, steps, heap, workers, charge, seat,

@@ -36,8 +36,8 @@ returns g c =
     let begins = place_of_all Q c.crew.new.passes zero last.1 (subst (λ n. zero < n) (sym c.crew.ensures.count) some) (subst (AllByRecursion Q) same c.close.ensures.2) in
     let over = over_by_all g.L.RunName.script g.L.RunName.steps _ c.close.ensures.0 c.close.ensures.1 begins (c.crew.ensures.worked zero last.1 some).saw c.close.ensures.3 in
     let R : Script → ℕ → Type 0 = λ script steps.
-    (which : End) × (c.close.result.end ≡ Some which) × IsWhole g.T.Turner.stands g.T.Turner.script script steps c.close.result.history which c.close.result.charged c.close.result.store in
+    (which : End) × (c.close.result.end ≡ Some which) × IsWhole g.T.Turner.stands g.T.Turner.script g.T.Turner.beside script steps c.close.result.history which c.close.result.charged c.close.result.store in
     subst (λ script. R script c.args.steps) c.requires.script
     (subst (λ steps. R g.L.RunName.script steps) c.requires.steps
-    (whole g.T.Turner.stands g.T.Turner.script g.L.RunName.script g.L.RunName.steps _ c.close.ensures.1 c.close.result.history c.close.result.end c.close.result.charged c.close.result.store a_run
+    (whole g.T.Turner.stands g.T.Turner.script g.T.Turner.beside g.L.RunName.script g.L.RunName.steps _ c.close.ensures.1 c.close.result.history c.close.result.end c.close.result.charged c.close.result.store a_run
     c.close.ensures.3 over c.close.ensures.4))

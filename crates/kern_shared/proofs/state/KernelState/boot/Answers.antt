@@ -4,7 +4,7 @@ use Rattle.kern_shared.proofs.state.KernelState.boot.Goals as goal
 
 pub returns-clause-stands : goal.returns-clause-stands
 returns-clause-stands g c =
-    named_at_boot g.T.Turner.stands g.T.Turner.script _ _ c.args.steps _ _ _ _ _ _ _ _ _ _ _ _ c.requires.script c.requires.steps c.requires.charge
+    named_at_boot g.T.Turner.stands g.T.Turner.script g.T.Turner.beside _ _ c.args.steps _ _ _ _ _ _ _ _ _ _ _ _ c.requires.script c.requires.steps c.requires.charge
     c.in_ok-history.ensures.items c.in_ok-held.ensures.items (c.push_reserved.ensures.items ∙ ap (λ l. l ++ 1 ∷ []) c.in_ok-awake.ensures.items) c.in_ok-dozing.ensures.items
     c.requires.booted c.requires.boot c.requires.holds c.requires.word c.requires.heap
     (record {

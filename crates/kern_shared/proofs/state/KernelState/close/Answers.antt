@@ -14,5 +14,5 @@ overflow_add-charged g c =
 
 pub returns : goal.returns
 returns g c = λ items past s shared.
-    closed g.T.Turner.stands g.T.Turner.script _ _ _ _ items s past shared _ _ c.live-charged.result c.from_vec.ensures (c.end-end.ensures items s.past s s.shared) (c.live-charged.ensures.bytes s.world s.stands)
+    closed g.T.Turner.stands g.T.Turner.script g.T.Turner.beside _ _ _ _ items s past shared _ _ c.live-charged.result c.from_vec.ensures (c.end-end.ensures items s.past s s.shared) (c.live-charged.ensures.bytes s.world s.stands)
     (subst (λ (w : ChargeWord). c.args.self.seat.known.holds ≤ w.heap) c.requires.word c.give_back.ensures.room.0)

@@ -17,7 +17,7 @@ returns-clause-stands g c = λ items s.
     let into = c.take_over.ensures.into in
     let gave = c.give_back.ensures.seat in
     let left = ap (λ seat. seat.known.holds) gave in
-    seated g.T.Turner.stands g.T.Turner.script _ _ _ _ items s c.give_back.new.seat (ap (λ seat. seat.charge) gave ∙ c.take_over.ensures.charge.1 ∙ c.requires.word)
+    seated g.T.Turner.stands g.T.Turner.script g.T.Turner.beside _ _ _ _ items s c.give_back.new.seat (ap (λ seat. seat.charge) gave ∙ c.take_over.ensures.charge.1 ∙ c.requires.word)
     (ap (λ seat. seat.known.is_boot) gave ∙ c.take_over.ensures.boot) (omega (arith, is, holds, into, left))
 
 pub returns-clause-takes_in : goal.returns-clause-takes_in

@@ -7,4 +7,4 @@ use Rattle.kern_shared.proofs.state.KernelState.release_held.Goals as goal
 pub returns-clause-stands : goal.returns-clause-stands
 returns-clause-stands g c =
     let left : c.retain.new.self.items ≡ without c.args.pid c.args.self.now.held.items = filter_same _ _ _ (λ x b f' k. search rules) _ _ c.retain.ensures.filtered in
-    released g.T.Turner.stands g.T.Turner.script _ _ _ _ c.args.pid _ _ left c.retain.ensures.capacity
+    released g.T.Turner.stands g.T.Turner.script g.T.Turner.beside _ _ _ _ c.args.pid _ _ left c.retain.ensures.capacity

@@ -34,17 +34,17 @@ returns-then-not-fits_ever-clause-takes_in g c =
 pub give_up-requires : goal.give_up-requires
 give_up-requires g c =
     let s = c.requires.held.1 in
-    let room = room_for_entry g.T.Turner.stands g.T.Turner.script _ _ _ _ _ s (below_noted g.T.Turner.stands g.T.Turner.script _ _ _ _ _ s (sym c.is_spent.ensures ∙ c.if-is_spent.false)) in
+    let room = room_for_entry g.T.Turner.stands g.T.Turner.script g.T.Turner.beside _ _ _ _ _ s (below_noted g.T.Turner.stands g.T.Turner.script g.T.Turner.beside _ _ _ _ _ s (sym c.is_spent.ensures ∙ c.if-is_spent.false)) in
     let before : vec_len c.args.self.now.history < vec_capacity c.args.self.now.history = omega (arith, room.0, c.args.self.now.history.ok.0) in
     subst (λ h. vec_len h < vec_capacity h) (sym c.hand_back-then-not-alive.ensures.history) before
 
 pub returns-then-not-alive-clause-stands : goal.returns-then-not-alive-clause-stands
 returns-then-not-alive-clause-stands g c = λ items s has.
-    same_kind g.T.Turner.stands g.T.Turner.script _ _ _ _ items c.args.pid c.kind.result _ c.kind.ensures
-    (c.give_up.ensures.stands items s.past (c.hand_back-then-not-alive.ensures.stands items s) s.shared (give_up_may g.T.Turner.stands g.T.Turner.script _ _ _ _ items s c.args.pid c.args.call.now c.kind.result has (alive_is g.T.Turner.stands g.T.Turner.script _ _ _ _ items s c.args.pid c.alive.result false (c.alive.ensures s.world s.stands) c.if-not-alive.true) c.kind.ensures (below_noted g.T.Turner.stands g.T.Turner.script _ _ _ _ items s (sym c.is_spent.ensures ∙ c.if-is_spent.false))))
+    same_kind g.T.Turner.stands g.T.Turner.script g.T.Turner.beside _ _ _ _ items c.args.pid c.kind.result _ c.kind.ensures
+    (c.give_up.ensures.stands items s.past (c.hand_back-then-not-alive.ensures.stands items s) s.shared (give_up_may g.T.Turner.stands g.T.Turner.script g.T.Turner.beside _ _ _ _ items s c.args.pid c.args.call.now c.kind.result has (alive_is g.T.Turner.stands g.T.Turner.script g.T.Turner.beside _ _ _ _ items s c.args.pid c.alive.result false (c.alive.ensures s.world s.stands) c.if-not-alive.true) c.kind.ensures (below_noted g.T.Turner.stands g.T.Turner.script g.T.Turner.beside _ _ _ _ items s (sym c.is_spent.ensures ∙ c.if-is_spent.false))))
 
 pub returns-then-not-alive-clause-tells : goal.returns-then-not-alive-clause-tells
-returns-then-not-alive-clause-tells g c = λ items s. (below_noted g.T.Turner.stands g.T.Turner.script _ _ _ _ items s (sym c.is_spent.ensures ∙ c.if-is_spent.false))
+returns-then-not-alive-clause-tells g c = λ items s. (below_noted g.T.Turner.stands g.T.Turner.script g.T.Turner.beside _ _ _ _ items s (sym c.is_spent.ensures ∙ c.if-is_spent.false))
 
 pub refuse_held-requires : goal.refuse_held-requires
 refuse_held-requires g c =
@@ -55,18 +55,18 @@ refuse_held-requires g c =
         s.past,
         s,
         s.shared,
-        refuse_may g.T.Turner.stands g.T.Turner.script _ _ _ _ _ s c.args.pid c.args.call.now c.bound.result c.fits_ever.result c.requires.held.2 (alive_is g.T.Turner.stands g.T.Turner.script _ _ _ _ _ s c.args.pid c.alive.result true (c.alive.ensures s.world s.stands) c.if-not-alive.false) c.bound.ensures.value
-            (c.fits_ever.ensures c.requires.held.0 s) c.if-not-fits_ever.true (below_noted g.T.Turner.stands g.T.Turner.script _ _ _ _ _ s (sym c.is_spent.ensures ∙ c.if-is_spent.false)),
+        refuse_may g.T.Turner.stands g.T.Turner.script g.T.Turner.beside _ _ _ _ _ s c.args.pid c.args.call.now c.bound.result c.fits_ever.result c.requires.held.2 (alive_is g.T.Turner.stands g.T.Turner.script g.T.Turner.beside _ _ _ _ _ s c.args.pid c.alive.result true (c.alive.ensures s.world s.stands) c.if-not-alive.false) c.bound.ensures.value
+            (c.fits_ever.ensures c.requires.held.0 s) c.if-not-fits_ever.true (below_noted g.T.Turner.stands g.T.Turner.script g.T.Turner.beside _ _ _ _ _ s (sym c.is_spent.ensures ∙ c.if-is_spent.false)),
       );
     }
 
 pub returns-then-not-fits_ever-clause-stands : goal.returns-then-not-fits_ever-clause-stands
 returns-then-not-fits_ever-clause-stands g c = λ items s has.
     c.refuse_held.ensures.stands items s.past s s.shared
-    (refuse_may g.T.Turner.stands g.T.Turner.script _ _ _ _ items s c.args.pid c.args.call.now c.bound.result c.fits_ever.result has (alive_is g.T.Turner.stands g.T.Turner.script _ _ _ _ items s c.args.pid c.alive.result true (c.alive.ensures s.world s.stands) c.if-not-alive.false) c.bound.ensures.value (c.fits_ever.ensures items s) c.if-not-fits_ever.true (below_noted g.T.Turner.stands g.T.Turner.script _ _ _ _ items s (sym c.is_spent.ensures ∙ c.if-is_spent.false)))
+    (refuse_may g.T.Turner.stands g.T.Turner.script g.T.Turner.beside _ _ _ _ items s c.args.pid c.args.call.now c.bound.result c.fits_ever.result has (alive_is g.T.Turner.stands g.T.Turner.script g.T.Turner.beside _ _ _ _ items s c.args.pid c.alive.result true (c.alive.ensures s.world s.stands) c.if-not-alive.false) c.bound.ensures.value (c.fits_ever.ensures items s) c.if-not-fits_ever.true (below_noted g.T.Turner.stands g.T.Turner.script g.T.Turner.beside _ _ _ _ items s (sym c.is_spent.ensures ∙ c.if-is_spent.false)))
 
 pub returns-then-not-fits_ever-clause-tells : goal.returns-then-not-fits_ever-clause-tells
-returns-then-not-fits_ever-clause-tells g c = λ items s. (below_noted g.T.Turner.stands g.T.Turner.script _ _ _ _ items s (sym c.is_spent.ensures ∙ c.if-is_spent.false))
+returns-then-not-fits_ever-clause-tells g c = λ items s. (below_noted g.T.Turner.stands g.T.Turner.script g.T.Turner.beside _ _ _ _ items s (sym c.is_spent.ensures ∙ c.if-is_spent.false))
 
 pub turn_live-requires-clause-may : goal.turn_live-requires-clause-may
 turn_live-requires-clause-may g c =
@@ -75,8 +75,8 @@ turn_live-requires-clause-may g c =
       s.past,
       s,
       s.shared,
-      turn_may g.T.Turner.stands g.T.Turner.script _ _ _ _ _ s c.args.pid c.args.call.now c.bound.result c.fits_ever.result c.requires.held.2 (alive_is g.T.Turner.stands g.T.Turner.script _ _ _ _ _ s c.args.pid c.alive.result true (c.alive.ensures s.world s.stands) c.if-not-alive.false) c.bound.ensures.value
-          (c.fits_ever.ensures c.requires.held.0 s) c.if-not-fits_ever.false (below_noted g.T.Turner.stands g.T.Turner.script _ _ _ _ _ s (sym c.is_spent.ensures ∙ c.if-is_spent.false)),
+      turn_may g.T.Turner.stands g.T.Turner.script g.T.Turner.beside _ _ _ _ _ s c.args.pid c.args.call.now c.bound.result c.fits_ever.result c.requires.held.2 (alive_is g.T.Turner.stands g.T.Turner.script g.T.Turner.beside _ _ _ _ _ s c.args.pid c.alive.result true (c.alive.ensures s.world s.stands) c.if-not-alive.false) c.bound.ensures.value
+          (c.fits_ever.ensures c.requires.held.0 s) c.if-not-fits_ever.false (below_noted g.T.Turner.stands g.T.Turner.script g.T.Turner.beside _ _ _ _ _ s (sym c.is_spent.ensures ∙ c.if-is_spent.false)),
     )
 
 pub turn_live-requires-clause-own : goal.turn_live-requires-clause-own
@@ -91,7 +91,7 @@ turn_live-requires-clause-own g c =
 pub returns-clause-stands : goal.returns-clause-stands
 returns-clause-stands g c = λ items s has.
     c.turn_live.ensures.stands items s.past s s.shared
-    (turn_may g.T.Turner.stands g.T.Turner.script _ _ _ _ items s c.args.pid c.args.call.now c.bound.result c.fits_ever.result has (alive_is g.T.Turner.stands g.T.Turner.script _ _ _ _ items s c.args.pid c.alive.result true (c.alive.ensures s.world s.stands) c.if-not-alive.false) c.bound.ensures.value (c.fits_ever.ensures items s) c.if-not-fits_ever.false (below_noted g.T.Turner.stands g.T.Turner.script _ _ _ _ items s (sym c.is_spent.ensures ∙ c.if-is_spent.false)))
+    (turn_may g.T.Turner.stands g.T.Turner.script g.T.Turner.beside _ _ _ _ items s c.args.pid c.args.call.now c.bound.result c.fits_ever.result has (alive_is g.T.Turner.stands g.T.Turner.script g.T.Turner.beside _ _ _ _ items s c.args.pid c.alive.result true (c.alive.ensures s.world s.stands) c.if-not-alive.false) c.bound.ensures.value (c.fits_ever.ensures items s) c.if-not-fits_ever.false (below_noted g.T.Turner.stands g.T.Turner.script g.T.Turner.beside _ _ _ _ items s (sym c.is_spent.ensures ∙ c.if-is_spent.false)))
 
 pub returns-clause-tells : goal.returns-clause-tells
-returns-clause-tells g c = λ items s. c.turn_live.ensures.tells items (below_noted g.T.Turner.stands g.T.Turner.script _ _ _ _ items s (sym c.is_spent.ensures ∙ c.if-is_spent.false))
+returns-clause-tells g c = λ items s. c.turn_live.ensures.tells items (below_noted g.T.Turner.stands g.T.Turner.script g.T.Turner.beside _ _ _ _ items s (sym c.is_spent.ensures ∙ c.if-is_spent.false))

@@ -20,24 +20,24 @@ overflow_add-all g c =
 pub turn-turned-requires-clause-may : goal.turn-turned-requires-clause-may
 turn-turned-requires-clause-may g c =
     let s = c.requires.may.2 in
-    let may = turn_here g.T.Turner.stands g.T.Turner.script _ _ _ _ _ s c.requires.may.1 c.requires.may.3 c.args.pid c.args.call.now c.requires.may.4 in
-    let enough = paid g.T.Turner.stands g.T.Turner.script _ _ _ _ _ s (live_of s.world) (bound c.args.call.now) c.take_over.new.into.known.holds c.args.word.now.heap refl
+    let may = turn_here g.T.Turner.stands g.T.Turner.script g.T.Turner.beside _ _ _ _ _ s c.requires.may.1 c.requires.may.3 c.args.pid c.args.call.now c.requires.may.4 in
+    let enough = paid g.T.Turner.stands g.T.Turner.script g.T.Turner.beside _ _ _ _ _ s (live_of s.world) (bound c.args.call.now) c.take_over.new.into.known.holds c.args.word.now.heap refl
     (c.take_over.ensures.into ∙ ap (λ n. c.args.self.now.seat.known.holds + n) c.requires.own.1)
     (subst (λ n. c.args.self.now.seat.known.holds + n ≤ c.args.word.now.heap) c.requires.own.1 c.take_over.ensures.room) (ap (λ w. w.heap) c.requires.word) in (
       s.world,
       s.stands,
-      (λ _. call_there g.T.Turner.stands g.T.Turner.script _ _ _ _ _ s c.args.pid c.args.call.now may.is_call),
+      (λ _. call_there g.T.Turner.stands g.T.Turner.script g.T.Turner.beside _ _ _ _ _ s c.args.pid c.args.call.now may.is_call),
       subst (λ (sc : Script). live_of s.world + bound c.args.call.now + reserve ≤ sc.heap) (sym s.named) enough.1,
     )
 
 pub sort_anew-requires-clause-awake : goal.sort_anew-requires-clause-awake
 sort_anew-requires-clause-awake g c =
-    let room = room_for_entry g.T.Turner.stands g.T.Turner.script _ _ _ _ _ c.requires.may.2 c.requires.may.4.below in
+    let room = room_for_entry g.T.Turner.stands g.T.Turner.script g.T.Turner.beside _ _ _ _ _ c.requires.may.2 c.requires.may.4.below in
     omega (arith, room.1, c.args.self.now.awake.ok.0)
 
 pub sort_anew-requires-clause-dozing : goal.sort_anew-requires-clause-dozing
 sort_anew-requires-clause-dozing g c =
-    let room = room_for_entry g.T.Turner.stands g.T.Turner.script _ _ _ _ _ c.requires.may.2 c.requires.may.4.below in
+    let room = room_for_entry g.T.Turner.stands g.T.Turner.script g.T.Turner.beside _ _ _ _ _ c.requires.may.2 c.requires.may.4.below in
     omega (arith, room.2, c.args.self.now.dozing.ok.0)
 
 pub returns-clause-takes_in : goal.returns-clause-takes_in
@@ -50,19 +50,19 @@ returns-clause-takes_in g c =
 
 pub returns-clause-stands : goal.returns-clause-stands
 returns-clause-stands g c = λ items past s shared may_there.
-    let may = turn_here g.T.Turner.stands g.T.Turner.script _ _ _ _ items s past shared c.args.pid c.args.call.now may_there in
-    let enough = paid g.T.Turner.stands g.T.Turner.script _ _ _ _ items s c.live.result (bound c.args.call.now) c.take_over.new.into.known.holds c.args.word.now.heap (c.live.ensures.bytes s.world s.stands)
+    let may = turn_here g.T.Turner.stands g.T.Turner.script g.T.Turner.beside _ _ _ _ items s past shared c.args.pid c.args.call.now may_there in
+    let enough = paid g.T.Turner.stands g.T.Turner.script g.T.Turner.beside _ _ _ _ items s c.live.result (bound c.args.call.now) c.take_over.new.into.known.holds c.args.word.now.heap (c.live.ensures.bytes s.world s.stands)
     (c.take_over.ensures.into ∙ ap (λ n. c.args.self.now.seat.known.holds + n) c.requires.own.1)
     (subst (λ n. c.args.self.now.seat.known.holds + n ≤ c.args.word.now.heap) c.requires.own.1 c.take_over.ensures.room) (ap (λ w. w.heap) c.requires.word) in
     let after = c.turn-turned.ensures.turned s.world s.stands in
     let turns = subst (λ sc. TurnsTo sc s.world c.args.pid c.args.call.now c.turn-turned.result after.0) s.named after.2 in
     let live : c.live-2.result ≡ live_of after.0 = c.live-2.ensures.bytes after.0 after.1 in
     let most : c.live-2.result ≤ c.live.result + bound c.args.call.now =
-    (let less = most_live g.L.RunName.script s.world c.args.pid c.args.call.now c.turn-turned.result after.0 (lives_in_world g.T.Turner.stands g.T.Turner.script _ _ _ _ items s c.args.pid may.alive) turns in
+    (let less = most_live g.L.RunName.script s.world c.args.pid c.args.call.now c.turn-turned.result after.0 (lives_in_world g.T.Turner.stands g.T.Turner.script g.T.Turner.beside _ _ _ _ items s c.args.pid may.alive) turns in
     let before = c.live.ensures.bytes s.world s.stands in omega (arith, less, before, live)) in
-    turned_now g.T.Turner.stands g.T.Turner.script _ _ _ _ items s c.args.pid c.turn-turned.result c.turn-turned.new.self c.give_back.new.seat after.0 c.last_pid-before.result
+    turned_now g.T.Turner.stands g.T.Turner.script g.T.Turner.beside _ _ _ _ items s c.args.pid c.turn-turned.result c.turn-turned.new.self c.give_back.new.seat after.0 c.last_pid-before.result
     c.note.new.history.items c.note.new.held.items c.sort_anew.new.awake.items c.sort_anew.new.dozing.items _ _ _ _ c.args.call.now c.told_of-answer.result c.told_of-answer.ensures may enough.2
-    (c.turn-turned.ensures.script ∙ s.named) after.1 turns
+    (c.turn-turned.ensures.script ∙ s.named) after.1 turns c.turn-turned.ensures.beside
     (ap (λ seat. seat.charge) c.give_back.ensures.seat ∙ c.take_over.ensures.charge.1 ∙ c.requires.word)
     (ap (λ seat. seat.known.is_boot) c.give_back.ensures.seat ∙ c.take_over.ensures.boot)
     (ap (λ seat. seat.known.holds) c.give_back.ensures.seat

@@ -1,0 +1,47 @@
+use Rattle.std.proofs.Common.{◌≡◌, ◌+◌, ◌≤◌, length, refl, sym, ap, ◌∙◌, subst, arith, lit≤}
+use Rattle.std.specs.Option.{option_to_list}
+use Rattle.kern_tasks.proofs.NextRun.{few_tasks}
+use Rattle.kern_tasks.proofs.TaskLoops.{Passed, none_of, one_of, passed_none, passed_more, all_counted}
+use Rattle.kern_events.proofs.Places.{found_there}
+use Rattle.kern_events.proofs.cores.Core.task_events.Goals as goal
+use Rattle.kern_events.proofs.cores.Core.task_events.Goals.{then-is_some, else-is_some}
+
+pub loop-place-preserved : goal.loop-place-preserved
+loop-place-preserved g c =
+    elim c.if-is_some.branch [
+      | then-is_some w ↦ record {
+        items = c.loop-place.invariant.items;
+        few = let is : c.if-is_some.count ≡ c.loop-place.count + 1 = w.count-is in let few = c.loop-place.invariant.few in omega (arith, few);
+        passed = λ s at sound.
+            let one : length (option_to_list c.event_of.result) ≡ 1 = one_of c.event_of.result (sym c.is_some.ensures ∙ w.if-is_some.true) in
+            let many : c.loop-place.count + length (option_to_list c.event_of.result) ≡ c.if-is_some.count = ap (λ n. c.loop-place.count + n) one ∙ sym w.count-is in
+            subst (Passed _ s _ _) many (passed_more _ s _ _ _ c.event_of.result _ c.loop-place-test.true (c.event_of.ensures s at sound) (c.loop-place.invariant.passed s at sound));
+      }
+      | else-is_some w ↦ record {
+        items = c.loop-place.invariant.items;
+        few = let is : c.if-is_some.count ≡ c.loop-place.count = w.count-is in let few = c.loop-place.invariant.few in omega (arith, few);
+        passed = λ s at sound.
+            let none : length (option_to_list c.event_of.result) ≡ 0 = none_of c.event_of.result (sym c.is_some.ensures ∙ w.if-is_some.false) in
+            let many : c.loop-place.count + length (option_to_list c.event_of.result) ≡ c.if-is_some.count =
+            (let is : c.if-is_some.count ≡ c.loop-place.count = w.count-is in omega arith) in
+            subst (Passed _ s _ _) many (passed_more _ s _ _ _ c.event_of.result _ c.loop-place-test.true (c.event_of.ensures s at sound) (c.loop-place.invariant.passed s at sound));
+      }
+    ]
+
+pub returns-clause-few : goal.returns-clause-few
+returns-clause-few g c =
+    let tasks : length c.self.inside.tasks.items ≤ 100001 = few_tasks g.T.Turner.stands _ _ _ _ _ c.self.invariant.kept in
+    let same : length c.deref-task-items.result.now ≡ length c.self.inside.tasks.items = ap length c.deref-task-items.ensures.value in
+    let few : c.loop-place.count ≤ c.loop-place.place = c.loop-place.invariant.few in
+    omega arith
+
+pub returns-clause-counted : goal.returns-clause-counted
+returns-clause-counted g c = λ s at sound. all_counted _ s _ _ _ _ c.loop-place-test.false refl (c.loop-place.invariant.passed s at sound)
+
+pub loop-place-init : goal.loop-place-init
+loop-place-init g c =
+    let same : c.deref-task-items.result.now ≡ c.args.self.now.tasks = c.deref-task-items.ensures.value ∙ ap (λ core. core.tasks) c.self.view_is in
+    record { items = same; few = lit≤ tt; passed = λ s at sound. passed_none _ s _ (at.tasks ∙ sym same) }
+
+pub event_of-requires : goal.event_of-requires
+event_of-requires g c = found_there _ _ _ _ c.loop-place.invariant.items c.loop-place-test.true
