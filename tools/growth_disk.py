@@ -1,5 +1,4 @@
-"""Scripts in which what a disk has in use grows, while one process makes and removes: rows for tools/growth.py, whose runs have to
-begin at 9000 events, where all of them have made what they need."""
+"""Scripts in which what a disk has in use grows, while one process makes and removes: rows for tools/growth.py."""
 
 
 def nodes(count):
@@ -45,9 +44,13 @@ def names(disk):
     return "\n".join(lines) + "\n"
 
 
-# What grows, its numbers, the script for a number, the most instructions an event at the end, and the most growth in hundredths.
+# At this event each has made what it needs.
+BEGUN = 9000
+
+# What grows, its numbers, the script for a number, the events before its steps are all alike, the most instructions an event, and the most
+# growth in hundredths.
 ROWS = [
-    ("nodes in use, while a file is made, closed and removed", (10, 300, 1200), nodes, 3900, 110),
-    ("blocks of the disk, while names are made, moved and removed", (32, 256, 1024, 4096), names, 4200, 110),
-    ("blocks in use, while one is written and cut", (0, 1335, 3471), used, 2500, 110),
+    ("nodes in use, while a file is made, closed and removed", (10, 300, 1200), nodes, BEGUN, 2600, 110),
+    ("blocks of the disk, while names are made, moved and removed", (32, 256, 1024, 4096), names, BEGUN, 4050, 110),
+    ("blocks in use, while one is written and cut", (0, 1335, 3471), used, BEGUN, 2350, 110),
 ]
