@@ -12,21 +12,10 @@ use std::test::Fail;
 use std::thread;
 use work_crew::OpenDoor;
 
-/// Two groups in which processes are killed, each by its own policy, and one that waits for neither.
+/// Two groups in which processes are killed, each by its own policy, and one that waits for neither. It stands between them, since
+/// each of two workers has groups that stand side by side.
 const KILLING: &str = "whole 65536
 group a
-heap 8192
-program init
-set r0 7
-label again
-r1 = fork
-if r1 == 0 kid
-loop r0 again
-exit 0
-label kid
-end
-group b
-policy youngest
 heap 8192
 program init
 set r0 7
@@ -43,9 +32,21 @@ program init
 r1 = getpid
 exit 0
 end
+group b
+policy youngest
+heap 8192
+program init
+set r0 7
+label again
+r1 = fork
+if r1 == 0 kid
+loop r0 again
+exit 0
+label kid
+end
 ";
 
-/// Says that one of two is here, and looks for the other a while.
+/// Says that one of two is here, and looks for the other a while; who gives up isn't here any more.
 fn meet(here: &AtomicBool, there: &AtomicBool, met: &AtomicBool) {
     here.store(true, Ordering::SeqCst);
     for _ in 0..1000000 {
@@ -55,6 +56,7 @@ fn meet(here: &AtomicBool, there: &AtomicBool, met: &AtomicBool) {
         }
         thread::yield_now();
     }
+    here.store(false, Ordering::SeqCst);
 }
 
 /// Each of two groups kills by a policy of its own, and its closure waits for the other's: they meet only where both run.
