@@ -1,5 +1,5 @@
 -- What the process does, by how far it has come.
-use Rattle.std.proofs.Common.{◌≡◌, ℕ, zero, suc, ◌+◌, ◌*◌, ◌/◌, ◌==◌, ◌&&◌, ◌<◌, ◌≤◌, min, max, pos, negsuc, ℤ, ap, ◌∙◌, Bool, true, false, not, lit≤, refl, sym, subst, arith}
+use Rattle.std.proofs.Common.{◌≡◌, ℕ, zero, suc, ◌+◌, ◌*◌, ◌/◌, ◌==◌, ◌&&◌, ◌<◌, ◌≤◌, min, max, ℤ, ap, ◌∙◌, Bool, true, false, not, lit≤, refl, sym, subst, arith}
 use Rattle.std.proofs.lemmas.Bool.{eqb-true, false_from_ne_true}
 use Rattle.std.specs.Prelude.{Option, None, IfSome, if◌then◌else◌, is_some, slice_get}
 use Rattle.kabi_types.specs.Arguments.{count_of, invalid_unless, is_from}
@@ -7,7 +7,6 @@ use Rattle.kabi_types.specs.declared.calls.Call.{Call}
 use Rattle.kabi_types.specs.declared.calls.Call.TheVariants as call
 use Rattle.kabi_types.specs.declared.entries.Cached.{Cached}
 use Rattle.kabi_types.specs.declared.entries.Cached.TheVariants.{Name, Block, Vnode}
-use Rattle.kabi_types.specs.declared.scripts.Script.{Script}
 use Rattle.posix_defs.specs.declared.turner.Turned.{Turned}
 use Rattle.posix_defs.specs.declared.turner.Turned.TheVariants.{Gone}
 use Rattle.posix_defs.specs.Files.Closing.{after_end_of}

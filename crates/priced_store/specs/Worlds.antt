@@ -24,7 +24,7 @@ use Rattle.priced_store.specs.declared.stages.Stage.TheVariants.{Begun, Mapped, 
 abbrev pub body : List Statement
 body = Invoke kind.Mmap (Number (pos 8192) ∷ []) [] None None ∷ []
 
--- this, and the end, on so much heap
+-- the script of this program, on so much heap; behind its last statement a program ends by `exit 0`
 abbrev pub maps : ℕ → Script
 maps heap = record {
   heap = heap;
@@ -57,14 +57,14 @@ abbrev pub stage_after : Stage → Stage
 stage_after Begun = Mapped
 stage_after _ = Over
 
--- where it leads that its call is refused
+-- where it leads that its call is refused: behind a statement the program goes on, and an end is asked for again
 abbrev pub stage_refused : Stage → Stage
 stage_refused Begun = Refused
 stage_refused Mapped = Mapped
 stage_refused Refused = Refused
 stage_refused Over = Over
 
--- what all takes of the heap
+-- what all takes of the heap: the root's inode 128 bytes, the process 512, the group that its pages lie in 512
 abbrev pub live_in : Stage → ℕ
 live_in Begun = 640
 live_in Mapped = 1152
@@ -78,11 +78,12 @@ process_at Mapped = Some (record first_process { memory = with_pages no_memory 1
 process_at Refused = Some first_process
 process_at Over = None
 
--- the place of the statement that comes next
+-- the place of the statement that comes next; behind the last one it is how many there are
 abbrev place_at : Stage → ℕ
 place_at Begun = 0
 place_at _ = 1
 
+-- its pages in the account: they have zeros, and no frame is made for these
 abbrev frames_at : Stage → Frames
 frames_at Mapped = record { places = with_range no_places 1 2 Zero ∷ []; made = 0 }
 frames_at _ = boot_frames

@@ -4,6 +4,7 @@ ghost use Rattle.std.specs.Prelude.{◌≡◌, ◌+◌, ◌%◌, ◌^◌, ◌≤
 /// What a call may still take, in bytes.
 #[derive(Drop)]
 pub struct Purse {
+    /// So much of it is left.
     pub left: u64,
 }
 

@@ -21,7 +21,7 @@ fn map(arena: &mut Arena, purse: &mut Purse)
     arena.make(purse, GROUP);
 }
 
-/// The call of the process, paid from a purse that holds its price at least.
+/// The next call of a process at this stage, paid from a purse that holds its price at least.
 pub fn run(arena: &mut Arena, purse: &mut Purse, stage: Stage)
     requires stage { arena.old.used ≡ live_in stage }
     requires room { arena.old.used + purse.old.left ≤ arena.old.heap }

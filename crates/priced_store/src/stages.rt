@@ -29,7 +29,7 @@ impl Stage {
         }
     }
 
-    /// The call that it makes next.
+    /// The call that it makes next. Nobody asks one that has ended.
     pub fn call(self) -> Call
         ensures { result ≡ call_at self }
     {
@@ -50,7 +50,7 @@ impl Stage {
         }
     }
 
-    /// Where it leads.
+    /// Where that turn leads.
     pub fn after(self) -> Stage
         ensures { result ≡ stage_after self }
     {
@@ -60,7 +60,7 @@ impl Stage {
         }
     }
 
-    /// Where it leads that it is refused.
+    /// Where it leads that it is refused: a call behind which the program goes on leads to its next, and an end is asked for again.
     pub fn refused(self) -> Stage
         ensures leads { result ≡ stage_refused self }
         ensures live { live_in result ≡ live_in self }

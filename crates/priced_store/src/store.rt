@@ -28,6 +28,7 @@ impl Maps {
     {
         Maps {
             stage: Stage::Begun,
+            // In use are the process, 512 bytes, and the root's inode, 128, which every machine has from its boot on.
             arena: Arena {
                 heap,
                 used: 640,
