@@ -7,7 +7,7 @@ use Rattle.kheap_slabs.specs.declared.objects.Desc.{Desc}
 use Rattle.kheap_slabs.specs.declared.objects.Target.TheVariants as target
 use Rattle.open_laws.specs.Described.{node_in}
 use Rattle.posix_defs.specs.declared.turner.Turned.{Turned}
-use Rattle.proc_files.specs.Reading.{IsOffNodes}
+use Rattle.proc_numbers.specs.Found.{IsOffNodes}
 use Rattle.store_objects.specs.declared.objects.Objects.{Objects}
 use Rattle.file_calls.specs.Bytes.{AreBytesCached, ReadsCached}
 use Rattle.call_run.specs.Families.{IsOffFiles, changes_file, is_closing, is_filed, is_named}

@@ -10,7 +10,7 @@ use Rattle.posix_defs.specs.Files.State.{Files, node_of}
 use Rattle.posix_defs.specs.Files.Whole.{is_queue, is_queue_in}
 use Rattle.posix_defs.specs.Reaching.{is_on_node}
 use Rattle.std.specs.Prelude.{is_some}
-use Rattle.proc_files.specs.Reading.{IsOffNodes, IsOnNode}
+use Rattle.proc_numbers.specs.Found.{IsOffNodes, IsOnNode}
 use Rattle.proc_table.specs.Table.{TableView}
 use Rattle.call_run.specs.Families.{HasHalf, IsFresh, IsOffFiles, IsOnFile, is_filed, takes_file}
 

@@ -11,7 +11,7 @@ use Rattle.posix_defs.specs.Calls.Opened.{opened_at}
 use Rattle.posix_defs.specs.Files.State.{Files}
 use Rattle.posix_defs.specs.Files.Whole.{is_queue_in}
 use Rattle.posix_defs.specs.Reaching.{paths_of}
-use Rattle.proc_files.specs.Reading.{IsOffNodes, IsOnNode}
+use Rattle.proc_numbers.specs.Found.{IsOffNodes, IsOnNode}
 use Rattle.proc_table.specs.Table.{TableView}
 
 -- no path that a call names has a zero byte

@@ -18,7 +18,7 @@ ghost use Rattle.posix_defs.specs.Reaching.{is_on_node as plain_on_node};
 ghost use Rattle.posix_defs.specs.Sizes.{reserve};
 ghost use Rattle.posix_defs.specs.World.{World};
 ghost use Rattle.posix_defs.specs.declared.turner.Turned.TheVariants as turned;
-ghost use Rattle.proc_files.specs.Reading.{IsOffNodes, IsOnNode};
+ghost use Rattle.proc_numbers.specs.Found.{IsOffNodes, IsOnNode};
 ghost use Rattle.proc_table.specs.Procs.{IsAlive};
 ghost use Rattle.prog_ctl.specs.Waits.{wait_of};
 ghost use Rattle.store_objects.specs.Objects.{AreKept, IsCaller, Runs, procs_of};

@@ -8,7 +8,7 @@ ghost use Rattle.memfs_ops.specs.Fetching.{MayFetch};
 ghost use Rattle.posix_defs.specs.Calls.Writing.{pwrite, write};
 ghost use Rattle.posix_defs.specs.Needs.{need_of};
 ghost use Rattle.posix_defs.specs.World.{World};
-ghost use Rattle.proc_files.specs.Reading.{IsOnNode};
+ghost use Rattle.proc_numbers.specs.Found.{IsOnNode};
 ghost use Rattle.store_objects.specs.Objects.{AreKept, Runs};
 ghost use Rattle.store_objects.specs.Purses.{need_for};
 ghost use Rattle.store_objects.specs.Standing.{IsSound, StandsFor};

@@ -9,7 +9,7 @@ ghost use Rattle.posix_defs.specs.Files.State.{Files};
 ghost use Rattle.posix_defs.specs.Reaching.{is_on_node as plain_on_node};
 ghost use Rattle.proc_table.specs.Table.{key_of};
 ghost use Rattle.proc_numbers.specs.Having.{AreListed, HaveOpen};
-ghost use Rattle.proc_files.specs.Reading.{IsOffNodes, IsOnNode};
+ghost use Rattle.proc_numbers.specs.Found.{IsOffNodes, IsOnNode};
 
 use kheap_slabs::{KHeap, Target};
 use proc_numbers::descriptor_of;

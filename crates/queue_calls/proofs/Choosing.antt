@@ -13,7 +13,7 @@ use Rattle.posix_defs.specs.Reaching.{is_on_node}
 use Rattle.proc_numbers.specs.Having.{AreListed, HaveOpen}
 use Rattle.proc_numbers.specs.Naming.{named_by}
 use Rattle.proc_numbers.proofs.NumberNames.{desc_named_by, opened_nothing, opened_so}
-use Rattle.proc_files.specs.Reading.{IsOffNodes}
+use Rattle.proc_numbers.specs.Found.{IsOffNodes}
 use Rattle.proc_files.proofs.Finding.{tells_target}
 use Rattle.proc_numbers.specs.Found.{IsOnPipe, pipe_in}
 use Rattle.proc_numbers.specs.Finding.{socket_in, socket_named}

@@ -10,17 +10,16 @@ ghost use Rattle.posix_defs.specs.Machine.{blocks, machine};
 ghost use Rattle.posix_defs.specs.Needs.{pages_touched};
 ghost use Rattle.posix_defs.specs.Process.{is_alive};
 ghost use Rattle.posix_defs.specs.World.{World};
-ghost use Rattle.proc_files.specs.Reading.{IsOffNodes};
+ghost use Rattle.proc_numbers.specs.Found.{IsOffNodes};
 ghost use Rattle.store_objects.specs.Objects.{AreKept, Runs};
 ghost use Rattle.store_objects.specs.Standing.{Performs, StandsFor};
 
 use crate::operands::may_move;
-use crate::queues::{read_queue, read_queue_waits};
 use crate::told::go_on_done;
 use kabi_types::Script;
 use kheap_slabs::Purse;
 use posix_defs::Turned;
-use proc_numbers::Buffer;
+use proc_numbers::{Buffer, read_waits};
 use store_objects::{Caller, Objects};
 
 /// Reads at most n bytes from the pipe or the socket that a number is open on into memory, as many as are there; none are the end
@@ -49,7 +48,7 @@ pub fn read(
     ensures paid { IsPaid objects.old.heap purse.old objects.new.heap purse.new }
     ensures does { Performs script.now objects.old caller.now.pid (Call.Read fd addr n) (λ plain. read script.now plain caller.now.pid fd addr n) result objects.new }
 {
-    let told = read_queue(
+    let told = proc_numbers::read(
         &mut objects.heap,
         purse,
         &objects.procs,
@@ -68,5 +67,5 @@ pub fn read_would_block(objects: &Objects, pid: u32, fd: i64, addr: i64, n: i64)
     ensures { (script : Script) (world : World) → StandsFor script objects.now world
         → result ≡ blocks (machine script world.plain pid (Call.Read fd addr n)) }
 {
-    may_move(addr, n) && read_queue_waits(&objects.heap, &objects.procs, pid, fd, addr, n)
+    may_move(addr, n) && read_waits(&objects.heap, &objects.procs, pid, fd, addr, n)
 }

@@ -10,17 +10,16 @@ ghost use Rattle.posix_defs.specs.Machine.{blocks, machine};
 ghost use Rattle.posix_defs.specs.Needs.{chunks_for};
 ghost use Rattle.posix_defs.specs.Process.{is_alive};
 ghost use Rattle.posix_defs.specs.World.{World};
-ghost use Rattle.proc_files.specs.Reading.{IsOffNodes};
+ghost use Rattle.proc_numbers.specs.Found.{IsOffNodes};
 ghost use Rattle.store_objects.specs.Objects.{AreKept, Runs};
 ghost use Rattle.store_objects.specs.Standing.{Performs, StandsFor};
 
 use crate::operands::may_move;
-use crate::queues::{write_queue, write_queue_waits};
 use crate::told::{do_part, go_on_done};
 use kabi_types::Script;
 use kheap_slabs::Purse;
 use posix_defs::Turned;
-use proc_numbers::Buffer;
+use proc_numbers::{Buffer, write_waits};
 use store_objects::{Caller, Objects};
 
 /// Writes n bytes of memory, of which so many were moved before, to the pipe or the socket that a number is open on: up to 512 go
@@ -53,7 +52,7 @@ pub fn write(
     ensures paid { IsPaid objects.old.heap purse.old objects.new.heap purse.new }
     ensures does { Performs script.now objects.old caller.now.pid (Call.Write fd addr n done) (λ plain. write script.now plain caller.now.pid fd addr n done) result objects.new }
 {
-    let told = write_queue(
+    let told = proc_numbers::write(
         &mut objects.heap,
         purse,
         &objects.procs,
@@ -76,5 +75,5 @@ pub fn write_would_block(objects: &Objects, pid: u32, fd: i64, addr: i64, n: i64
     ensures { (script : Script) (world : World) → StandsFor script objects.now world
         → result ≡ blocks (machine script world.plain pid (Call.Write fd addr n done)) }
 {
-    may_move(addr, n) && write_queue_waits(&objects.heap, &objects.procs, pid, fd, addr, n, done)
+    may_move(addr, n) && write_waits(&objects.heap, &objects.procs, pid, fd, addr, n, done)
 }

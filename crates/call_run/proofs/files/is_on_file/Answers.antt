@@ -2,7 +2,7 @@ use Rattle.std.proofs.Common.{◌≡◌, ◌∙◌, rules, subst, sym, true}
 use Rattle.std.proofs.lemmas.Int.{to_z-of_z}
 use Rattle.posix_defs.specs.Calls.Opened.{opened_at}
 use Rattle.posix_defs.specs.Reaching.{is_on_node}
-use Rattle.proc_files.specs.Reading.{IsOffNodes, IsOnNode}
+use Rattle.proc_numbers.specs.Found.{IsOffNodes, IsOnNode}
 use Rattle.proc_numbers.proofs.MayMove.{alive_listed}
 use Rattle.store_objects.proofs.Keeping.{listed_in}
 use Rattle.call_run.specs.Families.{IsFresh}

@@ -2,7 +2,7 @@ use Rattle.std.proofs.Common.{subst, sym, w64}
 use Rattle.std.proofs.lemmas.Int.{to_z-of_z}
 use Rattle.kabi_types.specs.declared.calls.Call.TheVariants as call
 use Rattle.posix_defs.specs.Calls.Reading.{read}
-use Rattle.proc_files.specs.Reading.{IsOffNodes}
+use Rattle.proc_numbers.specs.Found.{IsOffNodes}
 use Rattle.proc_numbers.specs.Standing.{Leads}
 use Rattle.proc_numbers.proofs.MayMove.{alive_listed}
 use Rattle.queue_calls.proofs.Choosing.{beside_socks, beside_pipes, on_pipe_else}

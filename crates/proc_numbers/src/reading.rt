@@ -1,4 +1,4 @@
-//! `read` from a socket.
+//! `read` of a pipe and of a socket.
 
 ghost use Rattle.std.specs.Prelude.{◌≡◌, ◌+◌, ◌<◌, ◌≤◌, ℕ, None};
 ghost use Rattle.kabi_types.specs.Arguments.{argument_fault, count_of};
@@ -15,17 +15,16 @@ ghost use Rattle.posix_defs.specs.Machine.{blocks};
 ghost use Rattle.posix_defs.specs.Needs.{pages_touched};
 ghost use Rattle.posix_defs.specs.Pipe.{Moves};
 ghost use Rattle.posix_defs.specs.Plain.{Plain};
-ghost use Rattle.posix_defs.specs.Sockets.{Sockets, sock_read as read_answer};
 ghost use Rattle.proc_table.specs.Procs.{IsAlive};
 ghost use Rattle.proc_table.specs.Table.{processes};
+ghost use Rattle.proc_numbers.specs.Found.{IsOffNodes};
 ghost use Rattle.proc_numbers.specs.PipeMoving.{UnlessMoves, told_read};
+ghost use Rattle.proc_numbers.specs.QueueEnds.{Behind, IsEndIn, ReadsEnd, StandsBehind, read_of};
 ghost use Rattle.proc_numbers.specs.Standing.{IsKept, Leads, StandsFor};
-ghost use Rattle.usock_core.specs.Standing.{IsSocketIn, StandsFor as SocketsStandFor};
-ghost use Rattle.proc_numbers.specs.Finding.{IsOnSocket};
-ghost use Rattle.proc_numbers.specs.SocketMoving.{ReadsSocket};
 
 use crate::buffer::{Buffer, CAPACITY};
-use crate::finding::mover_of;
+use crate::ends::QueueEnd;
+use crate::lookups::readable;
 use crate::spaces::{space_of, start_of};
 use chunk_queue::Moved;
 use kabi_types::{Errno, Reply};
@@ -33,14 +32,13 @@ use kheap_slabs::{KHeap, Purse};
 use page_space::Space;
 use posix_defs::Turned;
 use proc_table::ProcTable;
-use usock_core::{sock_read, sock_read_waits};
 
-/// Reads at most n bytes from the socket that a number is open on into a process's memory, as many as are there. None are the
-/// end of the file: the socket was shut for reading, or its peer has closed or was shut for writing.
+/// Reads at most n bytes from the pipe or the socket that a number is open on into a process's memory, as many as are there. None are
+/// the end of the file: nobody can write any more, or the socket was shut for reading.
 ///
-/// EBADF where the number isn't open for reading, EFAULT where a page that n bytes would touch isn't mapped, ENOTCONN where the
-/// socket isn't connected, EAGAIN where nothing is there, something can come, and the reader doesn't wait (POSIX read).
-pub fn read_socket(
+/// EBADF where the number isn't open for reading, EFAULT where a page that n bytes would touch isn't mapped, ENOTCONN of a socket that
+/// isn't connected, EAGAIN where nothing is there, something can come, and the reader doesn't wait (POSIX read).
+pub fn read(
     heap: &mut KHeap,
     purse: &mut Purse,
     procs: &ProcTable,
@@ -52,7 +50,7 @@ pub fn read_socket(
 ) -> Turned
     requires kept { IsKept heap.old procs.now }
     requires alive { IsAlive (processes heap.old procs.now) pid }
-    requires on { IsOnSocket heap.old procs.now pid fd }
+    requires off { IsOffNodes heap.old procs.now pid fd }
     requires right { argument_fault (Call.Read fd addr n) ≡ None }
     requires room { CanPay heap.old purse.old }
     requires left { pages_touched (count_of addr) (count_of n) ≤ purse.old.left.page }
@@ -64,14 +62,18 @@ pub fn read_socket(
     ensures beside { heap.new ≡ record heap.old {
       nodes = heap.new.nodes;
       pages = heap.new.pages;
+      pipes = heap.new.pipes;
       chunks = heap.new.chunks;
       socks = heap.new.socks;
       high = heap.new.high;
     } }
     ensures paid { IsPaid heap.old purse.old heap.new purse.new }
 {
-    let Some(found) = mover_of(heap, procs, pid, fd, false) else {
+    let Some(found) = readable(heap, procs, pid, fd) else {
         return Turned::Done(Reply::Fail(Errno::EBADF));
+    };
+    let Some(queue) = QueueEnd::of(found.desc.target) else {
+        unreachable!();
     };
     let n = n.cast_unsigned() as u32;
     let start = start_of(addr, n);
@@ -82,79 +84,66 @@ pub fn read_socket(
     if n == 0 {
         return Turned::Done(Reply::Val(0));
     }
-    take_from_socket(
-        heap,
-        purse,
-        &mut space,
-        buffer,
-        found.key,
-        found.nonblock,
-        start,
-        n,
-    )
+    let nonblock = found.desc.flags.nonblock;
+    take_in(heap, purse, &mut space, buffer, queue, nonblock, start, n)
 }
 
-/// Whether a `read` of a socket would sleep.
-pub fn read_socket_waits(
-    heap: &KHeap,
-    procs: &ProcTable,
-    pid: u32,
-    fd: i64,
-    addr: i64,
-    n: i64,
-) -> bool
+/// Whether a `read` would sleep, whatever its number is open on; one of a file or a directory never does.
+pub fn read_waits(heap: &KHeap, procs: &ProcTable, pid: u32, fd: i64, addr: i64, n: i64) -> bool
     requires kept { IsKept heap.now procs.now }
     requires alive { IsAlive (processes heap.now procs.now) pid }
-    requires on { IsOnSocket heap.now procs.now pid fd }
     requires right { argument_fault (Call.Read fd addr n) ≡ None }
     ensures { (script : Script) (numbers : Numbers) (plain : Plain) (account : Account)
         → StandsFor numbers heap.now procs.now plain account
         → result ≡ blocks (read script plain pid fd addr n) }
 {
-    let Some(found) = mover_of(heap, procs, pid, fd, false) else {
+    let Some(found) = readable(heap, procs, pid, fd) else {
         return false;
     };
+    let Some(queue) = QueueEnd::of(found.desc.target) else {
+        return false;
+    };
+    // the queue mostly tells it, which is the cheaper question
+    if !queue.take_waits(heap, found.desc.flags.nonblock) {
+        return false;
+    }
     let n = n.cast_unsigned() as u32;
     let start = start_of(addr, n);
     let space = space_of(heap, procs, pid);
     if !space.mapped(heap, start, n) {
         return false;
     }
-    if n == 0 {
-        return false;
-    }
-    sock_read_waits(heap, found.key, found.nonblock)
+    n != 0
 }
 
-// Takes bytes out of a socket's queue, at most n, and puts them in memory.
-fn take_from_socket(
+// Takes bytes out of a queue, at most n, and puts them in memory.
+fn take_in(
     heap: &mut KHeap,
     purse: &mut Purse,
     space: &mut Space,
     buffer: &mut Buffer,
-    key: u32,
+    queue: QueueEnd,
     nonblock: bool,
     start: u32,
     n: u32,
 ) -> Turned
     requires owned { OwnsItsObjects heap.old }
-    requires there { IsSocketIn heap.old key }
+    requires there { IsEndIn heap.old queue }
     requires space { IsOwnedWith heap.old space.old }
     requires some { 0 < n }
     requires within { start + n ≤ 1048576 }
     requires mapped { IsMappedRange heap.old.nodes space.old start n }
     requires room { CanPay heap.old purse.old }
     requires left { pages_touched start n ≤ purse.old.left.page }
-    ensures told { (sockets : Sockets) → SocketsStandFor heap.old sockets
-        → result ≡ told_read (read_answer sockets key nonblock n) }
-    ensures reads { (sockets : Sockets) (k : ℕ) → SocketsStandFor heap.old sockets
-        → read_answer sockets key nonblock n ≡ Moves k
-        → ReadsSocket heap.old purse.old heap.new purse.new space.old key start sockets k }
-    ensures refused { (sockets : Sockets) → SocketsStandFor heap.old sockets
-        → UnlessMoves (read_answer sockets key nonblock n) (heap.new ≡ heap.old) }
+    ensures told { (behind : Behind queue) → StandsBehind heap.old queue behind → result ≡ told_read (read_of queue behind nonblock n) }
+    ensures reads { (behind : Behind queue) (k : ℕ) → StandsBehind heap.old queue behind → read_of queue behind nonblock n ≡ Moves k
+        → ReadsEnd heap.old purse.old heap.new purse.new space.old queue start behind k }
+    ensures refused { (behind : Behind queue) → StandsBehind heap.old queue behind
+        → UnlessMoves (read_of queue behind nonblock n) (heap.new ≡ heap.old) }
     ensures beside { heap.new ≡ record heap.old {
       nodes = heap.new.nodes;
       pages = heap.new.pages;
+      pipes = heap.new.pipes;
       chunks = heap.new.chunks;
       socks = heap.new.socks;
       high = heap.new.high;
@@ -162,7 +151,7 @@ fn take_from_socket(
     ensures paid { IsPaid heap.old purse.old heap.new purse.new }
 {
     let out = &mut buffer[..(n as usize).min(CAPACITY)];
-    match sock_read(heap, key, nonblock, out) {
+    match queue.take(heap, nonblock, out) {
         Moved::Bytes(count) => {
             space.copy_in(heap, purse, start, &out[..count as usize]);
             told_bytes(count)

@@ -1,6 +1,6 @@
-//! `write` to a socket.
+//! `write` to a pipe and to a socket.
 
-ghost use Rattle.std.specs.Prelude.{◌≡◌, ℕ, ◌+◌, ◌-◌, ◌<◌, ◌≤◌, [], None};
+ghost use Rattle.std.specs.Prelude.{◌≡◌, ℕ, ◌+◌, ◌-◌, ◌<◌, ◌≤◌, None};
 ghost use Rattle.kabi_types.specs.Arguments.{argument_fault, count_of};
 ghost use Rattle.kabi_types.specs.declared.calls.Call.{Call};
 ghost use Rattle.kabi_types.specs.declared.scripts.Script.{Script};
@@ -17,37 +17,33 @@ ghost use Rattle.posix_defs.specs.Machine.{blocks};
 ghost use Rattle.posix_defs.specs.Memory.{Memory, loaded};
 ghost use Rattle.posix_defs.specs.Needs.{chunks_for};
 ghost use Rattle.posix_defs.specs.Plain.{Plain};
-ghost use Rattle.posix_defs.specs.Socket.{is_connected};
-ghost use Rattle.posix_defs.specs.Sockets.{Sockets, sock_write as write_answer, stage_at};
 ghost use Rattle.proc_table.specs.Procs.{IsAlive};
 ghost use Rattle.proc_table.specs.Table.{processes};
+ghost use Rattle.proc_numbers.specs.Found.{IsOffNodes};
 ghost use Rattle.proc_numbers.specs.PipeMoving.{UnlessMoves, moved_in, told_write};
+ghost use Rattle.proc_numbers.specs.QueueEnds.{Behind, IsEndIn, LeavesBut, PutsIn, StandsBehind, write_of};
 ghost use Rattle.proc_numbers.specs.Standing.{IsKept, Leads, StandsFor};
-ghost use Rattle.usock_core.specs.Standing.{IsSocketIn, StandsFor as SocketsStandFor};
-ghost use Rattle.proc_numbers.specs.Finding.{IsOnSocket};
-ghost use Rattle.proc_numbers.specs.SocketMoving.{WritesSocket};
-ghost use Rattle.proc_numbers.specs.Owning.{SocketsChange};
 
 use crate::buffer::{Buffer, CAPACITY};
-use crate::finding::mover_of;
-use crate::spaces::{space_of, start_of};
+use crate::ends::QueueEnd;
+use crate::lookups::writable;
+use crate::spaces::{fetch, space_of, start_of};
 use chunk_queue::Moved;
 use kabi_types::{Errno, Reply};
-use kheap_slabs::{KHeap, Purse, SockState};
+use kheap_slabs::{KHeap, Purse};
 use page_space::Space;
 use posix_defs::Turned;
 use proc_table::ProcTable;
-use usock_core::{sock_write, sock_write_waits};
 
-// The bytes of a write, from an address on, of which some were moved before.
+/// The bytes of a write, from an address on, of which some were moved before.
 #[derive(Clone, Copy)]
-struct Written {
+pub(crate) struct Written {
     /// Where they begin.
-    start: u32,
+    pub start: u32,
     /// How many they are.
-    n: u32,
+    pub n: u32,
     /// How many of them were moved before.
-    done: u32,
+    pub done: u32,
 }
 
 impl Written {
@@ -72,14 +68,14 @@ impl Written {
     }
 }
 
-/// Writes n bytes of a process's memory to the peer of the socket that a number is open on, of which so many were moved before: as
-/// many as the peer has room for, and the rest later, those are a part.
+/// Writes n bytes of a process's memory to the pipe or the socket that a number is open on, of which so many were moved before. Up to
+/// 512 go into a pipe whole or not at all; of more, and to a socket always, as many as there is room for, and the rest later: those
+/// are a part.
 ///
-/// EBADF where the number isn't open for writing, EFAULT where a page of the bytes isn't mapped, ENOTCONN where the socket isn't
-/// connected; EPIPE where it was shut for writing, or its peer has closed or was shut for reading, and EAGAIN where the peer has no
-/// room and the writer doesn't wait; a writer of whose bytes some were moved is told their number in the place of these two
-/// (POSIX write).
-pub fn write_socket(
+/// EBADF where the number isn't open for writing, EFAULT where a page of the bytes isn't mapped, ENOTCONN of a socket that isn't
+/// connected; EPIPE where nobody can read and EAGAIN where there is no room and the writer doesn't wait; a writer of whose bytes some
+/// were moved is told their number in the place of these two (POSIX write).
+pub fn write(
     heap: &mut KHeap,
     purse: &mut Purse,
     procs: &ProcTable,
@@ -92,7 +88,7 @@ pub fn write_socket(
 ) -> Turned
     requires kept { IsKept heap.old procs.now }
     requires alive { IsAlive (processes heap.old procs.now) pid }
-    requires on { IsOnSocket heap.old procs.now pid fd }
+    requires off { IsOffNodes heap.old procs.now pid fd }
     requires right { argument_fault (Call.Write fd addr n done) ≡ None }
     requires room { CanPay heap.old purse.old }
     requires left { chunks_for (count_of n - done) ≤ purse.old.left.chunk }
@@ -101,12 +97,20 @@ pub fn write_socket(
         → Leads script numbers heap.new procs.now plain account pid (Call.Write fd addr n done)
         (write script plain pid fd addr n done) result }
     ensures kept { IsKept heap.new procs.now }
-    ensures beside { heap.new ≡ record heap.old { chunks = heap.new.chunks; socks = heap.new.socks; high = heap.new.high } }
+    ensures beside { heap.new ≡ record heap.old {
+      pipes = heap.new.pipes;
+      chunks = heap.new.chunks;
+      socks = heap.new.socks;
+      high = heap.new.high;
+    } }
     ensures paid { IsPaid heap.old purse.old heap.new purse.new }
     ensures purse { PaysChunks purse.old purse.new }
 {
-    let Some(found) = mover_of(heap, procs, pid, fd, true) else {
+    let Some(found) = writable(heap, procs, pid, fd) else {
         return Turned::Done(Reply::Fail(Errno::EBADF));
+    };
+    let Some(queue) = QueueEnd::of(found.desc.target) else {
+        unreachable!();
     };
     let n = n.cast_unsigned() as u32;
     let start = start_of(addr, n);
@@ -117,23 +121,16 @@ pub fn write_socket(
     if n == 0 {
         return Turned::Done(Reply::Val(0));
     }
-    if !is_connected(heap, found.key) {
+    if !queue.is_linked(heap) {
         return Turned::Done(Reply::Fail(Errno::ENOTCONN));
     }
     let written = Written { start, n, done };
-    put_in_socket(
-        heap,
-        purse,
-        &space,
-        buffer,
-        found.key,
-        found.nonblock,
-        &written,
-    )
+    let nonblock = found.desc.flags.nonblock;
+    put_from(heap, purse, &space, buffer, queue, nonblock, &written)
 }
 
-/// Whether a `write` to a socket would sleep.
-pub fn write_socket_waits(
+/// Whether a `write` would sleep, whatever its number is open on; one of a file never does.
+pub fn write_waits(
     heap: &KHeap,
     procs: &ProcTable,
     pid: u32,
@@ -144,73 +141,65 @@ pub fn write_socket_waits(
 ) -> bool
     requires kept { IsKept heap.now procs.now }
     requires alive { IsAlive (processes heap.now procs.now) pid }
-    requires on { IsOnSocket heap.now procs.now pid fd }
     requires right { argument_fault (Call.Write fd addr n done) ≡ None }
     ensures { (script : Script) (numbers : Numbers) (plain : Plain) (account : Account)
         → StandsFor numbers heap.now procs.now plain account
         → result ≡ blocks (write script plain pid fd addr n done) }
 {
-    let Some(found) = mover_of(heap, procs, pid, fd, true) else {
+    let Some(found) = writable(heap, procs, pid, fd) else {
+        return false;
+    };
+    let Some(queue) = QueueEnd::of(found.desc.target) else {
         return false;
     };
     let n = n.cast_unsigned() as u32;
+    let left = n.saturating_sub(done);
+    // the queue mostly tells it, which is the cheaper question
+    if !queue.put_waits(heap, found.desc.flags.nonblock, n, left) {
+        return false;
+    }
     let start = start_of(addr, n);
     let space = space_of(heap, procs, pid);
     if !space.mapped(heap, start, n) {
         return false;
     }
-    if n == 0 {
-        return false;
-    }
-    let left = n.saturating_sub(done);
-    sock_write_waits(heap, found.key, found.nonblock, left)
+    n != 0
 }
 
-// Puts what is left of a write to a connected socket in its peer's queue, as far as it goes now.
-fn put_in_socket(
+// Puts what is left of a write in a queue, as far as it goes now.
+fn put_from(
     heap: &mut KHeap,
     purse: &mut Purse,
     space: &Space,
     buffer: &mut Buffer,
-    key: u32,
+    queue: QueueEnd,
     nonblock: bool,
     written: &Written,
 ) -> Turned
     requires owned { OwnsItsObjects heap.old }
-    requires there { IsSocketIn heap.old key }
+    requires there { IsEndIn heap.old queue }
     requires space { IsOwnedWith heap.old space.now }
     requires within { written.now.start + written.now.n ≤ 1048576 }
     requires mapped { IsMappedRange heap.old.nodes space.now written.now.start written.now.n }
     requires pays { CanPay heap.old purse.old }
     requires enough { chunks_for (written.now.n - written.now.done) ≤ purse.old.left.chunk }
-    ensures told { (sockets : Sockets) → SocketsStandFor heap.old sockets
+    ensures told { (behind : Behind queue) → StandsBehind heap.old queue behind
         → result ≡ told_write nonblock written.now.n written.now.done
-        (write_answer sockets key nonblock (written.now.n - written.now.done)) }
-    ensures writes { (sockets : Sockets) (memory : Memory) → SocketsStandFor heap.old sockets → IsMemory heap.old space.now memory
-        → WritesSocket heap.old heap.new key sockets
+        (write_of queue behind nonblock written.now.n (written.now.n - written.now.done)) }
+    ensures puts { (behind : Behind queue) (memory : Memory) → StandsBehind heap.old queue behind → IsMemory heap.old space.now memory
+        → PutsIn heap.old heap.new queue behind
         (loaded memory (written.now.start + written.now.done) (written.now.n - written.now.done))
-        (moved_in (write_answer sockets key nonblock (written.now.n - written.now.done))) }
-    ensures change { SocketsChange heap.old heap.new [] }
+        (moved_in (write_of queue behind nonblock written.now.n (written.now.n - written.now.done))) }
+    ensures leaves { LeavesBut heap.old heap.new queue }
     ensures paid { IsPaid heap.old purse.old heap.new purse.new }
     ensures purse { PaysChunks purse.old purse.new }
-    ensures refused { (sockets : Sockets) → SocketsStandFor heap.old sockets
-        → UnlessMoves (write_answer sockets key nonblock (written.now.n - written.now.done)) (heap.new ≡ heap.old) }
+    ensures refused { (behind : Behind queue) → StandsBehind heap.old queue behind
+        → UnlessMoves (write_of queue behind nonblock written.now.n (written.now.n - written.now.done)) (heap.new ≡ heap.old) }
 {
     let bytes = &mut buffer[..(written.left() as usize).min(CAPACITY)];
-    space.copy_out(heap, written.rest(), bytes);
-    let moved = sock_write(heap, purse, key, nonblock, bytes);
+    fetch(space, heap, written.rest(), bytes);
+    let moved = queue.put(heap, purse, nonblock, written.n, bytes);
     told(moved, nonblock, written)
-}
-
-// Whether a socket is connected.
-fn is_connected(heap: &KHeap, key: u32) -> bool
-    requires { IsSocketIn heap.now key }
-    ensures { (sockets : Sockets) → SocketsStandFor heap.now sockets → result ≡ is_connected (stage_at sockets key) }
-{
-    match heap.get_sock(key).state {
-        SockState::Connected { .. } => true,
-        SockState::Idle | SockState::Listening => false,
-    }
 }
 
 // What a write is told whose bytes moved so.
