@@ -1,6 +1,6 @@
 //! Directories that are made and that go: `mkdir` and `rmdir`.
 
-ghost use Rattle.std.specs.Prelude.{◌≡◌, ◌≤◌, ◌<◌, ◌^◌, None};
+ghost use Rattle.std.specs.Prelude.{◌≡◌, ◌<◌, ◌^◌, None};
 ghost use Rattle.std.specs.List.{All};
 ghost use Rattle.kabi_types.specs.Arguments.{argument_fault};
 ghost use Rattle.kabi_types.specs.declared.calls.Call.{Call};

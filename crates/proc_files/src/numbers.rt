@@ -1,6 +1,6 @@
 //! Whether a number is open on a node.
 
-ghost use Rattle.std.specs.Prelude.{◌≡◌, ℕ, [], IsSome, false, is_some, true};
+ghost use Rattle.std.specs.Prelude.{◌≡◌, [], IsSome, false, is_some, true};
 ghost use Rattle.open_laws.specs.Described.{node_in};
 ghost use Rattle.open_laws.specs.Owned.{HasItsOwners};
 ghost use Rattle.open_laws.specs.Placed.{Numbers};

@@ -1,6 +1,6 @@
 //! `read` and `pread` of files, and `readdir`.
 
-ghost use Rattle.std.specs.Prelude.{◌≡◌, ◌/◌, ◌-◌, ◌+◌, ◌%◌, ◌≤◌, ◌<◌, ℕ, None, Some, IsSome, length};
+ghost use Rattle.std.specs.Prelude.{◌≡◌, ◌/◌, ◌-◌, ◌+◌, ◌%◌, ◌≤◌, ◌<◌, ℕ, None, Some, length};
 ghost use Rattle.std.specs.List.{AllByRecursion};
 ghost use Rattle.kabi_types.specs.Arguments.{argument_fault, count_of};
 ghost use Rattle.kabi_types.specs.declared.calls.Call.{Call};

@@ -1,10 +1,9 @@
 -- What a read of a socket leads to.
-use Rattle.std.proofs.Common.{◌≡◌, ◌≢◌, ◌⊎◌, ℕ, zero, suc, ◌+◌, ◌-◌, ◌%◌, ◌<◌, ◌≤◌, ◌==◌, ◌++◌, Bool, true, false, cond, min, leb, ltb, ℤ, pos, List, [], ◌∷◌, take, drop, length, length-append, Option, None, Some, IsSome, refl, ap, sym, subst, ◌∙◌, arith, eq-eqb, ne_eqb, inl, inr}
+use Rattle.std.proofs.Common.{◌≡◌, ◌⊎◌, ℕ, zero, suc, ◌+◌, ◌-◌, ◌%◌, ◌<◌, ◌≤◌, ◌++◌, Bool, true, false, cond, min, leb, ltb, ℤ, pos, List, [], ◌∷◌, take, drop, length, length-append, Option, None, Some, IsSome, refl, ap, sym, subst, ◌∙◌, arith, inl, inr}
 use Rattle.std.proofs.lemmas.Bool.{cases_eq, ltb-true, ltb-false}
 use Rattle.std.proofs.lemmas.Bool.Decides.{leb_tells}
 use Rattle.std.proofs.lemmas.List.{length-take-le}
 use Rattle.std.specs.Option.{option_map}
-use Rattle.kabi_types.specs.declared.errnos.Errno.TheVariants.{EBADF, EFAULT}
 use Rattle.kabi_types.specs.Arguments.{count_of}
 use Rattle.kabi_types.specs.declared.calls.Call.{Call}
 use Rattle.kabi_types.specs.declared.calls.Call.TheVariants as call
@@ -18,20 +17,16 @@ use Rattle.kheap_slabs.proofs.ObjectLemmas.{object_of}
 use Rattle.kheap_slabs.specs.Heap.{Heap}
 use Rattle.kheap_slabs.specs.Owners.{with_space}
 use Rattle.kheap_slabs.specs.Paid.{TakesNothing}
-use Rattle.chunk_queue.specs.Moving.{would_wait}
 use Rattle.open_laws.specs.Socketed.{AreRenamed, stage_by}
 use Rattle.open_laws.proofs.SocketLemmas.{placed_at}
 use Rattle.page_space.specs.Contents.{IsOwnedWith, SpaceMoves}
 use Rattle.page_space.specs.Putting.{Puts}
 use Rattle.open_laws.specs.Placed.{Numbers}
 use Rattle.posix_defs.specs.Account.{Account, front_after}
-use Rattle.posix_defs.specs.Answer.{Answer, Blocked, failed, replied}
-use Rattle.posix_defs.specs.Calls.Reading.{of_bytes, put, read, read_from_socket, read_target, unless_directory}
-use Rattle.posix_defs.specs.Calls.Opened.{Opened, if_readable, on_open}
-use Rattle.posix_defs.specs.Files.Descriptions.{Target, OnSocket}
+use Rattle.posix_defs.specs.Answer.{Blocked, failed, replied}
+use Rattle.posix_defs.specs.Calls.Reading.{put, read, read_from_socket}
 use Rattle.posix_defs.specs.Files.State.{with_sockets}
-use Rattle.posix_defs.specs.Machine.{blocks}
-use Rattle.posix_defs.specs.Memory.{after_put, is_mapped_range, stored}
+use Rattle.posix_defs.specs.Memory.{after_put, stored}
 use Rattle.posix_defs.specs.MemoryCalls.{remembered}
 use Rattle.posix_defs.specs.Pipe.{Moving, Moves, Blocks, Fails, not_now}
 use Rattle.posix_defs.specs.Plain.{Plain, with_files}
@@ -56,11 +51,8 @@ use Rattle.proc_numbers.specs.Standing.{IsKept, Leads, StandsFor}
 use Rattle.proc_numbers.proofs.FrontsMoved.{front_moves, front_stays}
 use Rattle.proc_numbers.proofs.Leading.{leads_nowhere, leads_to_sleep}
 use Rattle.proc_numbers.proofs.Remembering.{account_put, fronts_put, kept_put, open_put, space_on, table_put}
-use Rattle.proc_numbers.proofs.RightBytes.{mapped_at}
 use Rattle.proc_numbers.proofs.Settled.{forgotten}
-use Rattle.proc_numbers.specs.Finding.{FindsFor, FindsToMove}
 use Rattle.proc_numbers.specs.SocketMoving.{ReadsSocket}
-use Rattle.proc_numbers.specs.declared.finding.OpenSocket.{OpenSocket}
 use Rattle.proc_numbers.specs.Owning.{SocketsChange}
 use Rattle.proc_numbers.proofs.Moved.{fronts_changed, kept_changed, open_changed, same_nodes, same_pages, same_procs, spaces_own}
 use Rattle.proc_numbers.proofs.Renaming.{renamed_by}

@@ -1,35 +1,29 @@
 -- What a write to a socket leads to.
-use Rattle.std.proofs.Common.{◌≡◌, ◌≢◌, ◌⊎◌, ℕ, zero, suc, ◌+◌, ◌-◌, ◌<◌, ◌≤◌, ◌==◌, ◌++◌, Bool, true, false, cond, min, leb, ℤ, pos, List, [], take, length, Option, None, Some, IsSome, refl, ap, sym, subst, ◌∙◌, arith, eq-eqb, ne_eqb, inl, inr}
+use Rattle.std.proofs.Common.{◌≡◌, ◌⊎◌, ℕ, ◌+◌, ◌-◌, ◌<◌, ◌≤◌, ◌==◌, ◌++◌, Bool, true, false, cond, min, leb, ℤ, pos, List, [], take, length, Option, None, Some, IsSome, refl, ap, sym, subst, ◌∙◌, arith, ne_eqb, inl, inr}
 use Rattle.std.specs.Option.{option_map}
 use Rattle.std.proofs.lemmas.Bool.{cases_eq}
 use Rattle.std.proofs.lemmas.Bool.Decides.{leb_tells}
 use Rattle.std.proofs.lemmas.List.FromFn.{length-map-range_with_len}
-use Rattle.kabi_types.specs.Arguments.{count_of}
 use Rattle.kabi_types.specs.declared.calls.Call.{Call}
 use Rattle.kabi_types.specs.declared.calls.Call.TheVariants as call
 use Rattle.kabi_types.specs.declared.errnos.Errno.{Errno}
-use Rattle.kabi_types.specs.declared.errnos.Errno.TheVariants.{EBADF, EFAULT, ENOTCONN, EPIPE}
+use Rattle.kabi_types.specs.declared.errnos.Errno.TheVariants.{EPIPE}
 use Rattle.kabi_types.specs.declared.replies.Reply.TheVariants.{Fail, Val}
 use Rattle.kabi_types.specs.declared.scripts.Script.{Script}
 use Rattle.kheap_slabs.specs.Purse.{Purse}
 use Rattle.kheap_slabs.specs.Heap.{Heap}
-use Rattle.chunk_queue.specs.Moving.{moved_by, moving_of, would_wait}
+use Rattle.chunk_queue.specs.Moving.{moved_by, moving_of}
 use Rattle.chunk_queue.specs.declared.moved.Moved.{Moved}
 use Rattle.open_laws.specs.Socketed.{AreRenamed, stage_by}
 use Rattle.open_laws.proofs.SocketLemmas.{placed_at, placed_stage}
 use Rattle.open_laws.specs.Placed.{Numbers}
 use Rattle.posix_defs.specs.Account.{Account, account_on}
-use Rattle.posix_defs.specs.Answer.{Answer, Blocked, failed, replied}
-use Rattle.posix_defs.specs.Calls.Opened.{Opened, if_writable, on_open}
-use Rattle.posix_defs.specs.Calls.Reading.{of_bytes}
-use Rattle.posix_defs.specs.Calls.Writing.{did_part, put_in_queue, put_in_socket, stopped, write, write_queue, write_target}
-use Rattle.posix_defs.specs.Files.Descriptions.{Target, OnSocket}
-use Rattle.posix_defs.specs.Files.State.{Files, with_sockets}
-use Rattle.posix_defs.specs.Machine.{blocks}
-use Rattle.posix_defs.specs.Memory.{Memory, byte_at, is_mapped_range, loaded}
+use Rattle.posix_defs.specs.Answer.{Blocked, failed, replied}
+use Rattle.posix_defs.specs.Calls.Writing.{did_part, put_in_queue, put_in_socket, stopped, write, write_queue}
+use Rattle.posix_defs.specs.Files.State.{with_sockets}
+use Rattle.posix_defs.specs.Memory.{Memory, byte_at, loaded}
 use Rattle.posix_defs.specs.Pipe.{Moving, Moves, Blocks, Fails, not_now}
 use Rattle.posix_defs.specs.Plain.{Plain, with_files}
-use Rattle.posix_defs.specs.Process.{memory_of}
 use Rattle.posix_defs.specs.QueuePlace.{QueuePlace}
 use Rattle.posix_defs.specs.Socket.{Connected, Idle, Listening, Socket, Stage, is_connected, is_shut_read, peer_of}
 use Rattle.posix_defs.specs.SocketLinks.{AreLinked}
@@ -49,12 +43,10 @@ use Rattle.proc_numbers.specs.Standing.{IsKept, IsTold, Leads, StandsFor}
 use Rattle.proc_numbers.proofs.Capped.{loaded_taken, moved_same}
 use Rattle.proc_numbers.proofs.FrontsMoved.{front_stays}
 use Rattle.proc_numbers.proofs.Leading.{leads_nowhere, leads_to_sleep}
-use Rattle.proc_numbers.proofs.RightBytes.{loaded_at, mapped_at}
+use Rattle.proc_numbers.proofs.RightBytes.{loaded_at}
 use Rattle.proc_numbers.proofs.Settled.{forgotten}
-use Rattle.proc_numbers.specs.Finding.{FindsFor, FindsToMove}
 use Rattle.proc_numbers.specs.SocketMoving.{WritesSocket}
 use Rattle.proc_numbers.specs.Owning.{SocketsChange}
-use Rattle.proc_numbers.specs.declared.finding.OpenSocket.{OpenSocket}
 use Rattle.proc_numbers.proofs.Moved.{fronts_changed, kept_changed, open_changed, same_nodes, same_pages, same_procs}
 use Rattle.proc_numbers.proofs.SocketReads.{empty_place}
 use Rattle.proc_numbers.proofs.Renaming.{renamed_by}

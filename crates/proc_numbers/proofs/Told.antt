@@ -1,5 +1,5 @@
 -- What the machine answers to a call on sockets, and what heap and table have open once one has changed.
-use Rattle.std.proofs.Common.{◌≡◌, ◌≢◌, ℕ, ℤ, pos, ◌+◌, ◌<◌, ◌++◌, Bool, true, false, cond, List, [], ◌∷◌, length, Option, None, Some, IsSome, is_some, refl, sym, ap, subst, ◌∙◌, arith, inl, inr, length-append, Contains}
+use Rattle.std.proofs.Common.{◌≡◌, ◌≢◌, ℕ, ℤ, pos, ◌+◌, ◌<◌, ◌++◌, Bool, true, false, List, [], ◌∷◌, length, Option, None, Some, IsSome, is_some, refl, sym, ap, subst, ◌∙◌, arith, inl, inr, length-append, Contains}
 use Rattle.std.proofs.lemmas.Bool.{cases_eq}
 use Rattle.std.proofs.lemmas.List.{get_or-set_other}
 use Rattle.std.specs.Prelude.{MatchResult, Result, Ok, Err, IsOk, is_ok}
@@ -14,14 +14,14 @@ use Rattle.kheap_slabs.specs.declared.objects.Target.{Target}
 use Rattle.kheap_slabs.specs.declared.objects.Target.TheVariants as target
 use Rattle.kheap_slabs.proofs.ObjectLemmas.{InUse-within, object_of}
 use Rattle.kheap_slabs.specs.Heap.{Heap}
-use Rattle.open_laws.specs.Described.{access_in, counted_in, target_in}
-use Rattle.open_laws.specs.Owned.{HasItsOwners, sock_in, sock_of, socks_named}
+use Rattle.open_laws.specs.Described.{counted_in, target_in}
+use Rattle.open_laws.specs.Owned.{HasItsOwners, sock_in, socks_named}
 use Rattle.open_laws.specs.Socketed.{AreRenamed}
 use Rattle.open_laws.proofs.OwnerLemmas.{named_by as sock_named_by}
 use Rattle.open_laws.specs.Placed.{Numbers, numbered}
 use Rattle.posix_defs.specs.Answer.{Answer, Blocked, failed, replied}
 use Rattle.posix_defs.specs.Calls.OnSockets.{accept as call_accept, accept_at, accepted_under, description_of, listen as call_listen, listen_at, on_socket, paired, paired_under, resocketed, shutdown as call_shutdown, shutdown_at, socket, socket_target, socketed, socketed_under, socketpair, unless_fault}
-use Rattle.posix_defs.specs.Calls.Opened.{Opened, on_open}
+use Rattle.posix_defs.specs.Calls.Opened.{Opened}
 use Rattle.posix_defs.specs.Files.Descriptors.{lowest_free_from, two_lowest_free}
 use Rattle.posix_defs.specs.Files.State.{Files, descriptors_of, with_open, with_sockets}
 use Rattle.posix_defs.specs.Machine.{blocks}

@@ -26,7 +26,7 @@ use Rattle.posix_defs.specs.Pipe.{Moving, Moves, Blocks, Fails, Pipe, pipe_write
 use Rattle.posix_defs.specs.Plain.{Plain}
 use Rattle.posix_defs.specs.Process.{memory_of}
 use Rattle.posix_defs.specs.Socket.{Connected, Idle, Listening, Stage, is_connected}
-use Rattle.posix_defs.specs.Sockets.{Sockets, sock_write, stage_at, write_in_stage}
+use Rattle.posix_defs.specs.Sockets.{sock_write, stage_at, write_in_stage}
 use Rattle.posix_defs.specs.Tree.{Tree}
 use Rattle.posix_defs.specs.TreeChanges.{write as tree_write}
 use Rattle.posix_defs.specs.declared.turner.Turned.{Turned}
