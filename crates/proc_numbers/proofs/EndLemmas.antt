@@ -1,5 +1,5 @@
 -- What the ends of queues have in common, each by the lemmas of its own.
-use Rattle.std.proofs.Common.{◌≡◌, ℕ, ◌+◌, ◌-◌, ◌<◌, ◌≤◌, Bool, min, List, [], ◌++◌, take, drop, length, Option, None, Some, refl, ap, sym, subst, ◌∙◌}
+use Rattle.std.proofs.Common.{◌≡◌, ℕ, ℤ, ◌+◌, ◌-◌, ◌<◌, ◌≤◌, Bool, min, List, [], ◌++◌, take, drop, length, Option, None, Some, refl, ap, sym, subst, ◌∙◌}
 use Rattle.chunk_queue.specs.Moving.{moved_by, moving_of}
 use Rattle.chunk_queue.specs.declared.moved.Moved.{Moved}
 use Rattle.kheap_slabs.specs.Objects.{object}

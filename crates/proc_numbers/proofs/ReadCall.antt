@@ -166,6 +166,7 @@ module _ (script : Script) (numbers : Numbers) (plain : Plain) (pid : ℕ) (fd a
           → ((behind : Behind on) (k : ℕ) → StandsBehind h on behind → read_of on behind nonblock v ≡ Moves k → ReadsEnd h before new after space on start behind k)
           → ((behind : Behind on) → StandsBehind h on behind → UnlessMoves (read_of on behind nonblock v) (new ≡ h))
           → Leads script numbers new kept plain account pid (call.Read fd addr n) (read script plain pid fd addr n) told
+      unfolding of_end
       read_leads tells some before new after space is has told so reads refused =
           subst (λ answer. Leads script numbers new kept plain account pid (call.Read fd addr n) answer told) (sym (read_goes tells some)) (by_end on is_open so reads refused)
         where
@@ -177,7 +178,6 @@ module _ (script : Script) (numbers : Numbers) (plain : Plain) (pid : ℕ) (fd a
               → ((behind : Behind which) (k : ℕ) → StandsBehind h which behind → read_of which behind nonblock v ≡ Moves k → ReadsEnd h before new after space which start behind k)
               → ((behind : Behind which) → StandsBehind h which behind → UnlessMoves (read_of which behind nonblock v) (new ≡ h))
               → Leads script numbers new kept plain account pid (call.Read fd addr n) (of_end which v) told
-          unfolding of_end
           by_end (queue.Pipe key) it so reads refused =
               let behind : Pipe × ℕ = (it.0, it.1) in
               subst (Leads script numbers new kept plain account pid (call.Read fd addr n) (of_end (queue.Pipe key) v)) (sym (so behind it.2))

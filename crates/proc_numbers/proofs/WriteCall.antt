@@ -220,11 +220,12 @@ module _ (script : Script) (numbers : Numbers) (plain : Plain) (pid : ℕ) (fd a
           → PutsIn h new on behind (loaded (memory_of plain.table pid) (start + done) (v - done)) (moved_in (write_of on behind nonblock v (v - done))))
           → ((behind : Behind on) → StandsBehind h on behind → UnlessMoves (write_of on behind nonblock v (v - done)) (new ≡ h))
           → Leads script numbers new kept plain account pid (call.Write fd addr n done) (write script plain pid fd addr n done) told
+      unfolding moving_at put_at of_linked
       write_leads tells some b linked is_linked new is leaves told so puts refused =
           subst (λ answer. Leads script numbers new kept plain account pid (call.Write fd addr n done) answer told)
           (sym (write_goes tells some ∙ by_linked true (sym (linked_so on is_open b linked) ∙ is_linked))) (by_end on is_open leaves so puts refused)
         where
-          abbrev bytes : List ℕ
+          bytes : List ℕ
           bytes = loaded (memory_of plain.table pid) (start + done) (v - done)
 
           by_end : (which : QueueEnd) → IsOpenEnd h which → LeavesBut h new which
@@ -232,7 +233,6 @@ module _ (script : Script) (numbers : Numbers) (plain : Plain) (pid : ℕ) (fd a
               → ((behind : Behind which) → StandsBehind h which behind → PutsIn h new which behind bytes (moved_in (write_of which behind nonblock v (v - done))))
               → ((behind : Behind which) → StandsBehind h which behind → UnlessMoves (write_of which behind nonblock v (v - done)) (new ≡ h))
               → Leads script numbers new kept plain account pid (call.Write fd addr n done) (of_linked which v start) told
-          unfolding moving_at put_at of_linked
           by_end (queue.Pipe key) it leaves so puts refused =
               let behind : Pipe × ℕ = (it.0, it.1) in
               subst (Leads script numbers new kept plain account pid (call.Write fd addr n done) (of_linked (queue.Pipe key) v start)) (sym (so behind it.2))
