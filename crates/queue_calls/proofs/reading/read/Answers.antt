@@ -17,24 +17,24 @@ pub read_queue-told-requires-clause-kept : goal.read_queue-told-requires-clause-
 read_queue-told-requires-clause-kept c = let some = c.requires.stands in is_kept c.args.script.now c.args.objects.now some.1.kept
 
 pub read_queue-told-requires-clause-alive : goal.read_queue-told-requires-clause-alive
-read_queue-told-requires-clause-alive c = runs_alive c.args.objects.now c.args.pid c.args.control c.requires.runs
+read_queue-told-requires-clause-alive c = runs_alive c.args.objects.now c.args.caller.now.pid c.args.caller.now.control c.requires.runs
 
 pub read_queue-told-requires-clause-off : goal.read_queue-told-requires-clause-off
-read_queue-told-requires-clause-off c = subst (IsOffNodes c.args.objects.now.heap c.args.objects.now.procs c.args.pid) (sym (to_z-of_z w64 c.args.fd c.ranges.fd)) c.requires.off
+read_queue-told-requires-clause-off c = subst (IsOffNodes c.args.objects.now.heap c.args.objects.now.procs c.args.caller.now.pid) (sym (to_z-of_z w64 c.args.fd c.ranges.fd)) c.requires.off
 
 pub go_on_done-requires-clause-kept : goal.go_on_done-requires-clause-kept
 go_on_done-requires-clause-kept c =
     let some = c.requires.stands in
-    let names = names_read c.args.script.now c.args.objects.now c.read_queue-told.new.heap c.args.pid _ _ _ c.read_queue-told.result (c.read_queue-told.ensures.leads c.args.script.now) c.requires.stands
-    (subst (IsOffNodes c.args.objects.now.heap c.args.objects.now.procs c.args.pid) (sym (to_z-of_z w64 c.args.fd c.ranges.fd)) c.requires.off) in
+    let names = names_read c.args.script.now c.args.objects.now c.read_queue-told.new.heap c.args.caller.now.pid _ _ _ c.read_queue-told.result (c.read_queue-told.ensures.leads c.args.script.now) c.requires.stands
+    (subst (IsOffNodes c.args.objects.now.heap c.args.objects.now.procs c.args.caller.now.pid) (sym (to_z-of_z w64 c.args.fd c.ranges.fd)) c.requires.off) in
     kept_mid c.args.script.now c.args.objects.now c.read_queue-told.new.heap c.read_queue-told.ensures.kept (leaves_rest c.args.objects.now.heap c.read_queue-told.new.heap c.read_queue-told.ensures.beside) names some.1.kept
 
 pub go_on_done-requires-clause-runs : goal.go_on_done-requires-clause-runs
 go_on_done-requires-clause-runs c =
-    let names = names_read c.args.script.now c.args.objects.now c.read_queue-told.new.heap c.args.pid _ _ _ c.read_queue-told.result (c.read_queue-told.ensures.leads c.args.script.now) c.requires.stands
-    (subst (IsOffNodes c.args.objects.now.heap c.args.objects.now.procs c.args.pid) (sym (to_z-of_z w64 c.args.fd c.ranges.fd)) c.requires.off) in
+    let names = names_read c.args.script.now c.args.objects.now c.read_queue-told.new.heap c.args.caller.now.pid _ _ _ c.read_queue-told.result (c.read_queue-told.ensures.leads c.args.script.now) c.requires.stands
+    (subst (IsOffNodes c.args.objects.now.heap c.args.objects.now.procs c.args.caller.now.pid) (sym (to_z-of_z w64 c.args.fd c.ranges.fd)) c.requires.off) in
     runs_mid c.args.script.now c.args.objects.now c.read_queue-told.new.heap c.read_queue-told.ensures.kept (leaves_rest c.args.objects.now.heap c.read_queue-told.new.heap c.read_queue-told.ensures.beside) names
-    c.args.pid c.args.control c.requires.runs
+    c.args.caller.now.pid c.args.caller.now.control c.requires.runs
 
 pub returns-clause-paid : goal.returns-clause-paid
 returns-clause-paid c =
@@ -47,10 +47,10 @@ returns-clause-does c =
     let old = c.args.objects.now in
     let heap = c.read_queue-told.new.heap in
     let new = c.go_on_done.new.objects in
-    let pid = c.args.pid in
+    let pid = c.args.caller.now.pid in
     let told = c.read_queue-told.result in
-    let names = names_read c.args.script.now c.args.objects.now c.read_queue-told.new.heap c.args.pid _ _ _ c.read_queue-told.result (c.read_queue-told.ensures.leads c.args.script.now) c.requires.stands
-    (subst (IsOffNodes c.args.objects.now.heap c.args.objects.now.procs c.args.pid) (sym (to_z-of_z w64 c.args.fd c.ranges.fd)) c.requires.off) in
+    let names = names_read c.args.script.now c.args.objects.now c.read_queue-told.new.heap c.args.caller.now.pid _ _ _ c.read_queue-told.result (c.read_queue-told.ensures.leads c.args.script.now) c.requires.stands
+    (subst (IsOffNodes c.args.objects.now.heap c.args.objects.now.procs c.args.caller.now.pid) (sym (to_z-of_z w64 c.args.fd c.ranges.fd)) c.requires.off) in
     subst (λ t. Performs script old pid (call.Read c.args.fd c.args.addr c.args.n) (λ plain. read script plain pid c.args.fd c.args.addr c.args.n) t new) (sym c.go_on_done.ensures.told)
     (performs script old heap c.read_queue-told.ensures.kept (leaves_rest old.heap heap c.read_queue-told.ensures.beside) names pid (call.Read c.args.fd c.args.addr c.args.n) (λ moved. ⊥) new
     (λ plain. read script plain pid c.args.fd c.args.addr c.args.n) told
