@@ -54,6 +54,10 @@ impl Turner for Maps {
 
     ghost beside = { λ old pid call told new. KeepsToPrice old call new };
 
+    ghost settled = { λ _ _. false };
+
+    ghost stirred = { λ _. [] };
+
     fn next(&self, _pid: u32) -> Call {
         self.stage.call()
     }
@@ -88,6 +92,14 @@ impl Turner for Maps {
         true
     }
 
+    fn settles(&self, _pid: u32) -> bool {
+        false
+    }
+
+    fn stirred(&self) -> &[u32] {
+        &[]
+    }
+
     fn evictable(&self, _what: Cached) -> bool {
         false
     }
@@ -119,4 +131,6 @@ impl Turner for Maps {
     fn reads(&self) -> u64 {
         0
     }
+
+    ghost settled_block = { λ _ _ _ _ none _. absurd_of none };
 }

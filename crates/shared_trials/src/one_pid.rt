@@ -66,6 +66,10 @@ impl Turner for OnePid {
 
     ghost beside = { λ _ _ _ _ _. Unit {0} };
 
+    ghost settled = { λ _ _. false };
+
+    ghost stirred = { λ _. [] };
+
     fn next(&self, _pid: u32) -> Call {
         if self.place == 0 {
             Call::Getpid
@@ -103,6 +107,14 @@ impl Turner for OnePid {
         true
     }
 
+    fn settles(&self, _pid: u32) -> bool {
+        false
+    }
+
+    fn stirred(&self) -> &[u32] {
+        &[]
+    }
+
     fn evictable(&self, _what: Cached) -> bool {
         false
     }
@@ -134,6 +146,8 @@ impl Turner for OnePid {
     fn reads(&self) -> u64 {
         0
     }
+
+    ghost settled_block = { λ _ _ _ _ none _. absurd_of none };
 }
 
 /// The process at its start.

@@ -253,6 +253,10 @@ impl Turner for Pair {
 
     ghost beside = { λ _ _ _ _ _. Unit {0} };
 
+    ghost settled = { λ _ _. false };
+
+    ghost stirred = { λ _. [] };
+
     fn next(&self, pid: u32) -> Call {
         match act_of(who(pid), self.scene) {
             Some(act) => call_as(act),
@@ -278,6 +282,14 @@ impl Turner for Pair {
 
     fn ready(&self, _pid: u32) -> bool {
         true
+    }
+
+    fn settles(&self, _pid: u32) -> bool {
+        false
+    }
+
+    fn stirred(&self) -> &[u32] {
+        &[]
     }
 
     fn evictable(&self, what: Cached) -> bool {
@@ -311,6 +323,8 @@ impl Turner for Pair {
     fn reads(&self) -> u64 {
         0
     }
+
+    ghost settled_block = { λ _ _ _ _ none _. absurd_of none };
 }
 
 /// The first process at its start, on so much heap.
