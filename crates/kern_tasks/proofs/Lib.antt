@@ -11,3 +11,4 @@ pub mod Defaults
 pub mod CalmTurns
 pub mod HeapBounds
 pub mod AllEvents
+pub mod Runnables

@@ -4,7 +4,7 @@ use Rattle.std.specs.List.{list_any}
 
 -- the process is one of these
 abbrev pub is_among : List ℕ → ℕ → Bool
-is_among pids pid = list_any (λ other. other == pid) pids
+is_among pids pid = list_any (λ other. pid == other) pids
 
 -- Of every process that isn't named the same is kept in mind as before.
 abbrev pub HasNamed : (ℕ → Bool) → (ℕ → Bool) → List ℕ → Type 0
