@@ -12,3 +12,4 @@ pub mod CalmTurns
 pub mod HeapBounds
 pub mod AllEvents
 pub mod Runnables
+pub mod Picked

@@ -1,5 +1,6 @@
 //! What the core asks of the store.
-ghost use Rattle.std.specs.Prelude.{◌≡◌};
+ghost use Rattle.std.proofs.Common.{rules};
+ghost use Rattle.std.specs.Prelude.{◌≡◌, false, []};
 ghost use Rattle.priced_store.specs.declared.stages.Stage.TheVariants.{Begun};
 ghost use Rattle.priced_store.specs.Worlds.{live_in, maps};
 
@@ -132,5 +133,5 @@ impl Turner for Maps {
         0
     }
 
-    ghost settled_block = { λ _ _ _ _ none _. absurd_of none };
+    ghost settled_block = { Prim.search rules };
 }

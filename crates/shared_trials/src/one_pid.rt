@@ -1,5 +1,6 @@
 //! A store of one process, the smallest that the core takes.
-ghost use Rattle.std.specs.Prelude.{◌≡◌, ℕ, ◌+◌, ◌%◌, ◌^◌, ◌≤◌, false, true};
+ghost use Rattle.std.proofs.Common.{rules};
+ghost use Rattle.std.specs.Prelude.{◌≡◌, ℕ, ◌+◌, ◌%◌, ◌^◌, ◌≤◌, false, true, []};
 ghost use Rattle.posix_defs.specs.World.{boot_kept};
 ghost use Rattle.shared_trials.specs.Sample.{live_at, sample, world_at};
 
@@ -147,7 +148,7 @@ impl Turner for OnePid {
         0
     }
 
-    ghost settled_block = { λ _ _ _ _ none _. absurd_of none };
+    ghost settled_block = { Prim.search rules };
 }
 
 /// The process at its start.

@@ -1,6 +1,7 @@
 //! A store of two processes.
 
-ghost use Rattle.std.specs.Prelude.{◌≡◌, ◌≤◌, ◌+◌, ◌%◌, ◌^◌, max, false};
+ghost use Rattle.std.proofs.Common.{rules};
+ghost use Rattle.std.specs.Prelude.{◌≡◌, ◌≤◌, ◌+◌, ◌%◌, ◌^◌, max, false, []};
 ghost use Rattle.shared_trials.specs.declared.scenes.Scene.TheVariants.{Young};
 ghost use Rattle.shared_trials.specs.Pair.{act_as, act_of, cached_by, cached_without, call_as, can_lose, first_act, first_after, last_in, live_at, pair, scene_after, scene_killed, scene_refused, second_act, told_of, victim_in, who, world_at};
 
@@ -324,7 +325,7 @@ impl Turner for Pair {
         0
     }
 
-    ghost settled_block = { λ _ _ _ _ none _. absurd_of none };
+    ghost settled_block = { Prim.search rules };
 }
 
 /// The first process at its start, on so much heap.

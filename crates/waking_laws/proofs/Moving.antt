@@ -1,5 +1,5 @@
 -- What a call that moves bytes changes: the one queue that its number is open on, and of descriptions nothing but an offset.
-use Rattle.std.proofs.Common.{◌≡◌, ◌≢◌, ℕ, ◌+◌, ◌-◌, ◌==◌, ℤ, pos, Bool, true, false, cond, List, [], ◌∷◌, length, Option, None, Some, Result, Ok, Err, refl, ap, sym, ◌∙◌, subst, inl, inr, unwrap_or, slice_set}
+use Rattle.std.proofs.Common.{◌≡◌, ◌≢◌, ℕ, ◌+◌, ◌-◌, ◌==◌, ℤ, pos, Bool, true, false, cond, if◌then◌else◌, List, [], ◌∷◌, length, Option, None, Some, Result, Ok, Err, refl, ap, sym, ◌∙◌, subst, inl, inr, unwrap_or, slice_set}
 use Rattle.std.specs.Prelude.{slice_index_or}
 use Rattle.std.specs.Option.{option_map}
 use Rattle.std.proofs.lemmas.Bool.Decides.{eqb_tells}
@@ -11,10 +11,11 @@ use Rattle.kabi_types.specs.declared.errnos.Errno.{Errno}
 use Rattle.kabi_types.specs.declared.scripts.Script.{Script}
 use Rattle.machine_laws.specs.FileSteps.{LeadsTo}
 use Rattle.machine_laws.proofs.Places.{naming}
-use Rattle.posix_defs.specs.Answer.{Answer}
+use Rattle.kabi_types.specs.declared.replies.Reply.TheVariants.{Val}
+use Rattle.posix_defs.specs.Answer.{Answer, replied}
 use Rattle.posix_defs.specs.Calls.Opened.{Opened, answer_on, on_open, opened_at}
 use Rattle.posix_defs.specs.Calls.Reading.{is_directory_target, of_bytes, read, read_from_pipe, read_from_socket, read_target}
-use Rattle.posix_defs.specs.Calls.Writing.{bytes_left, place_of_write, put_in_pipe, put_in_queue, put_in_socket, stopped, write, write_queue, write_target, wrote}
+use Rattle.posix_defs.specs.Calls.Writing.{bytes_left, did_part, place_of_write, put_in_pipe, put_in_queue, put_in_socket, stopped, write, write_queue, write_target, wrote}
 use Rattle.posix_defs.specs.Files.Descriptions.{Target, OnNode, OnPipe, OnSocket, at_offset, may_read, may_write}
 use Rattle.posix_defs.specs.Files.State.{Files, described_as, descriptors_of, pipe_at, with_pipe, with_sockets, with_tree}
 use Rattle.posix_defs.specs.Machine.{answer_to, machine, unless_wrong}
@@ -22,7 +23,7 @@ use Rattle.posix_defs.specs.Memory.{Memory, is_mapped_range, stored}
 use Rattle.posix_defs.specs.PathCalls.{read_node}
 use Rattle.posix_defs.specs.Pipe.{Moving, Moves, Blocks, Fails, Pipe, new_pipe, pipe_read, pipe_write}
 use Rattle.posix_defs.specs.Plain.{Plain, with_files}
-use Rattle.posix_defs.specs.Process.{memory_of, process_at, remembering, with_memory}
+use Rattle.posix_defs.specs.Process.{Table, memory_of, process_at, remembering, with_memory}
 use Rattle.posix_defs.specs.Socket.{is_connected}
 use Rattle.posix_defs.specs.Sockets.{Sockets, after_read as socket_after_read, sock_read, sock_write, socket_at, stage_at}
 use Rattle.posix_defs.specs.Tree.{Tree}
@@ -67,13 +68,13 @@ module _ (script : Script) (plain : Plain) (pid who : ℕ) (apart : who ≢ pid)
   remembers memory = same_after who pid plain.table (remembering memory (process_at plain.table pid)) apart (remembers_alike memory (process_at plain.table pid))
 
   -- nothing but the caller's control has changed
-  nothing : (target : Option Target) → IsMoved target pid who plain plain
-  nothing target = record {
-    numbers = refl;
-    described = all_there plain.files;
-    pipes = λ place e. refl;
-    sockets = λ place e. same_sockets plain.files.sockets;
-    kin = family;
+  nothing : (target : Option Target) (new : Plain) → new.files ≡ plain.files → new.table ≡ plain.table → IsMoved target pid who plain new
+  nothing target new files table = record {
+    numbers = ap (λ (it : Files). descriptors_of it pid) files;
+    described = subst (λ (it : Files). KeepsDescribed plain.files it) (sym files) (all_there plain.files);
+    pipes = λ place e. ap (λ (it : Files). pipe_at it place) files;
+    sockets = λ place e. subst (λ (it : Files). SameSockets plain.files.sockets it.sockets) (sym files) (same_sockets plain.files.sockets);
+    kin = subst (λ (it : Table). SameKin who plain.table it) (sym table) family;
   }
 
   -- queues are kept, whatever the target is
@@ -96,12 +97,12 @@ module _ (script : Script) (plain : Plain) (pid who : ℕ) (apart : who ≢ pid)
   opened_moves fd given each = go (opened_at plain.files pid fd) refl
     where
       go : (o : Option Opened) → opened_at plain.files pid fd ≡ o → Moved (option_map (λ (it : Opened). it.is.target) o) (answer_on script plain pid given o)
-      go None is = nothing None
+      go None is = nothing None _ refl refl
       go (Some opened) is = each opened is
 
   of_some_bytes : (target : Option Target) (addr n : ℤ) (given : Answer) → Moved target given → Moved target (of_bytes script plain pid addr n given)
   of_some_bytes target addr n given rest =
-      either target (is_mapped_range (memory_of plain.table pid) (count_of addr) (count_of n)) _ _ (either target (count_of n == 0) _ given (nothing target) rest) (nothing target)
+      either target (is_mapped_range (memory_of plain.table pid) (count_of addr) (count_of n)) _ _ (either target (count_of n == 0) _ given (nothing target _ refl refl) rest) (nothing target _ refl refl)
 
   -- ---- queues
 
@@ -134,19 +135,19 @@ module _ (script : Script) (plain : Plain) (pid who : ℕ) (apart : who ≢ pid)
   unfolding read
   read_moves fd addr n = opened_moves fd _ (λ opened is.
       either (Some opened.is.target) (may_read opened.is.access) _ _
-      (either (Some opened.is.target) (is_directory_target plain.files.tree opened.is.target) _ _ (nothing (Some opened.is.target))
+      (either (Some opened.is.target) (is_directory_target plain.files.tree opened.is.target) _ _ (nothing (Some opened.is.target) _ refl refl)
       (of_some_bytes (Some opened.is.target) addr n _ (go opened is opened.is.target)))
-      (nothing (Some opened.is.target)))
+      (nothing (Some opened.is.target) _ refl refl))
     where
       from_pipe : (place : ℕ) (moving : Moving) → Moved (Some (OnPipe place)) (read_from_pipe script plain pid place addr moving)
       from_pipe place (Moves k) = one_pipe place _ _ refl (remembers _)
       from_pipe place Blocks = tt
-      from_pipe place (Fails errno) = nothing (Some (OnPipe place))
+      from_pipe place (Fails errno) = nothing (Some (OnPipe place)) _ refl refl
 
       from_socket : (place : ℕ) (moving : Moving) → Moved (Some (OnSocket place)) (read_from_socket script plain pid place addr moving)
       from_socket place (Moves k) = some_sockets place _ _ refl (remembers _)
       from_socket place Blocks = tt
-      from_socket place (Fails errno) = nothing (Some (OnSocket place))
+      from_socket place (Fails errno) = nothing (Some (OnSocket place)) _ refl refl
 
       go : (opened : Opened) → opened_at plain.files pid fd ≡ Some opened → (target : Target) → Moved (Some target) (read_target script plain pid opened addr (count_of n) target)
       go opened is (OnNode number) =
@@ -170,10 +171,11 @@ module _ (script : Script) (plain : Plain) (pid who : ℕ) (apart : who ≢ pid)
         described = subst (λ (it : Files). KeepsDescribed plain.files it) (sym files) moved.described;
         pipes = λ place e. ap (λ (it : Files). pipe_at it place) files ∙ moved.pipes place e;
         sockets = λ place e. subst (λ (it : Files). SameSockets plain.files.sockets it.sockets) (sym files) (moved.sockets place e);
-        kin = subst (λ table. SameKin who plain.table table) (sym table) moved.kin;
+        kin = subst (λ (it : Table). SameKin who plain.table it) (sym table) moved.kin;
       }
 
-      go : (all early : Bool) → Moved target (cond all _ (cond early _ _))
+      go : (all early : Bool)
+          → Moved target (if all then replied script between pid (Val (pos n)) else (if early then replied script between pid (Val (pos (done + k))) else did_part between pid k))
       go true early = behind _ refl refl
       go false true = behind _ refl refl
       go false false = behind _ refl refl
@@ -182,13 +184,13 @@ module _ (script : Script) (plain : Plain) (pid who : ℕ) (apart : who ≢ pid)
       → ((k : ℕ) → IsMoved target pid who plain (with_files plain (next k))) → Moved target (write_queue script plain pid nonblock n done next moving)
   queue_moves target nonblock n done next (Moves k) each = put_moves target (with_files plain (next k)) nonblock n done k (each k)
   queue_moves target nonblock n done next Blocks each = tt
-  queue_moves target nonblock n done next (Fails errno) each = either target (done == 0) _ _ (nothing target) (nothing target)
+  queue_moves target nonblock n done next (Fails errno) each = either target (done == 0) _ _ (nothing target _ refl refl) (nothing target _ refl refl)
 
   write_moves : (fd addr n : ℤ) (done : ℕ) → Moved (target_at plain.files pid fd) (write script plain pid fd addr n done)
   unfolding write
   write_moves fd addr n done = opened_moves fd _ (λ opened is.
       either (Some opened.is.target) (may_write opened.is.access) _ _ (of_some_bytes (Some opened.is.target) addr n _ (go opened is opened.is.target))
-      (nothing (Some opened.is.target)))
+      (nothing (Some opened.is.target) _ refl refl))
     where
       there : (opened : Opened) → opened_at plain.files pid fd ≡ Some opened → (number at : ℕ) (r : Result (ℕ × Tree) Errno)
           → Moved (Some (OnNode number)) (wrote script plain pid opened at r)
@@ -198,7 +200,7 @@ module _ (script : Script) (plain : Plain) (pid who : ℕ) (apart : who ≢ pid)
           (redescribes (with_tree plain.files written.1) opened.place opened.is (at_offset opened.is (at + written.0))
           (let it = naming plain.files pid fd opened is in it.there) (refl, refl, refl)))
           family
-      there opened is number at (Err errno) = nothing (Some (OnNode number))
+      there opened is number at (Err errno) = nothing (Some (OnNode number)) _ refl refl
 
       go : (opened : Opened) → opened_at plain.files pid fd ≡ Some opened → (target : Target) → Moved (Some target) (write_target script plain pid opened addr (count_of n) done target)
       go opened is (OnNode number) =
@@ -211,14 +213,14 @@ module _ (script : Script) (plain : Plain) (pid who : ℕ) (apart : who ≢ pid)
           either (Some (OnSocket place)) (is_connected (stage_at plain.files.sockets place)) _ _
           (queue_moves (Some (OnSocket place)) opened.is.nonblock (count_of n) done (put_in_socket plain.files place (bytes_left plain pid addr (count_of n) done))
           (sock_write plain.files.sockets place opened.is.nonblock (count_of n - done)) (λ k. some_sockets place _ _ refl family))
-          (nothing (Some (OnSocket place)))
+          (nothing (Some (OnSocket place)) _ refl refl)
 
   -- ---- both
 
   -- a call whose operands are wrong moves nothing
   right_or_wrong : (target : Option Target) (fault : Option Errno) (given : Answer) → Moved target given → Moved target (unless_wrong script plain pid fault given)
   right_or_wrong target None given moved = moved
-  right_or_wrong target (Some errno) given moved = nothing target
+  right_or_wrong target (Some errno) given moved = nothing target _ refl refl
 
   number_of : {fd other : ℤ} → Some fd ≡ Some other → fd ≡ other
   number_of e = cc
