@@ -13,3 +13,4 @@ pub mod HeapBounds
 pub mod AllEvents
 pub mod Runnables
 pub mod Picked
+pub mod Sorting
