@@ -4,8 +4,7 @@ use Rattle.std.specs.List.{AllByRecursion}
 use Rattle.kabi_types.specs.declared.short_lists.PollEntry.{PollEntry}
 use Rattle.kheap_slabs.specs.declared.objects.Target.{Target as Held}
 use Rattle.kheap_slabs.specs.declared.objects.Target.TheVariants as held
-use Rattle.open_laws.specs.Placed.{Numbers}
-use Rattle.posix_defs.specs.Files.Descriptions.{Target, OnNode, OnPipe, OnSocket}
+use Rattle.posix_defs.specs.Files.Descriptions.{Target}
 use Rattle.posix_defs.specs.Files.State.{Files}
 use Rattle.waking_laws.specs.Waking.{meet, target_at}
 
@@ -14,12 +13,6 @@ abbrev pub meet_in : Held → Held → Bool
 meet_in (held.Pipe key) (held.Pipe other) = key == other
 meet_in (held.Sock key) (held.Sock other) = true
 meet_in one other = false
-
--- what a target of the heap is in the machine, where keys have these numbers
-abbrev pub target_in : Numbers → Held → Target
-target_in numbers (held.Inode number) = OnNode number
-target_in numbers (held.Pipe key) = OnPipe (numbers.pipes key)
-target_in numbers (held.Sock key) = OnSocket (numbers.socks key)
 
 -- none of these entries is of a number that is open on what to move bytes of this may change
 abbrev pub MeetsNone : Files → ℕ → Option Target → List PollEntry → Type 0

@@ -1,6 +1,7 @@
 //! What a process's call waits for, beside what a number of another is open on.
 
 ghost use Rattle.std.specs.Prelude.{◌≡◌, IsSome, None, Some, [], true, false};
+ghost use Rattle.open_laws.specs.Described.{target_in};
 ghost use Rattle.open_laws.specs.Owned.{HasItsOwners};
 ghost use Rattle.open_laws.specs.Placed.{Numbers};
 ghost use Rattle.posix_defs.specs.Files.State.{Files};
@@ -10,7 +11,7 @@ ghost use Rattle.proc_numbers.specs.Having.{AreListed, HaveOpen};
 ghost use Rattle.proc_table.specs.Table.{key_of};
 ghost use Rattle.store_objects.specs.Standing.{StandsFor};
 ghost use Rattle.waking_laws.specs.Waking.{is_apart, meet, target_at};
-ghost use Rattle.call_run.specs.Touching.{MeetsNone, meet_in, target_in};
+ghost use Rattle.call_run.specs.Touching.{MeetsNone, meet_in};
 
 use crate::turns::waits_for;
 use kabi_types::{PollEntry, Script};
