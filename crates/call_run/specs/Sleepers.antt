@@ -38,6 +38,12 @@ stirs_of which (turned.Done said) = if is_failure said then Nobody else stirs_do
 stirs_of which (turned.Part moved) = stirs_done which
 stirs_of which (turned.Ended status) = Everybody
 
+-- the turn left its call asleep
+abbrev pub is_sleep : Turned → Bool
+is_sleep turned.Sleep = true
+is_sleep (turned.Part moved) = true
+is_sleep _ = false
+
 -- ---- what is told
 
 -- what is told of a process, if anything is

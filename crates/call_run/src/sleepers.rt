@@ -14,7 +14,7 @@ ghost use Rattle.posix_defs.specs.Turn.{TurnsTo};
 ghost use Rattle.posix_defs.specs.World.{World};
 ghost use Rattle.store_objects.specs.Standing.{StandsFor};
 ghost use Rattle.waking_laws.specs.Waking.{gives_number, is_apart, wakes_nobody};
-ghost use Rattle.call_run.specs.Sleepers.{AreAsked, AreDoubted, AreMinded, AreRising, AreTrulyTold, AreWithout, IsBehind, IsOf, StandsAsleep, IsToldApart, is_settled, place_in, stands_in, stirs_done, stirs_of, told_of, without};
+ghost use Rattle.call_run.specs.Sleepers.{is_sleep, AreAsked, AreDoubted, AreMinded, AreRising, AreTrulyTold, AreWithout, IsBehind, IsOf, StandsAsleep, IsToldApart, is_settled, place_in, stands_in, stirs_done, stirs_of, told_of, without};
 ghost use Rattle.call_run.specs.Stores.{IsStoreOf};
 
 use crate::calls::would_block;
@@ -161,6 +161,13 @@ fn stirs_of(call: &Call, turned: &Turned) -> Stirs
     }
 }
 
+/// Whether a turn that came to this leaves its call asleep.
+fn leaves_asleep(turned: &Turned) -> bool
+    ensures { result ≡ is_sleep turned.now }
+{
+    matches!(turned, Turned::Sleep | Turned::Part(_))
+}
+
 /// Whether a live process's next call wouldn't block now. It stands by itself, since it is large and asked at several places.
 #[inline(never)]
 pub fn goes_on(script: &Script, objects: &Objects, pid: u32) -> bool
@@ -224,6 +231,7 @@ fn ask(script: &Script, objects: &Objects, sleeper: &mut Sleeper, stirred: &mut 
 }
 
 /// Asks again all sleepers, and forgets those who have ended.
+#[inline(never)]
 fn ask_each(
     script: &Script,
     objects: &Objects,
@@ -359,6 +367,7 @@ impl Sleepers {
 
     /// A process whose turn left its call asleep stands among those who sleep, and would block or not. Where 64 are there, which never is, it
     /// isn't kept in mind.
+    #[inline(never)]
     fn lie_down(&mut self, pid: u32, blocks: bool)
         requires apart { told_of self.old.told pid ≡ None }
         requires room { length self.old.stirred ≤ 65 }
@@ -427,6 +436,7 @@ impl Sleepers {
     }
 
     /// What a number is open on was touched: those who wait for it are asked.
+    #[inline(never)]
     fn touch(&mut self, script: &Script, objects: &Objects, pid: u32, fd: i64) {
         if self.told.len() <= FEW {
             ask_each(script, objects, &mut self.told, &mut self.stirred);
@@ -481,14 +491,33 @@ impl Sleepers {
         ensures named { HasNamed (is_settled self.old.told) (is_settled self.new.told) self.new.stirred }
     {
         self.stirred.clear();
+        if !self.told.is_empty() || leaves_asleep(turned) {
+            self.look_after(script, objects, pid, call, turned);
+        }
+    }
+
+    /// The same, where somebody sleeps. It stands by itself, since a function pays for the room of all its locals whenever it is entered.
+    #[inline(never)]
+    fn look_after(
+        &mut self,
+        script: &Script,
+        objects: &Objects,
+        pid: u32,
+        call: &Call,
+        turned: &Turned,
+    )
+        requires behind { (old new : World) × IsBehind script.now objects.now old new pid call.now turned.now self.old.told self.old.channels }
+        requires begins { length self.old.stirred ≡ 0 }
+        ensures minded { (old new : World) → IsBehind script.now objects.now old new pid call.now turned.now self.old.told self.old.channels
+            → AreMinded script.now new.plain self.new.told self.new.channels }
+        ensures named { HasNamed (is_settled self.old.told) (is_settled self.new.told) self.new.stirred }
+    {
         if matches!(turned, Turned::Sleep) {
             self.sleep_on(pid);
             return;
         }
-        if !self.told.is_empty() {
-            self.get_up(pid);
-            self.stir(script, objects, pid, call, turned);
-        }
+        self.get_up(pid);
+        self.stir(script, objects, pid, call, turned);
         if matches!(turned, Turned::Part(_)) {
             self.lie_down(pid, !goes_on(script, objects, pid));
         }

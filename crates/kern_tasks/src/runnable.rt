@@ -52,6 +52,7 @@ fn put_place(places: &mut Vec<u32>, place: u32, there: bool)
 }
 
 /// Looks anew whether the task of a pid is runnable, if there is one.
+#[inline(never)]
 fn place_anew<T: Turner>(store: &T, tasks: &[Task], runnable: &mut Vec<u32>, pid: u32)
     requires rising { AreRising 0 tasks.now }
     requires few { length tasks.now ≤ 100001 }
@@ -111,6 +112,7 @@ fn fill_runnable<T: Turner>(store: &T, tasks: &[Task], runnable: &mut Vec<u32>)
 }
 
 /// Looks anew at all tasks: which are runnable, and how many calls sleep.
+#[inline(never)]
 pub fn sort_anew<T: Turner>(
     store: &T,
     tasks: &[Task],
