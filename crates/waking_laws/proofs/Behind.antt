@@ -1,30 +1,40 @@
 -- What is left of a process behind another's turn: itself by any, and all that it waits for by one that moves bytes of something else.
-use Rattle.std.proofs.Common.{◌≡◌, ◌≢◌, ℕ, ◌≤◌, ◌||◌, ℤ, not, Bool, true, false, List, [], ◌∷◌, length, Option, None, Some, is_some, refl, ap, sym, ◌∙◌, subst}
+use Rattle.std.proofs.Common.{◌≡◌, ◌≢◌, ℕ, ◌≤◌, ◌||◌, ℤ, pos, negsuc, not, Bool, true, false, List, [], ◌∷◌, length, Option, None, Some, is_some, refl, ap, sym, ◌∙◌, subst, arith}
 use Rattle.std.specs.List.{list_any}
 use Rattle.std.specs.Option.{option_map}
 use Rattle.kabi_types.specs.declared.calls.Call.{Call}
+use Rattle.kabi_types.specs.declared.errnos.Errno.{Errno}
+use Rattle.kabi_types.specs.declared.replies.Reply.TheVariants as reply
 use Rattle.kabi_types.specs.declared.scripts.Script.{Script}
+use Rattle.kern_laws.proofs.Bareness.{none_open_at}
+use Rattle.kern_laws.proofs.Errors.{fails_alone}
+use Rattle.kern_laws.proofs.Families.{alive_there}
+use Rattle.kern_laws.proofs.TablePlaces.{was_made}
 use Rattle.machine_laws.proofs.Alone.{answers_leave_alone}
 use Rattle.machine_laws.proofs.Reaches.{reached_keeps}
 use Rattle.machine_laws.specs.Described.{AreDescribed}
 use Rattle.machine_laws.specs.FileSteps.{LeadsTo}
 use Rattle.machine_laws.specs.Own.{IsLeftAlone, KeepsOwn}
+use Rattle.machine_laws.specs.Placed.{IsPlaced}
 use Rattle.machine_laws.specs.Reached.{IsReached}
 use Rattle.posix_defs.specs.Answer.{Answer, Blocked, Done, Ended, Part}
 use Rattle.posix_defs.specs.Calls.Opened.{Opened, opened_at, opened_by}
 use Rattle.posix_defs.specs.Control as program
 use Rattle.posix_defs.specs.Files.Descriptions.{Description, Target, OnNode, OnPipe, OnSocket, description_at}
-use Rattle.posix_defs.specs.Files.Descriptors.{Descriptor, descriptor_of}
+use Rattle.posix_defs.specs.Files.Descriptors.{Descriptor, descriptor_of, none_open}
 use Rattle.posix_defs.specs.Files.State.{Files, descriptors_of}
 use Rattle.posix_defs.specs.Machine.{machine}
-use Rattle.posix_defs.specs.Plain.{Plain, call_of}
+use Rattle.posix_defs.specs.Plain.{Plain, call_of, last_pid}
 use Rattle.posix_defs.specs.Process.{is_alive, is_alive_in}
 use Rattle.posix_defs.specs.Turn.{Tells, TurnsTo, TurnsWhere}
 use Rattle.posix_defs.specs.World.{World}
 use Rattle.posix_defs.specs.declared.turner.Turned.{Turned}
-use Rattle.waking_laws.specs.Waking.{StaysAsItWas, StaysItself, awaited, is_apart, meet, moves_through, target_at}
+use Rattle.posix_defs.specs.declared.turner.Turned.TheVariants as turned
+use Rattle.waking_laws.specs.Waking.{StaysAsItWas, StaysItself, awaited, gives_number, is_apart, meet, moves_through, passes_by, target_at, wakes_nobody}
 use Rattle.waking_laws.proofs.Moving.{IsMoved, moves_answer}
+use Rattle.waking_laws.proofs.OwnNumbers.{leaves_numbers}
 use Rattle.waking_laws.proofs.Passing.{nothing_changed}
+use Rattle.waking_laws.proofs.QuietCalls.{IsQuiet, quiet_answer}
 use Rattle.waking_laws.proofs.Seeing.{SeesQueue, SeesQueues, blocks_alike}
 use Rattle.waking_laws.proofs.Staying.{is_there, itself, same_targets, sees}
 
@@ -172,3 +182,91 @@ own_kept script old new pid fd number which told reached turns moves = go (is_al
         own_by old.plain pid (target_at old.plain.files pid number) (machine script old.plain pid which) told new.plain (reached_keeps reached).1 answers.answer
         (moves_answer script old.plain pid 0 (none_is_zero script old.plain pid is) which number moves) fd
     go false is over = ap (λ (world : World). target_at world.plain.files pid fd) over.1
+
+module _ (script : Script) (old : Plain) (pid : ℕ) (reached : IsReached script old) (lives : is_alive old.table pid ≡ true) where
+  unchanged : (new : Plain) → new.files ≡ old.files → (fd : ℤ) → target_at new.files pid fd ≡ target_at old.files pid fd
+  unchanged new same fd = ap (λ files. target_at files pid fd) same
+
+  slept : (given : Answer) (new : Plain) → Tells given old turned.Sleep new → new ≡ old
+  slept Blocked new tells = tells.1
+  slept (Done said next) new tells = cc
+  slept (Part moved next) new tells = cc
+  slept (Ended status next) new tells = cc
+
+  gone : (given : Answer) (new : Plain) → Tells given old turned.Gone new → new ≡ old
+  gone Blocked new tells = tells.1
+  gone (Done said next) new tells = cc
+  gone (Part moved next) new tells = cc
+  gone (Ended status next) new tells = cc
+
+  failed : (which : Call) (given : Answer) (errno : Errno) (new : Plain) → machine script old pid which ≡ given → Tells given old (turned.Done (reply.Fail errno)) new → new.files ≡ old.files
+  failed which Blocked errno new is tells = ap (λ (plain : Plain). plain.files) tells.1
+  failed which (Done (reply.Fail other) next) errno new is tells = ap (λ (plain : Plain). plain.files) (tells.1 ∙ fails_alone script old pid which other next is)
+  failed which (Done said next) errno new is tells = cc
+  failed which (Part moved next) errno new is tells = cc
+  failed which (Ended status next) errno new is tells = cc
+
+  made : pid ≤ length old.files.descriptors
+  made =
+      let there = alive_there old.table pid lives in
+      let placed : IsPlaced old = (reached_keeps reached).0 in
+      let h : pid ≤ length old.table = (let it = was_made old.table pid there.0 there.1 in it.1) in
+      let c : length old.table ≡ last_pid old = placed.counted in
+      let d : length old.files.descriptors ≡ last_pid old = (let places = placed.places in places.counted) in omega arith
+
+  left_by : (given : Answer) (told : Turned) (new : Plain) → Tells given old told new → LeadsTo (λ next. descriptors_of next.files pid ≡ descriptors_of old.files pid) given
+      → LeadsTo (IsQuiet 0 old) given → (fd : ℤ) → target_at new.files pid fd ≡ target_at old.files pid fd
+  left_by Blocked told new tells numbers quiet fd = unchanged new (ap (λ (plain : Plain). plain.files) tells.1) fd
+  left_by (Done said next) told new tells numbers quiet fd = left next new tells.1 numbers quiet fd
+    where
+      left : (next new : Plain) → new ≡ next → descriptors_of next.files pid ≡ descriptors_of old.files pid → IsQuiet 0 old next → (fd : ℤ) → target_at new.files pid fd ≡ target_at old.files pid fd
+      left next new same numbers quiet fd =
+          ap (λ (plain : Plain). target_at plain.files pid fd) same
+          ∙ same_targets pid old.files next.files numbers (let files = quiet.files in files.described) (reached_keeps reached).1 fd
+  left_by (Part moved next) told new tells numbers quiet fd =
+      ap (λ (plain : Plain). target_at plain.files pid fd) tells.1
+      ∙ same_targets pid old.files next.files numbers (let files = quiet.files in files.described) (reached_keeps reached).1 fd
+  left_by (Ended status next) told new tells numbers quiet fd =
+      ap (λ (plain : Plain). target_at plain.files pid fd) tells.1
+      ∙ same_targets pid old.files next.files numbers (let files = quiet.files in files.described) (reached_keeps reached).1 fd
+
+  quietly : (which : Call) (told : Turned) (new : Plain) → wakes_nobody which ≡ true → gives_number which ≡ false → Tells (machine script old pid which) old told new
+      → (fd : ℤ) → target_at new.files pid fd ≡ target_at old.files pid fd
+  quietly which told new e f tells fd =
+      left_by (machine script old pid which) told new tells (leaves_numbers script old pid made which e f)
+      (quiet_answer script old pid 0 (none_is_zero script old pid lives) (omega arith) which e) fd
+
+  passed_so : (which : Call) (told : Turned) (new : Plain) → passes_by which told ≡ true → gives_number which ≡ false → Tells (machine script old pid which) old told new
+      → (fd : ℤ) → target_at new.files pid fd ≡ target_at old.files pid fd
+  passed_so which turned.Sleep new e f tells fd = unchanged new (ap (λ (plain : Plain). plain.files) (slept _ new tells)) fd
+  passed_so which turned.Gone new e f tells fd = unchanged new (ap (λ (plain : Plain). plain.files) (gone _ new tells)) fd
+  passed_so which (turned.Done (reply.Fail errno)) new e f tells fd = unchanged new (failed which _ errno new refl tells) fd
+  passed_so which (turned.Done (reply.Val value)) new e f tells fd = quietly which _ new e f tells fd
+  passed_so which (turned.Done said) new e f tells fd = quietly which (turned.Done said) new e f tells fd
+  passed_so which (turned.Part moved) new e f tells fd = cc
+  passed_so which (turned.Ended status) new e f tells fd = cc
+
+pub own_passed : (script : Script) (old new : World) (pid : ℕ) (fd : ℤ) (which : Call) (told : Turned) → IsReached script old.plain
+    → TurnsTo script old pid which told new → passes_by which told ≡ true → gives_number which ≡ false
+    → target_at new.plain.files pid fd ≡ target_at old.plain.files pid fd
+own_passed script old new pid fd which told reached turns passes none = go (is_alive old.plain.table pid) refl turns
+  where
+    go : (lives : Bool) → is_alive old.plain.table pid ≡ lives → TurnsWhere lives script old pid which told new → target_at new.plain.files pid fd ≡ target_at old.plain.files pid fd
+    go true is answers = passed_so script old.plain pid reached is which told new.plain passes none answers.answer fd
+    go false is over = ap (λ (world : World). target_at world.plain.files pid fd) over.1
+
+-- ---- who has ended
+
+-- has nothing open
+pub ended_has_none : (script : Script) (plain : Plain) (pid : ℕ) (fd : ℤ) → IsReached script plain → is_alive plain.table pid ≡ false → target_at plain.files pid fd ≡ None
+ended_has_none script plain pid fd reached dead = ap (λ list. target (opened_by plain.files (descriptor_of list fd))) none ∙ go fd
+  where
+    target : Option Opened → Option Target
+    target opened = option_map (λ (it : Opened). it.is.target) opened
+
+    none : descriptors_of plain.files pid ≡ none_open
+    none = let placed : IsPlaced plain = (reached_keeps reached).0 in let places = placed.places in places.ended pid dead
+
+    go : (fd : ℤ) → target (opened_by plain.files (descriptor_of none_open fd)) ≡ None
+    go (negsuc n) = refl
+    go (pos n) = ap (λ held. target (opened_by plain.files held)) (none_open_at n)

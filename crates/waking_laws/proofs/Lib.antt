@@ -5,4 +5,5 @@ pub mod QuietCalls
 pub mod Staying
 pub mod Passing
 pub mod Moving
+pub mod OwnNumbers
 pub mod Behind
