@@ -68,6 +68,7 @@ fn place_anew<T: Turner>(store: &T, tasks: &[Task], runnable: &mut Vec<u32>, pid
 }
 
 /// Looks anew at the tasks of those whom the store names.
+#[inline(always)]
 pub fn sort_stirred<T: Turner>(store: &T, tasks: &[Task], runnable: &mut Vec<u32>)
     requires rising { AreRising 0 tasks.now }
     requires few { length tasks.now ≤ 100001 }
@@ -130,6 +131,7 @@ pub fn sort_anew<T: Turner>(
 }
 
 /// Adds the place of a task that was born, behind all others: who was made hasn't made a call.
+#[inline(always)]
 pub fn add_runnable(tasks: &[Task], runnable: &mut Vec<u32>, before: u32, after: u32)
     requires few { length tasks.now ≤ 100001 }
     requires there { before < after → 0 < length tasks.now }
@@ -144,6 +146,7 @@ pub fn add_runnable(tasks: &[Task], runnable: &mut Vec<u32>, before: u32, after:
 
 /// Looks anew at tasks behind a turn that ended nobody: at that of its process, where its call sleeps now, and at those of whom the
 /// store names.
+#[inline(always)]
 pub fn sort_turned<T: Turner>(
     store: &T,
     tasks: &[Task],
