@@ -1,5 +1,5 @@
 -- Which tasks are runnable, and their places.
-use Rattle.std.specs.Prelude.{ℕ, ◌≡◌, ◌+◌, ◌≤◌, ◌==◌, ◌&&◌, nat_lt, not, if◌then◌else◌, Bool, List, [], ◌∷◌}
+use Rattle.std.specs.Prelude.{ℕ, ◌≡◌, ◌+◌, ◌-◌, ◌≤◌, ◌==◌, ◌&&◌, nat_lt, not, if◌then◌else◌, Bool, List, [], ◌∷◌, length}
 use Rattle.posix_defs.specs.declared.phases.Phase.{Phase}
 use Rattle.posix_defs.specs.declared.phases.Task.{Task}
 use Rattle.posix_defs.specs.Minding.{is_among}
@@ -52,3 +52,7 @@ but_for_each passes pids anew task = if is_among pids task.pid then anew task el
 -- the test behind a turn of a process that is in this phase now: made anew for it where its call sleeps, and for these
 abbrev pub turned_test : (Task → Bool) → ℕ → Phase → List ℕ → (Task → Bool) → Task → Bool
 turned_test passes pid phase pids anew = but_for_each (if is_asleep phase then but_for passes pid anew else passes) pids anew
+
+-- the place of the last task, where it was born
+abbrev pub born_place : List Task → Bool → List ℕ
+born_place tasks born = if born then (length tasks - 1) ∷ [] else []

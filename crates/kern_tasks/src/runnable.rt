@@ -1,12 +1,12 @@
 //! Which tasks are runnable: all but those whose calls sleep and of which the store keeps in mind that they would block. They are
 //! kept by their places, so that an event looks at no task beside.
 
-ghost use Rattle.std.specs.Prelude.{◌≡◌, ◌+◌, ◌-◌, ◌≤◌, ◌<◌, ◌++◌, ◌∷◌, [], if◌then◌else◌, nat_lt, Bool, true, length, vec_len, vec_capacity};
+ghost use Rattle.std.specs.Prelude.{◌≡◌, ◌+◌, ◌≤◌, ◌<◌, ◌++◌, if◌then◌else◌, Bool, false, true, length, vec_len, vec_capacity};
 ghost use Rattle.std.specs.List.{count_by};
 ghost use Rattle.posix_defs.specs.declared.phases.Task.{Task as TaskOf};
 ghost use Rattle.posix_defs.specs.SoundTasks.{AreRising};
 ghost use Rattle.kern_tasks.specs.Room.{is_asleep};
-ghost use Rattle.kern_tasks.specs.Runnable.{ArePlaces, AreRisingFrom, below, but_for, but_for_each, is_runnable, places_from, runnable_in, turned_test, with_place};
+ghost use Rattle.kern_tasks.specs.Runnable.{ArePlaces, AreRisingFrom, below, born_place, but_for, but_for_each, is_runnable, places_from, runnable_in, turned_test, with_place};
 
 use crate::phases::is_asleep;
 use crate::tasks::place_of;
@@ -68,7 +68,6 @@ fn place_anew<T: Turner>(store: &T, tasks: &[Task], runnable: &mut Vec<u32>, pid
 }
 
 /// Looks anew at the tasks of those whom the store names.
-#[inline(always)]
 pub fn sort_stirred<T: Turner>(store: &T, tasks: &[Task], runnable: &mut Vec<u32>)
     requires rising { AreRising 0 tasks.now }
     requires few { length tasks.now ≤ 100001 }
@@ -131,43 +130,87 @@ pub fn sort_anew<T: Turner>(
 }
 
 /// Adds the place of a task that was born, behind all others: who was made hasn't made a call.
-#[inline(always)]
-pub fn add_runnable(tasks: &[Task], runnable: &mut Vec<u32>, before: u32, after: u32)
+fn add_runnable(tasks: &[Task], runnable: &mut Vec<u32>, born: bool)
     requires few { length tasks.now ≤ 100001 }
-    requires there { before < after → 0 < length tasks.now }
+    requires there { born ≡ true → 0 < length tasks.now }
     requires room { vec_len runnable.old < vec_capacity runnable.old }
-    ensures items { runnable.new.items ≡ runnable.old.items ++ (if nat_lt before after then (length tasks.now - 1) ∷ [] else []) }
+    ensures items { runnable.new.items ≡ runnable.old.items ++ born_place tasks.now born }
     ensures room { vec_capacity runnable.old ≤ vec_capacity runnable.new }
 {
-    if before < after {
+    if born {
         runnable.push_reserved(tasks.len() as u32 - 1);
     }
 }
 
-/// Looks anew at tasks behind a turn that ended nobody: at that of its process, where its call sleeps now, and at those of whom the
-/// store names.
+/// Looks anew at tasks behind a turn: at all where it may have ended somebody, else at that of its process, where its call sleeps now, at
+/// those of whom the store names, and at the last, where it was born.
+#[inline(never)]
+fn sort_some<T: Turner>(
+    store: &T,
+    tasks: &[Task],
+    runnable: &mut Vec<u32>,
+    asleep: &mut u32,
+    behind: Behind,
+)
+    requires rising { AreRising 0 tasks.now }
+    requires few { length tasks.now ≤ 100001 }
+    requires born { behind.born ≡ true → 0 < length tasks.now }
+    requires places { behind.ends ≡ false → ArePlaces tasks.now (runnable.old.items ++ born_place tasks.now behind.born) }
+    requires room { length tasks.now < vec_capacity runnable.old }
+    requires asleep { asleep.old < 4294967295 }
+    ensures anew { behind.ends ≡ true → (runnable.new.items ≡ runnable_in (T.settled store.now) tasks.now) × (asleep.new ≡ count_by (λ task. is_asleep task.phase) tasks.now) }
+    ensures items { behind.ends ≡ false → (passes : TaskOf → Bool) → runnable.old.items ++ born_place tasks.now behind.born ≡ places_from passes 0 tasks.now
+        → runnable.new.items ≡ places_from (turned_test passes behind.pid behind.phase (T.stirred store.now) (is_runnable (T.settled store.now))) 0 tasks.now }
+    ensures asleep { behind.ends ≡ false → asleep.new ≡ asleep.old + (if is_asleep behind.phase then 1 else 0) }
+    ensures room { vec_capacity runnable.old ≤ vec_capacity runnable.new }
+{
+    if behind.ends {
+        sort_anew(store, tasks, runnable, asleep);
+        return;
+    }
+    add_runnable(tasks, runnable, behind.born);
+    if is_asleep(behind.phase) {
+        *asleep += 1;
+        place_anew(store, tasks, runnable, behind.pid);
+    }
+    sort_stirred(store, tasks, runnable);
+}
+
+/// What a turn left: in which phase its process is, whether it may have ended somebody, and whether somebody was born.
+#[derive(Clone, Copy)]
+pub struct Behind {
+    /// Whose turn it was.
+    pub pid: u32,
+    /// How far he is now.
+    pub phase: Phase,
+    /// It may have ended somebody.
+    pub ends: bool,
+    /// The last task was born.
+    pub born: bool,
+}
+
+/// The same. Mostly there is nothing to look at.
 #[inline(always)]
 pub fn sort_turned<T: Turner>(
     store: &T,
     tasks: &[Task],
     runnable: &mut Vec<u32>,
     asleep: &mut u32,
-    pid: u32,
-    phase: Phase,
+    behind: Behind,
 )
     requires rising { AreRising 0 tasks.now }
     requires few { length tasks.now ≤ 100001 }
-    requires places { ArePlaces tasks.now runnable.old.items }
+    requires born { behind.born ≡ true → 0 < length tasks.now }
+    requires places { behind.ends ≡ false → ArePlaces tasks.now (runnable.old.items ++ born_place tasks.now behind.born) }
     requires room { length tasks.now < vec_capacity runnable.old }
-    requires asleep { asleep.old < length tasks.now }
-    ensures items { (passes : TaskOf → Bool) → runnable.old.items ≡ places_from passes 0 tasks.now
-        → runnable.new.items ≡ places_from (turned_test passes pid phase (T.stirred store.now) (is_runnable (T.settled store.now))) 0 tasks.now }
+    requires asleep { asleep.old < 4294967295 }
+    ensures anew { behind.ends ≡ true → (runnable.new.items ≡ runnable_in (T.settled store.now) tasks.now) × (asleep.new ≡ count_by (λ task. is_asleep task.phase) tasks.now) }
+    ensures items { behind.ends ≡ false → (passes : TaskOf → Bool) → runnable.old.items ++ born_place tasks.now behind.born ≡ places_from passes 0 tasks.now
+        → runnable.new.items ≡ places_from (turned_test passes behind.pid behind.phase (T.stirred store.now) (is_runnable (T.settled store.now))) 0 tasks.now }
+    ensures asleep { behind.ends ≡ false → asleep.new ≡ asleep.old + (if is_asleep behind.phase then 1 else 0) }
     ensures room { vec_capacity runnable.old ≤ vec_capacity runnable.new }
-    ensures asleep { asleep.new ≡ asleep.old + (if is_asleep phase then 1 else 0) }
 {
-    if is_asleep(phase) {
-        *asleep += 1;
-        place_anew(store, tasks, runnable, pid);
+    if behind.ends || behind.born || is_asleep(behind.phase) || !store.stirred().is_empty() {
+        sort_some(store, tasks, runnable, asleep, behind);
     }
-    sort_stirred(store, tasks, runnable);
 }

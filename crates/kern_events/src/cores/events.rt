@@ -15,7 +15,7 @@ use super::{Core, FIXED, RESERVE};
 use crate::evictables::evictables_of;
 use kabi_types::{Cached, Entry, Event, Noted};
 use kern_tasks::{
-    add_born, add_runnable, bury, bury_ended, entry_of, first_waiting, last_noted, may_end, note, phase_of,
+    Behind, add_born, bury, bury_ended, entry_of, first_waiting, last_noted, may_end, note, phase_of,
     remove, set_phase, sort_anew, sort_stirred, sort_turned,
 };
 use need_table::need;
@@ -137,14 +137,14 @@ impl<T: Turner + Drop> Core<T> {
         bury_ended(&self.store, &mut self.tasks, ends);
         let last = self.store.last_pid();
         add_born(&mut self.tasks, before, last);
+        let behind = Behind {
+            pid,
+            phase,
+            ends,
+            born: before < last,
+        };
         let (runnable, asleep) = (&mut self.runnable, &mut self.asleep);
-        let tasks = self.tasks.as_slice();
-        if ends {
-            sort_anew(&self.store, tasks, runnable, asleep);
-        } else {
-            add_runnable(tasks, runnable, before, last);
-            sort_turned(&self.store, tasks, runnable, asleep, pid, phase);
-        }
+        sort_turned(&self.store, self.tasks.as_slice(), runnable, asleep, behind);
         self.reserved -= asked.bound;
         self.charged = self.store.live() + RESERVE + self.reserved;
         let entry = entry_of(pid, asked.kind, turned);
