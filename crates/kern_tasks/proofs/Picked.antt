@@ -108,3 +108,23 @@ places_with passes first (task ∷ tasks) pid phase same = go (task.pid == pid) 
     go false is =
         ap (put (passes task))
         (places_with passes (first + 1) tasks pid phase (λ other e. same other (e ∙ sym (ap (λ b. if b then task.phase else phase_in tasks pid) is))))
+
+-- ---- by counts
+
+-- no more pass than there are; and where all do it is as many
+pub no_more : (test : Task → Bool) (tasks : List Task) → count_by test tasks ≤ length tasks
+no_more test [] = omega arith
+no_more test (task ∷ tasks) = go (test task) (no_more test tasks)
+  where
+    go : (b : Bool) → count_by test tasks ≤ length tasks → cond b (suc (count_by test tasks)) (count_by test tasks) ≤ length (task ∷ tasks)
+    go true fewer = omega arith
+    go false fewer = omega arith
+
+pub as_many_as_all : (test : Task → Bool) (tasks : List Task) → list_all test tasks ≡ true → count_by test tasks ≡ length tasks
+as_many_as_all test [] e = refl
+as_many_as_all test (task ∷ tasks) e = go (test task) e (as_many_as_all test tasks)
+  where
+    go : (b : Bool) → (b && list_all test tasks) ≡ true → (list_all test tasks ≡ true → count_by test tasks ≡ length tasks)
+        → cond b (suc (count_by test tasks)) (count_by test tasks) ≡ length (task ∷ tasks)
+    go true f rest = ap suc (rest f)
+    go false f rest = cc
