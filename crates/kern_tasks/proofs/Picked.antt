@@ -116,7 +116,7 @@ pub no_more : (test : Task → Bool) (tasks : List Task) → count_by test tasks
 no_more test [] = omega arith
 no_more test (task ∷ tasks) = go (test task) (no_more test tasks)
   where
-    go : (b : Bool) → count_by test tasks ≤ length tasks → cond b (suc (count_by test tasks)) (count_by test tasks) ≤ length (task ∷ tasks)
+    go : (b : Bool) → count_by test tasks ≤ length tasks → cond b 1 0 + count_by test tasks ≤ length (task ∷ tasks)
     go true fewer = omega arith
     go false fewer = omega arith
 
@@ -125,6 +125,6 @@ as_many_as_all test [] e = refl
 as_many_as_all test (task ∷ tasks) e = go (test task) e (as_many_as_all test tasks)
   where
     go : (b : Bool) → (b && list_all test tasks) ≡ true → (list_all test tasks ≡ true → count_by test tasks ≡ length tasks)
-        → cond b (suc (count_by test tasks)) (count_by test tasks) ≡ length (task ∷ tasks)
-    go true f rest = ap suc (rest f)
+        → cond b 1 0 + count_by test tasks ≡ length (task ∷ tasks)
+    go true f rest = let same : count_by test tasks ≡ length tasks = rest f in omega arith
     go false f rest = cc
