@@ -490,8 +490,7 @@ impl Sleepers {
             → AreMinded script.now new.plain self.new.told self.new.channels }
         ensures named { HasNamed (is_settled self.old.told) (is_settled self.new.told) self.new.stirred }
     {
-        self.stirred.clear();
-        if !self.told.is_empty() || leaves_asleep(turned) {
+        if !self.told.is_empty() || leaves_asleep(turned) || !self.stirred.is_empty() {
             self.look_after(script, objects, pid, call, turned);
         }
     }
@@ -507,11 +506,11 @@ impl Sleepers {
         turned: &Turned,
     )
         requires behind { (old new : World) × IsBehind script.now objects.now old new pid call.now turned.now self.old.told self.old.channels }
-        requires begins { length self.old.stirred ≡ 0 }
         ensures minded { (old new : World) → IsBehind script.now objects.now old new pid call.now turned.now self.old.told self.old.channels
             → AreMinded script.now new.plain self.new.told self.new.channels }
         ensures named { HasNamed (is_settled self.old.told) (is_settled self.new.told) self.new.stirred }
     {
+        self.stirred.clear();
         if matches!(turned, Turned::Sleep) {
             self.sleep_on(pid);
             return;

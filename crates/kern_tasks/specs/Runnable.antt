@@ -1,6 +1,5 @@
 -- Which tasks are runnable, and their places.
 use Rattle.std.specs.Prelude.{ℕ, ◌≡◌, ◌+◌, ◌-◌, ◌≤◌, ◌==◌, ◌&&◌, nat_lt, not, if◌then◌else◌, Bool, List, [], ◌∷◌, length}
-use Rattle.posix_defs.specs.declared.phases.Phase.{Phase}
 use Rattle.posix_defs.specs.declared.phases.Task.{Task}
 use Rattle.posix_defs.specs.Minding.{is_among}
 use Rattle.kern_tasks.specs.Room.{is_asleep}
@@ -49,9 +48,9 @@ but_for passes pid anew task = if task.pid == pid then anew task else passes tas
 abbrev pub but_for_each : (Task → Bool) → List ℕ → (Task → Bool) → Task → Bool
 but_for_each passes pids anew task = if is_among pids task.pid then anew task else passes task
 
--- the test behind a turn of a process that is in this phase now: made anew for it where its call sleeps, and for these
-abbrev pub turned_test : (Task → Bool) → ℕ → Phase → List ℕ → (Task → Bool) → Task → Bool
-turned_test passes pid phase pids anew = but_for_each (if is_asleep phase then but_for passes pid anew else passes) pids anew
+-- the test behind a turn of a process: made anew for it where its call sleeps now, and for these
+abbrev pub turned_test : (Task → Bool) → ℕ → Bool → List ℕ → (Task → Bool) → Task → Bool
+turned_test passes pid sleeps pids anew = but_for_each (if sleeps then but_for passes pid anew else passes) pids anew
 
 -- the place of the last task, where it was born
 abbrev pub born_place : List Task → Bool → List ℕ

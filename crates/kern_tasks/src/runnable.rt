@@ -10,7 +10,7 @@ ghost use Rattle.kern_tasks.specs.Runnable.{ArePlaces, AreRisingFrom, below, bor
 
 use crate::phases::is_asleep;
 use crate::tasks::place_of;
-use posix_defs::{Phase, Task, Turner};
+use posix_defs::{Task, Turner};
 
 /// Whether a task is runnable: its call doesn't sleep, or the store doesn't keep in mind that it would block.
 fn is_runnable<T: Turner>(store: &T, task: Task) -> bool
@@ -150,43 +150,33 @@ fn sort_some<T: Turner>(
     tasks: &[Task],
     runnable: &mut Vec<u32>,
     asleep: &mut u32,
-    behind: Behind,
+    pid: u32,
+    sleeps: bool,
+    ends: bool,
+    born: bool,
 )
     requires rising { AreRising 0 tasks.now }
     requires few { length tasks.now ≤ 100001 }
-    requires born { behind.born ≡ true → 0 < length tasks.now }
-    requires places { behind.ends ≡ false → ArePlaces tasks.now (runnable.old.items ++ born_place tasks.now behind.born) }
+    requires born { born ≡ true → 0 < length tasks.now }
+    requires places { ends ≡ false → ArePlaces tasks.now (runnable.old.items ++ born_place tasks.now born) }
     requires room { length tasks.now < vec_capacity runnable.old }
     requires asleep { asleep.old < 4294967295 }
-    ensures anew { behind.ends ≡ true → (runnable.new.items ≡ runnable_in (T.settled store.now) tasks.now) × (asleep.new ≡ count_by (λ task. is_asleep task.phase) tasks.now) }
-    ensures items { behind.ends ≡ false → (passes : TaskOf → Bool) → runnable.old.items ++ born_place tasks.now behind.born ≡ places_from passes 0 tasks.now
-        → runnable.new.items ≡ places_from (turned_test passes behind.pid behind.phase (T.stirred store.now) (is_runnable (T.settled store.now))) 0 tasks.now }
-    ensures asleep { behind.ends ≡ false → asleep.new ≡ asleep.old + (if is_asleep behind.phase then 1 else 0) }
+    ensures anew { ends ≡ true → (runnable.new.items ≡ runnable_in (T.settled store.now) tasks.now) × (asleep.new ≡ count_by (λ task. is_asleep task.phase) tasks.now) }
+    ensures items { ends ≡ false → (passes : TaskOf → Bool) → runnable.old.items ++ born_place tasks.now born ≡ places_from passes 0 tasks.now
+        → runnable.new.items ≡ places_from (turned_test passes pid sleeps (T.stirred store.now) (is_runnable (T.settled store.now))) 0 tasks.now }
+    ensures asleep { ends ≡ false → asleep.new ≡ asleep.old + (if sleeps then 1 else 0) }
     ensures room { vec_capacity runnable.old ≤ vec_capacity runnable.new }
 {
-    if behind.ends {
+    if ends {
         sort_anew(store, tasks, runnable, asleep);
         return;
     }
-    add_runnable(tasks, runnable, behind.born);
-    if is_asleep(behind.phase) {
+    add_runnable(tasks, runnable, born);
+    if sleeps {
         *asleep += 1;
-        place_anew(store, tasks, runnable, behind.pid);
+        place_anew(store, tasks, runnable, pid);
     }
     sort_stirred(store, tasks, runnable);
-}
-
-/// What a turn left: in which phase its process is, whether it may have ended somebody, and whether somebody was born.
-#[derive(Clone, Copy)]
-pub struct Behind {
-    /// Whose turn it was.
-    pub pid: u32,
-    /// How far he is now.
-    pub phase: Phase,
-    /// It may have ended somebody.
-    pub ends: bool,
-    /// The last task was born.
-    pub born: bool,
 }
 
 /// The same. Mostly there is nothing to look at.
@@ -196,21 +186,24 @@ pub fn sort_turned<T: Turner>(
     tasks: &[Task],
     runnable: &mut Vec<u32>,
     asleep: &mut u32,
-    behind: Behind,
+    pid: u32,
+    sleeps: bool,
+    ends: bool,
+    born: bool,
 )
     requires rising { AreRising 0 tasks.now }
     requires few { length tasks.now ≤ 100001 }
-    requires born { behind.born ≡ true → 0 < length tasks.now }
-    requires places { behind.ends ≡ false → ArePlaces tasks.now (runnable.old.items ++ born_place tasks.now behind.born) }
+    requires born { born ≡ true → 0 < length tasks.now }
+    requires places { ends ≡ false → ArePlaces tasks.now (runnable.old.items ++ born_place tasks.now born) }
     requires room { length tasks.now < vec_capacity runnable.old }
     requires asleep { asleep.old < 4294967295 }
-    ensures anew { behind.ends ≡ true → (runnable.new.items ≡ runnable_in (T.settled store.now) tasks.now) × (asleep.new ≡ count_by (λ task. is_asleep task.phase) tasks.now) }
-    ensures items { behind.ends ≡ false → (passes : TaskOf → Bool) → runnable.old.items ++ born_place tasks.now behind.born ≡ places_from passes 0 tasks.now
-        → runnable.new.items ≡ places_from (turned_test passes behind.pid behind.phase (T.stirred store.now) (is_runnable (T.settled store.now))) 0 tasks.now }
-    ensures asleep { behind.ends ≡ false → asleep.new ≡ asleep.old + (if is_asleep behind.phase then 1 else 0) }
+    ensures anew { ends ≡ true → (runnable.new.items ≡ runnable_in (T.settled store.now) tasks.now) × (asleep.new ≡ count_by (λ task. is_asleep task.phase) tasks.now) }
+    ensures items { ends ≡ false → (passes : TaskOf → Bool) → runnable.old.items ++ born_place tasks.now born ≡ places_from passes 0 tasks.now
+        → runnable.new.items ≡ places_from (turned_test passes pid sleeps (T.stirred store.now) (is_runnable (T.settled store.now))) 0 tasks.now }
+    ensures asleep { ends ≡ false → asleep.new ≡ asleep.old + (if sleeps then 1 else 0) }
     ensures room { vec_capacity runnable.old ≤ vec_capacity runnable.new }
 {
-    if behind.ends || behind.born || is_asleep(behind.phase) || !store.stirred().is_empty() {
-        sort_some(store, tasks, runnable, asleep, behind);
+    if ends || born || sleeps || !store.stirred().is_empty() {
+        sort_some(store, tasks, runnable, asleep, pid, sleeps, ends, born);
     }
 }

@@ -1,9 +1,13 @@
 //! What each event does.
 
-ghost use Rattle.std.specs.Prelude.{◌≡◌, ℕ, ◌≤◌, ◌<◌, Some, true};
+ghost use Rattle.std.specs.Prelude.{◌≡◌, ℕ, ◌+◌, ◌%◌, ◌^◌, ◌≤◌, ◌<◌, Some, true};
 ghost use Rattle.kabi_types.specs.declared.entries.Event.TheVariants.{Ask, Admit, Turn, Wake, Abandon, Kill, Evict};
-ghost use Rattle.posix_defs.specs.Sizes.{room};
-ghost use Rattle.posix_defs.specs.World.{World};
+ghost use Rattle.posix_defs.specs.Minding.{HasNamed};
+ghost use Rattle.posix_defs.specs.Needs.{bound, slack};
+ghost use Rattle.posix_defs.specs.Plain.{call_of};
+ghost use Rattle.posix_defs.specs.Sizes.{reserve, room};
+ghost use Rattle.posix_defs.specs.Turn.{TurnsTo};
+ghost use Rattle.posix_defs.specs.World.{World, live_of};
 ghost use Rattle.posix_defs.specs.Process.{is_alive};
 ghost use Rattle.posix_defs.specs.CoreState.{asked_by};
 ghost use Rattle.posix_defs.specs.CoreEvent.{phase_after};
@@ -15,8 +19,8 @@ use super::{Core, FIXED, RESERVE};
 use crate::evictables::evictables_of;
 use kabi_types::{Cached, Entry, Event, Noted};
 use kern_tasks::{
-    Behind, add_born, bury, bury_ended, entry_of, first_waiting, last_noted, may_end, note, phase_of,
-    remove, set_phase, sort_anew, sort_stirred, sort_turned,
+    add_born, bury, bury_ended, entry_of, first_waiting, last_noted, leaves_asleep, may_end, note,
+    phase_of, remove, set_phase, sort_anew, sort_stirred, sort_turned,
 };
 use need_table::need;
 use posix_defs::{Asked, Phase, Turned, Turner};
@@ -128,8 +132,7 @@ impl<T: Turner + Drop> Core<T> {
             unreachable!()
         };
         let before = self.store.last_pid();
-        let call = self.store.next(pid);
-        let turned = self.store.turn(pid, &call, need(&call));
+        let turned = turn_next(&mut self.store, pid);
         self.evictables = evictables_of(&self.store);
         let phase = phase_after(&self.store, pid, asked, &turned);
         set_phase(&mut self.tasks, pid, phase);
@@ -137,14 +140,11 @@ impl<T: Turner + Drop> Core<T> {
         bury_ended(&self.store, &mut self.tasks, ends);
         let last = self.store.last_pid();
         add_born(&mut self.tasks, before, last);
-        let behind = Behind {
-            pid,
-            phase,
-            ends,
-            born: before < last,
-        };
-        let (runnable, asleep) = (&mut self.runnable, &mut self.asleep);
-        sort_turned(&self.store, self.tasks.as_slice(), runnable, asleep, behind);
+        let sleeps = leaves_asleep(&turned);
+        let born = before < last;
+        let (tasks, runnable) = (self.tasks.as_slice(), &mut self.runnable);
+        let asleep = &mut self.asleep;
+        sort_turned(&self.store, tasks, runnable, asleep, pid, sleeps, ends, born);
         self.reserved -= asked.bound;
         self.charged = self.store.live() + RESERVE + self.reserved;
         let entry = entry_of(pid, asked.kind, turned);
@@ -253,6 +253,24 @@ fn noted_of(event: Event, asked: Asked, entry: Option<Entry>, charged: u64) -> N
         bound: asked.bound,
         charged,
     }
+}
+
+/// A turn of a process's next call. It stands by itself, since a call has room for two paths, for which a function pays whenever it is
+/// entered.
+#[inline(never)]
+fn turn_next<T: Turner>(store: &mut T, pid: u32) -> Turned
+    requires { (world : World) × T.stands store.old world × (is_alive world.plain.table pid ≡ true)
+        × (live_of world + bound (call_of (T.script store.old) world.plain pid) + reserve ≤ (T.script store.old).heap) }
+    ensures script { T.script store.new ≡ T.script store.old }
+    ensures turned { (world : World) → T.stands store.old world → is_alive world.plain.table pid ≡ true
+        → (after : World) × T.stands store.new after × TurnsTo (T.script store.old) world pid (call_of (T.script store.old) world.plain pid) result after }
+    ensures named { HasNamed (T.settled store.old) (T.settled store.new) (T.stirred store.new) }
+    ensures marked { T.marks store.new ≡ (T.marks store.old + 1) % 2 ^ 64 }
+    ensures high { (world : World) → T.stands store.old world → is_alive world.plain.table pid ≡ true
+        → T.high store.new ≤ live_of world + bound (call_of (T.script store.old) world.plain pid) + slack (call_of (T.script store.old) world.plain pid) }
+{
+    let call = store.next(pid);
+    store.turn(pid, &call, need(&call))
 }
 
 /// The phase that a turn leaves its process in. A call that would block leaves the machine, so it is the one that was asked for;
