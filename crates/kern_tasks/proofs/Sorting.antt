@@ -83,32 +83,38 @@ own_passes settled first below (task ∷ tasks) pid phase rising awake = go (tas
 
 -- ---- behind the turn
 
--- what is told of a task that is the process's own in this phase, or is another's
-pub anew_is : (old new : ℕ → Bool) (named : List ℕ) (pid : ℕ) (phase : Phase) (task : Task) → HasNamed old new named → (task.pid ≡ pid → task.phase ≡ phase)
-    → turned_test (but_for (is_runnable old) pid (λ _. true)) pid phase named (is_runnable new) task ≡ is_runnable new task
-anew_is old new named pid phase task has own = go (is_among named task.pid) refl (is_asleep phase) refl (task.pid == pid) refl
-  where
-    go : (among : Bool) → is_among named task.pid ≡ among → (asleep : Bool) → is_asleep phase ≡ asleep → (is : Bool) → (task.pid == pid) ≡ is
-        → turned_test (but_for (is_runnable old) pid (λ _. true)) pid phase named (is_runnable new) task ≡ is_runnable new task
-    go true among asleep sleeps is same =
-        ap (λ b. if b then is_runnable new task else (if is_asleep phase then but_for (but_for (is_runnable old) pid (λ _. true)) pid (is_runnable new) else but_for (is_runnable old) pid (λ _. true)) task) among
-    go false among true sleeps true same =
-        ap (λ b. if b then is_runnable new task else (if is_asleep phase then but_for (but_for (is_runnable old) pid (λ _. true)) pid (is_runnable new) else but_for (is_runnable old) pid (λ _. true)) task) among
-        ∙ ap (λ (b : Bool). (if b then but_for (but_for (is_runnable old) pid (λ _. true)) pid (is_runnable new) else but_for (is_runnable old) pid (λ _. true)) task) sleeps
-        ∙ ap (λ b. if b then is_runnable new task else (if b then true else is_runnable old task)) same
-    go false among false sleeps true same =
-        let phased : is_asleep task.phase ≡ false = ap is_asleep (own (elim (eqb_tells task.pid pid) [ inl it ↦ it.1 | inr it ↦ absurd (both same it.0) ])) ∙ sleeps in
-        ap (λ b. if b then is_runnable new task else (if is_asleep phase then but_for (but_for (is_runnable old) pid (λ _. true)) pid (is_runnable new) else but_for (is_runnable old) pid (λ _. true)) task) among
-        ∙ ap (λ (b : Bool). (if b then but_for (but_for (is_runnable old) pid (λ _. true)) pid (is_runnable new) else but_for (is_runnable old) pid (λ _. true)) task) sleeps
-        ∙ ap (λ b. if b then true else is_runnable old task) same
-        ∙ sym (ap (λ b. not (b && new task.pid)) phased)
-    go false among true sleeps false same =
-        ap (λ b. if b then is_runnable new task else (if is_asleep phase then but_for (but_for (is_runnable old) pid (λ _. true)) pid (is_runnable new) else but_for (is_runnable old) pid (λ _. true)) task) among
-        ∙ ap (λ (b : Bool). (if b then but_for (but_for (is_runnable old) pid (λ _. true)) pid (is_runnable new) else but_for (is_runnable old) pid (λ _. true)) task) sleeps
-        ∙ ap (λ b. if b then is_runnable new task else (if b then true else is_runnable old task)) same
-        ∙ ap (λ b. not (is_asleep task.phase && b)) (sym (has task.pid among))
-    go false among false sleeps false same =
-        ap (λ b. if b then is_runnable new task else (if is_asleep phase then but_for (but_for (is_runnable old) pid (λ _. true)) pid (is_runnable new) else but_for (is_runnable old) pid (λ _. true)) task) among
-        ∙ ap (λ (b : Bool). (if b then but_for (but_for (is_runnable old) pid (λ _. true)) pid (is_runnable new) else but_for (is_runnable old) pid (λ _. true)) task) sleeps
-        ∙ ap (λ b. if b then true else is_runnable old task) same
-        ∙ ap (λ b. not (is_asleep task.phase && b)) (sym (has task.pid among))
+-- what is told of a task that is the process's own, whose call sleeps or doesn't, or is another's
+module _ (old new : ℕ → Bool) (named : List ℕ) (pid : ℕ) (has : HasNamed old new named) where
+  abbrev before : Task → Bool
+  before = but_for (is_runnable old) pid (λ _. true)
+
+  -- of whom the store names
+  of_named : (sleeps : Bool) (task : Task) → is_among named task.pid ≡ true → turned_test before pid sleeps named (is_runnable new) task ≡ is_runnable new task
+  of_named sleeps task among = ap (λ b. if b then is_runnable new task else (if sleeps then but_for before pid (is_runnable new) else before) task) among
+
+  -- of another
+  still : (task : Task) → is_among named task.pid ≡ false → is_runnable old task ≡ is_runnable new task
+  still task among = ap (λ b. not (is_asleep task.phase && b)) (sym (has task.pid among))
+
+  other : (sleeps : Bool) (task : Task) → (task.pid == pid) ≡ false → (if sleeps then but_for before pid (is_runnable new) else before) task ≡ is_runnable old task
+  other true task apart =
+      ap (λ b. if b then is_runnable new task else (if b then true else is_runnable old task)) apart
+  other false task apart = ap (λ b. if b then true else is_runnable old task) apart
+
+  -- its own
+  own : (sleeps : Bool) (task : Task) → (task.pid == pid) ≡ true → is_asleep task.phase ≡ sleeps → (if sleeps then but_for before pid (is_runnable new) else before) task ≡ is_runnable new task
+  own true task same asleep = ap (λ b. if b then is_runnable new task else before task) same
+  own false task same asleep = ap (λ b. if b then true else is_runnable old task) same ∙ sym (ap (λ b. not (b && new task.pid)) asleep)
+
+  pub anew_is : (sleeps : Bool) (task : Task) → (task.pid ≡ pid → is_asleep task.phase ≡ sleeps) → turned_test before pid sleeps named (is_runnable new) task ≡ is_runnable new task
+  anew_is sleeps task fits = go (is_among named task.pid) refl
+    where
+      here : is_among named task.pid ≡ false → turned_test before pid sleeps named (is_runnable new) task ≡ (if sleeps then but_for before pid (is_runnable new) else before) task
+      here among = ap (λ b. if b then is_runnable new task else (if sleeps then but_for before pid (is_runnable new) else before) task) among
+
+      go : (among : Bool) → is_among named task.pid ≡ among → turned_test before pid sleeps named (is_runnable new) task ≡ is_runnable new task
+      go true among = of_named sleeps task among
+      go false among = here among ∙ elim (eqb_tells task.pid pid) [
+        | inl same ↦ own sleeps task same.0 (fits same.1)
+        | inr apart ↦ other sleeps task apart.0 ∙ still task among
+      ]
