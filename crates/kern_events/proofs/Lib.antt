@@ -3,3 +3,4 @@ mod FirstOther
 mod Known
 mod Places
 mod ReliefSteps
+pub mod Settled
