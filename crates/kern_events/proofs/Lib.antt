@@ -3,4 +3,3 @@ mod FirstOther
 mod Known
 mod Places
 mod ReliefSteps
-pub mod Settled

@@ -14,3 +14,4 @@ pub mod AllEvents
 pub mod Runnables
 pub mod Picked
 pub mod Sorting
+pub mod Settled
