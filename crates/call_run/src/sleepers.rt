@@ -4,16 +4,17 @@
 ghost use Rattle.std.specs.Prelude.{◌≡◌, ◌≢◌, ◌≤◌, ◌<◌, ◌++◌, ◌∷◌, [], ◌==◌, if◌then◌else◌, ℕ, Bool, None, Some, length, map, replicate, slice_set, true, false, not};
 ghost use Rattle.std.specs.List.{AllByRecursion};
 ghost use Rattle.arrayvec.specs.ArrayVec.{array_vec_len};
+ghost use Rattle.kabi_types.specs.declared.calls.Call.{Call as CallOf};
 ghost use Rattle.kabi_types.specs.declared.scripts.Script.{Script};
 ghost use Rattle.machine_laws.specs.Reached.{IsReached};
 ghost use Rattle.posix_defs.specs.Machine.{would_block};
 ghost use Rattle.posix_defs.specs.Minding.{HasNamed, is_among};
 ghost use Rattle.posix_defs.specs.Process.{is_alive};
 ghost use Rattle.posix_defs.specs.Relief.{Kills, refused_in};
-ghost use Rattle.posix_defs.specs.Turn.{TurnsTo};
 ghost use Rattle.posix_defs.specs.World.{World};
+ghost use Rattle.posix_defs.specs.declared.turner.Turned.{Turned as TurnedOf};
 ghost use Rattle.store_objects.specs.Standing.{StandsFor};
-ghost use Rattle.waking_laws.specs.Waking.{gives_number, is_apart, wakes_nobody};
+ghost use Rattle.waking_laws.specs.Waking.{gives_number, is_apart, moves_through, wakes_nobody};
 ghost use Rattle.call_run.specs.Sleepers.{is_sleep, AreAsked, AreDoubted, AreMinded, AreRising, AreTrulyTold, AreWithout, IsBehind, IsOf, StandsAsleep, IsToldApart, is_settled, place_in, stands_in, stirs_done, stirs_of, told_of, without};
 ghost use Rattle.call_run.specs.Stores.{IsStoreOf};
 
@@ -437,7 +438,15 @@ impl Sleepers {
 
     /// What a number is open on was touched: those who wait for it are asked.
     #[inline(never)]
-    fn touch(&mut self, script: &Script, objects: &Objects, pid: u32, fd: i64) {
+    fn touch(&mut self, script: &Script, objects: &Objects, pid: u32, fd: i64)
+        requires behind { (old new : World) × (call : CallOf) × (told : TurnedOf) × IsBehind script.now objects.now old new pid call told self.old.told self.old.channels
+            × (moves_through call ≡ Some fd) }
+        requires up { told_of self.old.told pid ≡ None }
+        requires room { length self.old.stirred ≤ 1 }
+        ensures minded { (old new : World) (call : CallOf) (told : TurnedOf) → IsBehind script.now objects.now old new pid call told self.old.told self.old.channels
+            → moves_through call ≡ Some fd → AreMinded script.now new.plain self.new.told self.new.channels }
+        ensures named { (who : ℕ) → is_among self.new.stirred who ≡ false → (is_among self.old.stirred who ≡ false) × (is_settled self.new.told who ≡ is_settled self.old.told who) }
+    {
         if self.told.len() <= FEW {
             ask_each(script, objects, &mut self.told, &mut self.stirred);
             return;
@@ -459,7 +468,14 @@ impl Sleepers {
     }
 
     /// Asks those whom a turn of another may have woken, or kept from going on.
-    fn stir(&mut self, script: &Script, objects: &Objects, pid: u32, call: &Call, turned: &Turned) {
+    fn stir(&mut self, script: &Script, objects: &Objects, pid: u32, call: &Call, turned: &Turned)
+        requires behind { (old new : World) × IsBehind script.now objects.now old new pid call.now turned.now self.old.told self.old.channels }
+        requires up { told_of self.old.told pid ≡ None }
+        requires room { length self.old.stirred ≤ 1 }
+        ensures minded { (old new : World) → IsBehind script.now objects.now old new pid call.now turned.now self.old.told self.old.channels
+            → AreMinded script.now new.plain self.new.told self.new.channels }
+        ensures named { (who : ℕ) → is_among self.new.stirred who ≡ false → (is_among self.old.stirred who ≡ false) × (is_settled self.new.told who ≡ is_settled self.old.told who) }
+    {
         match stirs_of(call, turned) {
             Stirs::Nobody => {
                 if gives_number(call) {
