@@ -15,6 +15,8 @@ use Rattle.posix_defs.specs.declared.turner.Turned.TheVariants as turned
 use Rattle.store_objects.specs.Standing.{StandsFor}
 use Rattle.store_objects.specs.declared.objects.Objects.{Objects}
 use Rattle.waking_laws.specs.Waking.{is_apart, is_failure, moves_through, wakes_nobody}
+use Rattle.call_run.specs.declared.sleepers.Came.{Came}
+use Rattle.call_run.specs.declared.sleepers.Came.TheVariants as came
 use Rattle.call_run.specs.declared.sleepers.Channel.{Channel}
 use Rattle.call_run.specs.declared.sleepers.Sleeper.{Sleeper}
 use Rattle.call_run.specs.declared.sleepers.Stirs.{Stirs}
@@ -30,13 +32,21 @@ stirs_by None nobody = if nobody then Nobody else Everybody
 abbrev pub stirs_done : Call → Stirs
 stirs_done which = stirs_by (moves_through which) (wakes_nobody which)
 
--- by what the turn came to: one that did nothing or failed stirs nobody
-abbrev pub stirs_of : Call → Turned → Stirs
-stirs_of which turned.Sleep = Nobody
-stirs_of which turned.Gone = Nobody
-stirs_of which (turned.Done said) = if is_failure said then Nobody else stirs_done which
-stirs_of which (turned.Part moved) = stirs_done which
-stirs_of which (turned.Ended status) = Everybody
+-- what a turn came to: one that failed did nothing
+abbrev pub came_of : Turned → Came
+came_of turned.Sleep = came.Sleep
+came_of turned.Gone = came.Nothing
+came_of (turned.Done said) = if is_failure said then came.Nothing else came.Done
+came_of (turned.Part moved) = came.Part
+came_of (turned.Ended status) = came.End
+
+-- by what the turn came to
+abbrev pub stirs_of : Call → Came → Stirs
+stirs_of which came.Nothing = Nobody
+stirs_of which came.Sleep = Nobody
+stirs_of which came.Part = stirs_done which
+stirs_of which came.Done = stirs_done which
+stirs_of which came.End = Everybody
 
 -- the turn left its call asleep
 abbrev pub is_sleep : Turned → Bool

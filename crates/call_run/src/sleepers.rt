@@ -15,7 +15,7 @@ ghost use Rattle.posix_defs.specs.World.{World};
 ghost use Rattle.posix_defs.specs.declared.turner.Turned.{Turned as TurnedOf};
 ghost use Rattle.store_objects.specs.Standing.{StandsFor};
 ghost use Rattle.waking_laws.specs.Waking.{gives_number, is_apart, moves_through, wakes_nobody};
-ghost use Rattle.call_run.specs.Sleepers.{is_sleep, AreAsked, AreDoubted, AreMinded, AreRising, AreTrulyTold, AreWithout, IsBehind, IsOf, StandsAsleep, IsToldApart, is_settled, place_in, stands_in, stirs_done, stirs_of, told_of, without};
+ghost use Rattle.call_run.specs.Sleepers.{came_of, is_sleep, AreAsked, AreDoubted, AreMinded, AreRising, AreTrulyTold, AreWithout, IsBehind, IsOf, StandsAsleep, IsToldApart, is_settled, place_in, stands_in, stirs_done, stirs_of, told_of, without};
 ghost use Rattle.call_run.specs.Stores.{IsStoreOf};
 
 use crate::calls::would_block;
@@ -50,6 +50,21 @@ pub struct Channel {
     fd: i64,
     // So it is of all sleepers.
     all_apart: bool,
+}
+
+/// What a turn came to, as far as it tells whom it may have woken.
+#[derive(Clone, Copy)]
+enum Came {
+    /// Nothing was done, or it failed.
+    Nothing,
+    /// The call sleeps.
+    Sleep,
+    /// A part was done, and the rest sleeps.
+    Part,
+    /// The call was done.
+    Done,
+    /// The process has ended.
+    End,
 }
 
 /// Whom a turn may have woken, or kept from going on.
@@ -149,16 +164,28 @@ fn stirs_done(call: &Call) -> Stirs
     }
 }
 
-/// Whom a turn of this call, which came to this, may have woken, or kept from going on. This is the one place that says so: what makes a
-/// sleeper depend on more than queues, children and descriptions has its line here.
-fn stirs_of(call: &Call, turned: &Turned) -> Stirs
-    ensures { result ≡ stirs_of call.now turned.now }
+/// What a turn came to.
+fn came_of(turned: &Turned) -> Came
+    ensures { result ≡ came_of turned.now }
 {
     match turned {
-        Turned::Sleep | Turned::Gone => Stirs::Nobody,
-        Turned::Done(Reply::Fail(_)) => Stirs::Nobody,
-        Turned::Done(_) | Turned::Part(_) => stirs_done(call),
-        Turned::Ended(_) => Stirs::Everybody,
+        Turned::Gone | Turned::Done(Reply::Fail(_)) => Came::Nothing,
+        Turned::Sleep => Came::Sleep,
+        Turned::Part(_) => Came::Part,
+        Turned::Done(_) => Came::Done,
+        Turned::Ended(_) => Came::End,
+    }
+}
+
+/// Whom a turn of this call, which came to this, may have woken, or kept from going on. This is the one place that says so: what makes a
+/// sleeper depend on more than queues, children and descriptions has its line here.
+fn stirs_of(call: &Call, came: Came) -> Stirs
+    ensures { result ≡ stirs_of call.now came }
+{
+    match came {
+        Came::Nothing | Came::Sleep => Stirs::Nobody,
+        Came::Part | Came::Done => stirs_done(call),
+        Came::End => Stirs::Everybody,
     }
 }
 
@@ -468,15 +495,15 @@ impl Sleepers {
     }
 
     /// Asks those whom a turn of another may have woken, or kept from going on.
-    fn stir(&mut self, script: &Script, objects: &Objects, pid: u32, call: &Call, turned: &Turned)
-        requires behind { (old new : World) × IsBehind script.now objects.now old new pid call.now turned.now self.old.told self.old.channels }
+    fn stir(&mut self, script: &Script, objects: &Objects, pid: u32, call: &Call, came: Came)
+        requires behind { (old new : World) × (told : TurnedOf) × IsBehind script.now objects.now old new pid call.now told self.old.told self.old.channels × (came ≡ came_of told) }
         requires up { told_of self.old.told pid ≡ None }
         requires room { length self.old.stirred ≤ 1 }
-        ensures minded { (old new : World) → IsBehind script.now objects.now old new pid call.now turned.now self.old.told self.old.channels
+        ensures minded { (old new : World) (told : TurnedOf) → IsBehind script.now objects.now old new pid call.now told self.old.told self.old.channels → came ≡ came_of told
             → AreMinded script.now new.plain self.new.told self.new.channels }
         ensures named { (who : ℕ) → is_among self.new.stirred who ≡ false → (is_among self.old.stirred who ≡ false) × (is_settled self.new.told who ≡ is_settled self.old.told who) }
     {
-        match stirs_of(call, turned) {
+        match stirs_of(call, came) {
             Stirs::Nobody => {
                 if gives_number(call) {
                     self.close_channels(pid);
@@ -507,7 +534,7 @@ impl Sleepers {
         ensures named { HasNamed (is_settled self.old.told) (is_settled self.new.told) self.new.stirred }
     {
         if !self.told.is_empty() || leaves_asleep(turned) || !self.stirred.is_empty() {
-            self.look_after(script, objects, pid, call, turned);
+            self.look_after(script, objects, pid, call, came_of(turned));
         }
     }
 
@@ -519,21 +546,21 @@ impl Sleepers {
         objects: &Objects,
         pid: u32,
         call: &Call,
-        turned: &Turned,
+        came: Came,
     )
-        requires behind { (old new : World) × IsBehind script.now objects.now old new pid call.now turned.now self.old.told self.old.channels }
-        ensures minded { (old new : World) → IsBehind script.now objects.now old new pid call.now turned.now self.old.told self.old.channels
+        requires behind { (old new : World) × (told : TurnedOf) × IsBehind script.now objects.now old new pid call.now told self.old.told self.old.channels × (came ≡ came_of told) }
+        ensures minded { (old new : World) (told : TurnedOf) → IsBehind script.now objects.now old new pid call.now told self.old.told self.old.channels → came ≡ came_of told
             → AreMinded script.now new.plain self.new.told self.new.channels }
         ensures named { HasNamed (is_settled self.old.told) (is_settled self.new.told) self.new.stirred }
     {
         self.stirred.clear();
-        if matches!(turned, Turned::Sleep) {
+        if matches!(came, Came::Sleep) {
             self.sleep_on(pid);
             return;
         }
         self.get_up(pid);
-        self.stir(script, objects, pid, call, turned);
-        if matches!(turned, Turned::Part(_)) {
+        self.stir(script, objects, pid, call, came);
+        if matches!(came, Came::Part) {
             self.lie_down(pid, !goes_on(script, objects, pid));
         }
     }

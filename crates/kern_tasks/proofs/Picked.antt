@@ -95,19 +95,19 @@ pub places_with : (passes : Task → Bool) (first : ℕ) (tasks : List Task) (pi
     → ((task : Task) → task.phase ≡ phase_in tasks pid → passes task ≡ passes (record task { phase = phase }))
     → places_from passes first (with_phase_in tasks pid phase) ≡ places_from passes first tasks
 places_with passes first [] pid phase same = refl
-places_with passes first (task ∷ tasks) pid phase same = go (task.pid == pid) refl
+places_with passes first (task ∷ tasks) pid phase same = go (task.pid == pid) refl (places_with passes (first + 1) tasks pid phase)
   where
-    abbrev put : Bool → List ℕ → List ℕ
-    put b rest = if b then first ∷ rest else rest
-
     go : (b : Bool) → (task.pid == pid) ≡ b
-        → places_from passes first (if b then record task { phase = phase } ∷ tasks else task ∷ with_phase_in tasks pid phase) ≡ put (passes task) (places_from passes (first + 1) tasks)
-    go true is =
-        ap (λ p. put p (places_from passes (first + 1) tasks))
+        → (((other : Task) → other.phase ≡ phase_in tasks pid → passes other ≡ passes (record other { phase = phase }))
+          → places_from passes (first + 1) (with_phase_in tasks pid phase) ≡ places_from passes (first + 1) tasks)
+        → places_from passes first (if b then record task { phase = phase } ∷ tasks else task ∷ with_phase_in tasks pid phase)
+        ≡ (if passes task then first ∷ places_from passes (first + 1) tasks else places_from passes (first + 1) tasks)
+    go true is later =
+        ap (λ p. if p then first ∷ places_from passes (first + 1) tasks else places_from passes (first + 1) tasks)
         (sym (same task (sym (ap (λ b. if b then task.phase else phase_in tasks pid) is))))
-    go false is =
-        ap (put (passes task))
-        (places_with passes (first + 1) tasks pid phase (λ other e. same other (e ∙ sym (ap (λ b. if b then task.phase else phase_in tasks pid) is))))
+    go false is later =
+        ap (λ rest. if passes task then first ∷ rest else rest)
+        (later (λ other e. same other (e ∙ sym (ap (λ b. if b then task.phase else phase_in tasks pid) is))))
 
 -- ---- by counts
 

@@ -118,7 +118,7 @@ Stands places at place = slice_get places at ≡ Some place
 pub stands_with : (places : List ℕ) (place : ℕ) → Stands places (below places place) place
     → (with_place places place true ≡ places) × (with_place places place false ≡ remove places (below places place))
 stands_with [] place stands = cc
-stands_with (other ∷ places) place stands = go (nat_lt other place) refl stands
+stands_with (other ∷ places) place stands = go (nat_lt other place) refl stands (stands_with places place)
   where
     here : (same : Bool) → (other == place) ≡ same → Some other ≡ Some place
         → ((if same then other ∷ places else place ∷ other ∷ places) ≡ other ∷ places)
@@ -127,10 +127,11 @@ stands_with (other ∷ places) place stands = go (nat_lt other place) refl stand
     here false is e = elim (eqb_tells other place) [ inl it ↦ absurd (both it.0 is) | inr it ↦ absurd (it.1 (cc)) ]
 
     go : (b : Bool) → nat_lt other place ≡ b → slice_get (other ∷ places) (if b then below places place + 1 else 0) ≡ Some place
+        → (Stands places (below places place) place → (with_place places place true ≡ places) × (with_place places place false ≡ remove places (below places place)))
         → ((if b then other ∷ with_place places place true else if other == place then other ∷ places else place ∷ other ∷ places) ≡ other ∷ places)
         × ((if b then other ∷ with_place places place false else if other == place then places else other ∷ places)
           ≡ remove (other ∷ places) (if b then below places place + 1 else 0))
-    go true is e = let later = stands_with places place (at_next e) in (ap (λ rest. other ∷ rest) later.0, ap (λ rest. other ∷ rest) later.1 ∙ removed)
+    go true is e more = let later = more (at_next e) in (ap (λ rest. other ∷ rest) later.0, ap (λ rest. other ∷ rest) later.1 ∙ removed)
       where
         next : below places place + 1 ≡ suc (below places place)
         next = omega arith
@@ -140,13 +141,13 @@ stands_with (other ∷ places) place stands = go (nat_lt other place) refl stand
 
         removed : other ∷ remove places (below places place) ≡ remove (other ∷ places) (below places place + 1)
         removed = ap (remove (other ∷ places)) (sym next)
-    go false is e = here (other == place) refl e
+    go false is e more = here (other == place) refl e
 
 -- it doesn't: it is put there, or nothing changes
 pub goes_with : (places : List ℕ) (place : ℕ) → (Stands places (below places place) place → ⊥)
     → (with_place places place true ≡ insert places (below places place) place) × (with_place places place false ≡ places)
 goes_with [] place none = (refl, refl)
-goes_with (other ∷ places) place none = go (nat_lt other place) refl none
+goes_with (other ∷ places) place none = go (nat_lt other place) refl none (goes_with places place)
   where
     here : (same : Bool) → (other == place) ≡ same → (Some other ≡ Some place → ⊥)
         → ((if same then other ∷ places else place ∷ other ∷ places) ≡ insert (other ∷ places) 0 place)
@@ -155,17 +156,18 @@ goes_with (other ∷ places) place none = go (nat_lt other place) refl none
     here false is no = (refl, refl)
 
     go : (b : Bool) → nat_lt other place ≡ b → (slice_get (other ∷ places) (if b then below places place + 1 else 0) ≡ Some place → ⊥)
+        → ((Stands places (below places place) place → ⊥) → (with_place places place true ≡ insert places (below places place) place) × (with_place places place false ≡ places))
         → ((if b then other ∷ with_place places place true else if other == place then other ∷ places else place ∷ other ∷ places)
           ≡ insert (other ∷ places) (if b then below places place + 1 else 0) place)
         × ((if b then other ∷ with_place places place false else if other == place then places else other ∷ places) ≡ other ∷ places)
-    go true is no = let later = goes_with places place (λ f. no (ap (slice_get (other ∷ places)) next ∙ f)) in (ap (λ rest. other ∷ rest) later.0 ∙ put, ap (λ rest. other ∷ rest) later.1)
+    go true is no more = let later = more (λ f. no (ap (slice_get (other ∷ places)) next ∙ f)) in (ap (λ rest. other ∷ rest) later.0 ∙ put, ap (λ rest. other ∷ rest) later.1)
       where
         next : below places place + 1 ≡ suc (below places place)
         next = omega arith
 
         put : other ∷ insert places (below places place) place ≡ insert (other ∷ places) (below places place + 1) place
         put = ap (λ n. insert (other ∷ places) n place) (sym next)
-    go false is no = here (other == place) refl no
+    go false is no more = here (other == place) refl no
 
 -- ---- the test is made anew for one task
 
@@ -222,7 +224,7 @@ at_least (task ∷ tasks) pid from place e = go (task.pid == pid) e (λ f. at_le
 pub one_anew : (passes anew : Task → Bool) (pid first below place : ℕ) (tasks : List Task) (d : Task) → AreRising below tasks → place_from first tasks pid ≡ Some place
     → with_place (places_from passes first tasks) place (anew (slice_index_or tasks (place - first) d)) ≡ places_from (but_for passes pid anew) first tasks
 one_anew passes anew pid first below place [] d rising e = cc
-one_anew passes anew pid first below place (task ∷ tasks) d rising e = go (task.pid == pid) refl e
+one_anew passes anew pid first below place (task ∷ tasks) d rising e = go (task.pid == pid) refl e (one_anew passes anew pid (first + 1) task.pid place tasks d rising.1)
   where
     rest : List ℕ
     rest = places_from passes (first + 1) tasks
@@ -244,9 +246,11 @@ one_anew passes anew pid first below place (task ∷ tasks) d rising e = go (tas
     further false there h = refl
 
     go : (b : Bool) → (task.pid == pid) ≡ b → cond b (Some first) (place_from (first + 1) tasks pid) ≡ Some place
+        → (place_from (first + 1) tasks pid ≡ Some place
+          → with_place rest place (anew (slice_index_or tasks (place - (first + 1)) d)) ≡ later)
         → with_place (if passes task then first ∷ rest else rest) place (anew (slice_index_or (task ∷ tasks) (place - first) d))
         ≡ (if (if b then anew task else passes task) then first ∷ later else later)
-    go true is f =
+    go true is f more =
         let same : first ≡ place = (cc) in
         let zero_of : place - first ≡ 0 = omega arith in
         let pids : task.pid ≡ pid = elim (eqb_tells task.pid pid) [ inl it ↦ it.1 | inr it ↦ absurd (both is it.0) ] in
@@ -254,12 +258,12 @@ one_anew passes anew pid first below place (task ∷ tasks) d rising e = go (tas
         ∙ ap (λ p. with_place (if passes task then first ∷ rest else rest) p (anew task)) (sym same)
         ∙ here (passes task) (anew task)
         ∙ ap (λ ps. if anew task then first ∷ ps else ps) (sym (none_anew passes anew pid (first + 1) 0 tasks (none_later tasks pid 0 task.pid rising.1 (omega (arith, pids)))))
-    go false is f =
+    go false is f more =
         let above : first + 1 ≤ place = at_least tasks pid (first + 1) place f in
         let next : place - first ≡ suc (place - (first + 1)) = omega arith in
         ap (λ n. with_place (if passes task then first ∷ rest else rest) place (anew (slice_index_or (task ∷ tasks) n d))) next
         ∙ further (passes task) (anew (slice_index_or tasks (place - (first + 1)) d)) (omega arith)
-        ∙ ap (λ ps. if passes task then first ∷ ps else ps) (one_anew passes anew pid (first + 1) task.pid place tasks d rising.1 f)
+        ∙ ap (λ ps. if passes task then first ∷ ps else ps) (more f)
 
 -- ---- the test is made anew for some
 

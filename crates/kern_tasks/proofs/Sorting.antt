@@ -51,7 +51,7 @@ places_behind passes first (task ∷ tasks) last passed = go (passes task) (plac
 pub own_passes : (settled : ℕ → Bool) (first below : ℕ) (tasks : List Task) (pid : ℕ) (phase : Phase) → AreRising below tasks → is_asleep (phase_in tasks pid) ≡ false
     → places_from (but_for (is_runnable settled) pid (λ _. true)) first (with_phase_in tasks pid phase) ≡ places_from (is_runnable settled) first tasks
 own_passes settled first below [] pid phase rising awake = refl
-own_passes settled first below (task ∷ tasks) pid phase rising awake = go (task.pid == pid) refl
+own_passes settled first below (task ∷ tasks) pid phase rising awake = go (task.pid == pid) refl (own_passes settled (first + 1) task.pid tasks pid phase rising.1)
   where
     none_else : (least : ℕ) (first : ℕ) (others : List Task) → AreRising least others → pid ≤ least
         → places_from (but_for (is_runnable settled) pid (λ _. true)) first others ≡ places_from (is_runnable settled) first others
@@ -66,20 +66,22 @@ own_passes settled first below (task ∷ tasks) pid phase rising awake = go (tas
         differs a b h = elim (eqb_tells a b) [ inl is ↦ absurd (let same : a ≡ b = is.1 in omega arith) | inr is ↦ is.0 ]
 
     go : (b : Bool) → (task.pid == pid) ≡ b
+        → (is_asleep (phase_in tasks pid) ≡ false
+          → places_from (but_for (is_runnable settled) pid (λ _. true)) (first + 1) (with_phase_in tasks pid phase) ≡ places_from (is_runnable settled) (first + 1) tasks)
         → places_from (but_for (is_runnable settled) pid (λ _. true)) first (if b then record task { phase = phase } ∷ tasks else task ∷ with_phase_in tasks pid phase)
         ≡ places_from (is_runnable settled) first (task ∷ tasks)
-    go true is =
+    go true is later =
         let same : task.pid ≡ pid = elim (eqb_tells task.pid pid) [ inl it ↦ it.1 | inr it ↦ absurd (both is it.0) ] in
         let phased : is_asleep task.phase ≡ false = ap is_asleep (sym (ap (λ b. if b then task.phase else phase_in tasks pid) is)) ∙ awake in
         ap (λ b. if (if b then true else is_runnable settled (record task { phase = phase })) then first ∷ places_from (but_for (is_runnable settled) pid (λ _. true)) (first + 1) tasks
           else places_from (but_for (is_runnable settled) pid (λ _. true)) (first + 1) tasks) is
         ∙ ap (λ ps. first ∷ ps) (none_else task.pid (first + 1) tasks rising.1 (omega (arith, same)))
         ∙ sym (ap (λ b. if not (b && settled task.pid) then first ∷ places_from (is_runnable settled) (first + 1) tasks else places_from (is_runnable settled) (first + 1) tasks) phased)
-    go false is =
+    go false is later =
         ap (λ b. if (if b then true else is_runnable settled task) then first ∷ places_from (but_for (is_runnable settled) pid (λ _. true)) (first + 1) (with_phase_in tasks pid phase)
           else places_from (but_for (is_runnable settled) pid (λ _. true)) (first + 1) (with_phase_in tasks pid phase)) is
         ∙ ap (λ rest. if is_runnable settled task then first ∷ rest else rest)
-        (own_passes settled (first + 1) task.pid tasks pid phase rising.1 (ap is_asleep (ap (λ b. if b then task.phase else phase_in tasks pid) (sym is) ) ∙ awake))
+        (later (ap is_asleep (ap (λ b. if b then task.phase else phase_in tasks pid) (sym is)) ∙ awake))
 
 -- ---- behind the turn
 

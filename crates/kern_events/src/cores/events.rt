@@ -255,9 +255,7 @@ fn noted_of(event: Event, asked: Asked, entry: Option<Entry>, charged: u64) -> N
     }
 }
 
-/// A turn of a process's next call. It stands by itself, since a call has room for two paths, for which a function pays whenever it is
-/// entered.
-#[inline(never)]
+/// A turn of a process's next call.
 fn turn_next<T: Turner>(store: &mut T, pid: u32) -> Turned
     requires { (world : World) × T.stands store.old world × (is_alive world.plain.table pid ≡ true)
         × (live_of world + bound (call_of (T.script store.old) world.plain pid) + reserve ≤ (T.script store.old).heap) }
