@@ -6,6 +6,8 @@ pub mod Forgetting
 pub mod Giving
 pub mod Growth
 pub mod Inodes
+pub mod Pointing
 pub mod SameBlocks
+pub mod Steps
 pub mod Taking
 pub mod Taken

@@ -6,8 +6,9 @@ ghost use Rattle.posix_defs.specs.SoundDisk.{block_bytes, HasNode, Sound};
 ghost use Rattle.memfs_file.specs.FileChange.{IsInUse, Puts};
 
 use crate::counts::BLOCK_SIZE;
-use crate::ranges::{block_named, copy_in, pointers_behind, whole_block};
-use blk_map::data_count;
+use crate::ranges::{copy_in, pointers_behind, pointers_of, whole_block};
+use blk_map::{NEAR_BLOCKS, data_count, pointer_of, run_first, run_of, run_start};
+use disk_layout::pointers_in;
 use kabi_types::Inode;
 use posix_defs::Blocks;
 
@@ -20,12 +21,42 @@ pub fn put_bytes<B: Blocks>(b: &mut B, inode: &Inode, at: u32, bytes: &[u8])
     ensures puts { (number : ℕ) → HasNode (B.blocks b.old) number inode.now → Puts number (B.blocks b.old) inode.now at bytes.now (B.blocks b.new) }
     ensures follows { B.follows b.old b.new }
 {
+    let first = at / BLOCK_SIZE;
     let end = data_count(at + bytes.len() as u32);
+    if end <= NEAR_BLOCKS {
+        put_run(b, inode, inode.indirect, first, end, at, bytes);
+    } else {
+        put_far(b, inode, first, end, at, bytes);
+    }
+}
+
+/// Writes what the blocks from one up to another have of a range, all of them in the run of pointers that this block has.
+fn put_run<B: Blocks>(
+    b: &mut B,
+    inode: &Inode,
+    pointers: u32,
+    from: u32,
+    to: u32,
+    at: u32,
+    bytes: &[u8],
+) {
     let mut behind = [0; 256];
-    pointers_behind(b, inode, end, &mut behind);
-    for index in at / BLOCK_SIZE..end {
-        let block = block_named(&inode.direct, &behind, index);
+    pointers_behind(b, pointers, to, &mut behind);
+    for index in from..to {
+        let block = pointer_of(&inode.direct, &behind, index as usize);
         put_part(b, block, index, at, bytes);
+    }
+}
+
+/// The same of any blocks, some of which the double block leads to.
+#[inline(never)]
+fn put_far<B: Blocks>(b: &mut B, inode: &Inode, from: u32, to: u32, at: u32, bytes: &[u8]) {
+    let double = pointers_in(&b.get(inode.double));
+    for run in run_of(from)..run_of(to - 1) + 1 {
+        let pointers = pointers_of(inode, &double, run);
+        let first = from.max(run_first(run));
+        let end = to.min(run_start(run + 1));
+        put_run(b, inode, pointers, first, end, at, bytes);
     }
 }
 

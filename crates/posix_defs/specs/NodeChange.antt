@@ -20,7 +20,7 @@ pub record Replaces (number : ℕ) (before : List (List ℕ)) (old : Inode) (aft
   pub slot : table_bytes after number ≡ inode_bytes new
   pub slots : (node : ℕ) → 0 < node → node ≤ table_nodes (length before) → node ≢ number → table_bytes after node ≡ table_bytes before node
   pub pointers : (block at : ℕ) → block < pointer_blocks new.size → at < block_pointers
-      → IsPointer (length before) (needs_pointer new.size block at) (pointer_at (block_bytes after (pointer_block new block)) at)
+      → IsPointer (length before) (needs_pointer new.size block at) (pointer_at (block_bytes after (pointer_block after new block)) at)
   pub once : (i j : Place) → HasPlace new.size i → HasPlace new.size j → named_at after new i ≡ named_at after new j → i ≡ j
   pub taken : (place : Place) → HasPlace new.size place → Names before old (named_at after new place) ⊎ IsFreeBlock before (named_at after new place)
   pub untouched : (block : ℕ) → table_end (length before) < block → block < length before → IsMarked before block → ¬ (Names before old block)
