@@ -36,7 +36,8 @@ pub fn block_count(size: u32) -> u32
         return data;
     }
     let runs = (data - DIRECT_POINTERS).div_ceil(BLOCK_POINTERS);
-    data + runs + u32::from(runs > 1)
+    let double = if runs > 1 { 1 } else { 0 };
+    data + runs + double
 }
 
 /// The run of pointers that a block of bytes has its own in; those that the inode has itself go with the first.

@@ -1,7 +1,7 @@
 //! The pointers of a node in hand: those of its inode, and those of one run.
 
-ghost use Rattle.std.specs.Prelude.{◌≡◌, ◌≢◌, ℕ, ◌+◌, ◌-◌, ◌<◌, ◌≤◌, ◌⊎◌, length, slice_index};
-ghost use Rattle.posix_defs.specs.DiskFormat.{block_pointers};
+ghost use Rattle.std.specs.Prelude.{◌≡◌, ◌≢◌, ℕ, ◌+◌, ◌-◌, ◌%◌, ◌<◌, ◌≤◌, ◌⊎◌, length, slice_index};
+ghost use Rattle.posix_defs.specs.DiskFormat.{block_pointers, direct_pointers};
 ghost use Rattle.posix_defs.specs.SoundDisk.{block_bytes, pointer_at, run_of};
 ghost use Rattle.blk_map.specs.Named.{IsInHand, pointer_to};
 ghost use Rattle.blk_map.specs.Runs.{run_start, run_end, run_first};
@@ -30,7 +30,10 @@ pub fn behind_of<B: Blocks>(b: &mut B, pointers: u32, held: u32, run: u32, behin
 }
 
 /// The place of a block's pointer in its run.
-fn place_in_run(index: usize) -> usize {
+fn place_in_run(index: usize) -> usize
+    requires { direct_pointers ≤ index }
+    ensures { result ≡ (index - direct_pointers) % block_pointers }
+{
     (index - DIRECT_POINTERS as usize) % BLOCK_POINTERS as usize
 }
 

@@ -82,7 +82,7 @@ writes w =
     record {
       changes = changes_node w.number w.disk w.inode (after_of w) w.inode w.sound change;
       has = this_has w.number w.disk w.inode (after_of w) w.inode change;
-      names = λ index lt. name w (Data index) lt;
+      names = name w;
       this = get_or-set_same {A = List ℕ} w.disk (place_of w) w.bytes _ (for_files w).1;
       others = λ index lt other. other_block w (data_block w.disk w.inode index) (named_apart w (Data index) lt (λ e. other (ap (λ (place : Place). index_in place) e)));
       free = omega (arith, free_after w.number w.disk w.inode (after_of w) w.inode w.sound change);

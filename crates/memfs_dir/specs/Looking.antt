@@ -1,9 +1,9 @@
 -- What a look for a name finds in a directory, and which blocks of it it asks for.
 use Rattle.std.specs.Prelude.{ℕ, zero, suc, ◌+◌, ◌-◌, ◌/◌, ◌<◌, ◌≡◌, List, [], ◌∷◌, ◌++◌, map, slice_index, Option, None, Some, IfSome}
+use Rattle.std.specs.List.{range_with_len}
 use Rattle.std.specs.Option.{option_map}
 use Rattle.kabi_types.specs.declared.inodes.DirEntry.{DirEntry}
 use Rattle.kabi_types.specs.declared.inodes.Inode.{Inode}
-use Rattle.std.specs.List.{range_with_len}
 use Rattle.posix_defs.specs.DiskFormat.{direct_pointers, block_pointers, near_blocks, data_blocks, pointers_beside}
 use Rattle.posix_defs.specs.SoundDisk.{Place, Data, Pointers, block_bytes, block_of_run, named_at, pointer_at, pointer_block, run_of}
 use Rattle.memfs_dir.specs.Slots.{entries_in_block}

@@ -1,11 +1,13 @@
 //! Bytes of a node that are read.
 
-ghost use Rattle.std.specs.Prelude.{◌≡◌, ℕ, ◌+◌, ◌-◌, ◌<◌, ◌≤◌, ◌++◌, min, length, slice_index, take, drop};
+ghost use Rattle.std.specs.Prelude.{◌≡◌, ℕ, ◌+◌, ◌-◌, ◌/◌, ◌<◌, ◌≤◌, ◌⊎◌, ◌++◌, min, length, slice_index, take, drop};
 ghost use Rattle.posix_defs.specs.Asking.{AskedInTurn};
-ghost use Rattle.posix_defs.specs.SoundDisk.{Sound};
+ghost use Rattle.posix_defs.specs.DiskFormat.{block_size, data_blocks, near_blocks};
+ghost use Rattle.posix_defs.specs.SoundDisk.{Sound, block_of_run, pointer_block, run_of};
+ghost use Rattle.blk_map.specs.Runs.{run_end};
 ghost use Rattle.posix_defs.specs.DiskContents.{byte_at, node_bytes};
 ghost use Rattle.memfs_file.specs.FileChange.{IsInUse};
-ghost use Rattle.memfs_file.specs.Ranges.{asked_to_read};
+ghost use Rattle.memfs_file.specs.Ranges.{asked_between, asked_to_read, blocks_between, pointers_for};
 
 use crate::counts::BLOCK_SIZE;
 use crate::ranges::{copy_out, pointers_behind, pointers_of};
@@ -50,11 +52,10 @@ fn read_range<B: Blocks>(b: &mut B, inode: &Inode, at: u32, out: &mut [u8])
 {
     let first = at / BLOCK_SIZE;
     let end = data_count(at + out.len() as u32);
-    if end <= NEAR_BLOCKS {
-        read_run(b, inode, inode.indirect, first, end, at, out);
-    } else {
-        read_far(b, inode, first, end, at, out);
+    if end > NEAR_BLOCKS {
+        return read_far(b, inode, first, end, at, out);
     }
+    read_run(b, inode, inode.indirect, first, end, at, out);
 }
 
 /// Reads what the blocks from one up to another have of a range, all of them in the run of pointers that this block has.
@@ -66,7 +67,20 @@ fn read_run<B: Blocks>(
     to: u32,
     at: u32,
     out: &mut [u8],
-) {
+)
+    requires sound { Sound (B.blocks b.old) }
+    requires node { IsInUse (B.blocks b.old) inode.now }
+    requires some { from < to }
+    requires run { to ≤ run_end (run_of from) }
+    requires pointers { pointers ≡ pointer_block (B.blocks b.old) inode.now (block_of_run (run_of from)) }
+    requires range { (at / block_size ≤ from) × (to ≤ data_blocks (at + length out.old)) }
+    requires within { at + length out.old ≤ inode.now.size }
+    ensures bytes { (k : ℕ) → k < length out.old → from ≤ (at + k) / block_size → (at + k) / block_size < to → slice_index out.new k ≡ byte_at (B.blocks b.old) inode.now (at + k) }
+    ensures others { (k : ℕ) → ((at + k) / block_size < from) ⊎ (to ≤ (at + k) / block_size) → slice_index out.new k ≡ slice_index out.old k }
+    ensures kept { B.blocks b.new ≡ B.blocks b.old }
+    ensures asked { AskedInTurn B.asked b.old (pointers_for pointers to ++ blocks_between (B.blocks b.old) inode.now from to) b.new }
+    ensures follows { B.follows b.old b.new }
+{
     let mut behind = [0; 256];
     pointers_behind(b, pointers, to, &mut behind);
     for index in from..to {
@@ -77,7 +91,18 @@ fn read_run<B: Blocks>(
 
 /// The same of any blocks, some of which the double block leads to.
 #[inline(never)]
-fn read_far<B: Blocks>(b: &mut B, inode: &Inode, from: u32, to: u32, at: u32, out: &mut [u8]) {
+fn read_far<B: Blocks>(b: &mut B, inode: &Inode, from: u32, to: u32, at: u32, out: &mut [u8])
+    requires sound { Sound (B.blocks b.old) }
+    requires node { IsInUse (B.blocks b.old) inode.now }
+    requires some { from < to }
+    requires far { near_blocks < to }
+    requires range { (at / block_size ≡ from) × (to ≡ data_blocks (at + length out.old)) }
+    requires within { at + length out.old ≤ inode.now.size }
+    ensures bytes { (k : ℕ) → k < length out.old → slice_index out.new k ≡ byte_at (B.blocks b.old) inode.now (at + k) }
+    ensures kept { B.blocks b.new ≡ B.blocks b.old }
+    ensures asked { AskedInTurn B.asked b.old (asked_between (B.blocks b.old) inode.now from to) b.new }
+    ensures follows { B.follows b.old b.new }
+{
     let double = pointers_in(&b.get(inode.double));
     for run in run_of(from)..run_of(to - 1) + 1 {
         let pointers = pointers_of(inode, &double, run);

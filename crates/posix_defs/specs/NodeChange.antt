@@ -50,7 +50,7 @@ pub record Grows (number : ℕ) (before : List (List ℕ)) (old : Inode) (size :
 pub record WritesBlock (number : ℕ) (before : List (List ℕ)) (inode : Inode) (index : ℕ) (bytes : List ℕ) (after : List (List ℕ)) : Type 0 where
   pub changes : ChangesNode before after number
   pub has : HasInode after number inode
-  pub names : (other : ℕ) → other < data_blocks inode.size → data_block after inode other ≡ data_block before inode other
+  pub names : (place : Place) → HasPlace inode.size place → named_at after inode place ≡ named_at before inode place
   pub this : block_bytes after (data_block before inode index) ≡ bytes
   pub others : (other : ℕ) → other < data_blocks inode.size → other ≢ index → block_bytes after (data_block before inode other) ≡ block_bytes before (data_block before inode other)
   pub free : free_in_map after ≡ free_in_map before
