@@ -1,5 +1,5 @@
 -- The free blocks of a sound disk are those that no node names, and as many as the sizes of its nodes leave.
-use Rattle.std.proofs.Common.{◌≡◌, ◌≢◌, ℕ, zero, suc, ◌+◌, ◌-◌, ◌*◌, ◌<◌, ◌≤◌, Bool, true, false, not, ◌&&◌, cond, eqb, ltb, ◌⊎◌, inl, inr, List, [], ◌∷◌, ◌++◌, map, length, get_or, sum_by, count_by, Option, None, Some, refl, sym, ap, subst, ◌∙◌, arith}
+use Rattle.std.proofs.Common.{◌≡◌, ◌≢◌, ℕ, zero, suc, ◌+◌, ◌-◌, ◌*◌, ◌%◌, ◌<◌, ◌≤◌, Bool, true, false, not, ◌&&◌, cond, eqb, ltb, ◌⊎◌, inl, inr, List, [], ◌∷◌, ◌++◌, map, length, get_or, sum_by, count_by, None, Some, refl, sym, ap, subst, ◌∙◌, arith}
 use Rattle.std.specs.List.{range_with_len, flat_map}
 use Rattle.std.proofs.lemmas.Bool.{cases_lt, cases_eq, lt-ltb, le-ltb, cond-true, cond-false, eqb-true, eq-eqb, ne_eqb, false_from_ne_true, false≢true}
 use Rattle.std.proofs.lemmas.List.{length-append, get_or_append_left, get_or_at}
@@ -7,7 +7,7 @@ use Rattle.std.proofs.lemmas.List.Concat.{flat_map-cons}
 use Rattle.std.proofs.lemmas.List.FromFn.{length-map-range_with_len}
 use Rattle.std.proofs.lemmas.List.Sums.{sum_by-cons}
 use Rattle.kabi_types.specs.declared.inodes.Inode.{Inode}
-use Rattle.posix_defs.specs.DiskFormat.{block_size, table_end, table_nodes, data_blocks, pointer_blocks, blocks_of, leads_to, needs_pointer, IsForFiles, IsPointer}
+use Rattle.posix_defs.specs.DiskFormat.{block_size, table_end, table_nodes, data_blocks, blocks_of, leads_to, needs_pointer, IsForFiles, IsPointer}
 use Rattle.posix_defs.specs.SoundDisk.{block_bytes, HasInode, pointer_at, Place, Data, Pointers, HasPlace, Way, block_of_run, run_of, led_to, named_at, way_to, pointer_block, IsNamed, map_bit, Sound, IsTable, free_in_map, free_blocks}
 use Rattle.disk_laws.proofs.FormattedDisk.{one_inode}
 
@@ -288,7 +288,7 @@ named_is_for_files disk sound node inode (Pointers zero) has lt = is_needed (len
 named_is_for_files disk sound node inode (Pointers (suc zero)) has lt =
     is_needed (length disk) (266 * block_size) inode.size inode.double (omega (arith, double_needed inode.size lt)) has.valid.pointers.double
 named_is_for_files disk sound node inode (Pointers (suc (suc block))) has lt =
-    let needed : 10 + 256 * (block + 1) < data_blocks inode.size = run_needed inode.size (suc block) lt in
+    let needed : 10 + 256 * suc block < data_blocks inode.size = run_needed inode.size (suc block) lt in
     let within : block < 256 = omega (arith, needed, has.valid.kind.size) in
     needed_at (length disk) inode.size 1 block (pointer_at (block_bytes disk inode.double) block) (omega (arith, needed)) (sound.pointers node inode 1 block has (has_double inode.size block lt) within)
 
