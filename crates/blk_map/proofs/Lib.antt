@@ -7,6 +7,7 @@ pub mod Giving
 pub mod Growth
 pub mod Inodes
 pub mod Pointing
+pub mod Repointing
 pub mod SameBlocks
 pub mod Steps
 pub mod Taking

@@ -55,9 +55,9 @@ fn name(direct: &mut [u32; 10], behind: &mut [u32; 256], index: usize, block: u3
 {
     if index < 10 {
         direct[index] = block;
-    } else {
-        behind[place_in_run(index)] = block;
+        return;
     }
+    behind[place_in_run(index)] = block;
 }
 
 /// Names the first of these blocks, one after another, for the bytes from `from` blocks on, all of them in one run.
