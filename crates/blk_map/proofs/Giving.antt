@@ -14,7 +14,7 @@ use Rattle.blk_map.specs.Pointing.{Repoints, SameBeside, WritesDouble}
 use Rattle.blk_map.proofs.Blocks.{in_table, same_table}
 use Rattle.blk_map.proofs.Counted.{pointers_more}
 use Rattle.blk_map.proofs.Inodes.{pointer_direct, pointer_behind, HasPointersOf, names_in_hand, none_needed, Points, is_inode}
-use Rattle.blk_map.proofs.Pointing.{double_has_none}
+use Rattle.blk_map.proofs.Coming.{double_has_none}
 
 pub record Giving : Type 0 where
   pub number : ℕ

@@ -1,12 +1,13 @@
 pub mod AndBack
 pub mod Blocks
+pub mod Coming
 pub mod Counted
 pub mod Finding
 pub mod Forgetting
 pub mod Giving
 pub mod Growth
+pub mod InHand
 pub mod Inodes
-pub mod Pointing
 pub mod Repointing
 pub mod SameBlocks
 pub mod Steps

@@ -51,8 +51,8 @@ near_named h more after new grows near many double same named =
     no_new few = same (omega (arith, few, many)) ∙ no_indirect h (omega (arith, few, grows))
 
 -- where a node has the block of a further run already nothing is named
-pub far_same : (h : Had) (run : ℕ) → h.old.size ≤ h.size → 266 ≤ had_blocks h → pointer_blocks h.size - pointer_blocks h.old.size ≡ 0 → Repoints h.disk h.old h.size [] h.disk h.old
-far_same h run grows far same =
+pub far_same : (h : Had) (more : List ℕ) → h.old.size ≤ h.size → 266 ≤ had_blocks h → pointer_blocks h.size - pointer_blocks h.old.size ≡ 0 → Repoints h.disk h.old h.size more h.disk h.old
+far_same h more grows far same =
     record {
       kept = λ block was is. refl;
       added = λ block past is. absurd (omega (arith, past, is, same));

@@ -16,7 +16,7 @@ use Rattle.blk_map.proofs.Inodes.{pointer_direct, pointer_behind, HasPointersOf,
 use Rattle.blk_map.proofs.Counted.{given, pointers_more}
 use Rattle.blk_map.proofs.Blocks.{in_table, same_table}
 use Rattle.blk_map.proofs.Growth.{Growth, grows, front_within, back_within, key_of, keys_same}
-use Rattle.blk_map.proofs.Pointing.{double_has_none, come_with_run}
+use Rattle.blk_map.proofs.Coming.{double_has_none, come_with_run}
 
 pub record Taking : Type 0 where
   pub number : ℕ

@@ -41,10 +41,11 @@ pub fn name_pointers<B: Blocks>(
     if run > 0 {
         return name_far(b, number, inode, size, run, more);
     }
-    if !more.is_empty() {
-        inode.indirect = more[0];
+    if more.is_empty() {
+        return inode.indirect;
     }
-    inode.indirect
+    inode.indirect = more[0];
+    more[0]
 }
 
 /// The same where the double block names the block of the run.
@@ -119,15 +120,18 @@ pub fn forget_pointers<B: Blocks>(
     if data_count(size) > first || data_count(inode.size) <= first {
         return dropped;
     }
-    match run {
-        0 => inode.indirect = 0,
-        1 => {
-            dropped.push(inode.double);
-            inode.double = 0;
-        }
-        _ => set_pointer(b, inode.double, run - 1, 0),
+    if run == 1 {
+        dropped.push(inode.double);
+        inode.double = 0;
+        dropped.push(pointers);
+        return dropped;
     }
     dropped.push(pointers);
+    if run == 0 {
+        inode.indirect = 0;
+        return dropped;
+    }
+    set_pointer(b, inode.double, run - 1, 0);
     dropped
 }
 

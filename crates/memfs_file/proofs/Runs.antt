@@ -1,12 +1,14 @@
 -- Blocks of bytes run by run.
-use Rattle.std.proofs.Common.{◌≡◌, ℕ, zero, suc, ◌+◌, ◌-◌, ◌*◌, ◌<◌, ◌≤◌, ◌⊎◌, max, min, inl, inr, List, [], ◌++◌, cond, eqb, get_or, sym, ap, ◌∙◌, append_assoc, arith}
+use Rattle.std.proofs.Common.{◌≡◌, ℕ, zero, suc, ◌+◌, ◌-◌, ◌*◌, ◌/◌, ◌<◌, ◌≤◌, ◌⊎◌, max, min, inl, inr, List, [], ◌∷◌, ◌++◌, cond, eqb, ltb, get_or, sym, ap, ◌∙◌, append_assoc, arith}
 use Rattle.std.specs.List.{flat_map, range_with_len}
-use Rattle.std.proofs.lemmas.Bool.{cases_lt, cond-false, ne_eqb}
+use Rattle.std.proofs.lemmas.Bool.{cases_lt, cond-false, le-ltb, ne_eqb}
 use Rattle.std.proofs.lemmas.List.{append-nil}
 use Rattle.std.proofs.lemmas.List.Concat.{flat_map-cons}
 use Rattle.kabi_types.specs.declared.inodes.Inode.{Inode}
+use Rattle.posix_defs.specs.DiskFormat.{block_size, data_blocks}
 use Rattle.posix_defs.specs.SoundDisk.{block_bytes, block_of_run, pointer_at, pointer_block, run_of}
 use Rattle.blk_map.specs.Runs.{run_first, run_end}
+use Rattle.memfs_file.specs.Ranges.{asked_between, asked_in_run, asked_to_read, blocks_between, pointers_for, runs_between}
 
 -- one number more
 pub flat_more : (f : ℕ → List ℕ) (from n to : ℕ) → to ≡ from + n → flat_map f (range_with_len from (n + 1)) ≡ flat_map f (range_with_len from n) ++ f to
@@ -66,6 +68,30 @@ done_then from to run end some low is = let next : run_first (run + 1) ≡ run_e
 
 pub done_at_last : (from to run : ℕ) → run ≡ run_of (to - 1) + 1 → done_before from to run ≡ to
 done_at_last from to run is = omega (arith, is)
+
+-- a node has the block of a run that one of them is in
+pub run_is_had : (run to size : ℕ) → 266 < to → run ≤ run_of (to - 1) → to ≤ size → 10 + 256 * run < size
+run_is_had zero to size far high within = omega (arith, far, within)
+run_is_had (suc run) to size far high within = omega (arith, far, high, within)
+
+-- the near ones are all in the first run
+pub near_runs : (disk : List (List ℕ)) (inode : Inode) (from to : ℕ) → from < to → to ≤ 266 → asked_between disk inode from to ≡ pointers_for inode.indirect to ++ blocks_between disk inode from to
+near_runs disk inode from to some near =
+    let f : ℕ → List ℕ = asked_in_run disk inode from to in
+    let first : run_of from ≡ 0 = omega (arith, some, near) in
+    let count : run_of (to - 1) + 1 - run_of from ≡ 1 = omega (arith, some, near) in
+    let end : min to (run_end 0) ≡ to = omega (arith, near) in
+    let begin : max from (run_first 0) ≡ from = omega arith in
+    ap (λ (xs : List ℕ). xs ++ flat_map f (runs_between from to)) (cond-false (ltb 266 to) (inode.double ∷ []) [] (le-ltb 266 to near))
+    ∙ ap (λ (n : ℕ). flat_map f (range_with_len n (run_of (to - 1) + 1 - run_of from))) first ∙ ap (λ (n : ℕ). flat_map f (range_with_len 0 n)) count
+    ∙ flat_map-cons f 0 [] ∙ append-nil (f 0)
+    ∙ ap (λ (n : ℕ). pointers_for inode.indirect n ++ blocks_between disk inode (max from (run_first 0)) n) end
+    ∙ ap (λ (n : ℕ). pointers_for inode.indirect to ++ blocks_between disk inode n to) begin
+
+-- some bytes are asked for
+pub asked_some : (disk : List (List ℕ)) (inode : Inode) (at count : ℕ) → 0 < count → asked_to_read disk inode at count ≡ asked_between disk inode (at / block_size) (data_blocks (at + count))
+asked_some disk inode at count some =
+    cond-false (eqb count 0) [] (asked_between disk inode (at / block_size) (data_blocks (at + count))) (ne_eqb count 0 (λ e. omega (arith, e, some)))
 
 -- the block of a run, by the pointers of the double block
 pub run_pointers : (disk : List (List ℕ)) (inode : Inode) (double : List ℕ) (run pointers : ℕ) → run ≤ 256 → ((k : ℕ) → k < 256 → get_or double k 0 ≡ pointer_at (block_bytes disk inode.double) k)

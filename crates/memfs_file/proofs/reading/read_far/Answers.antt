@@ -1,5 +1,6 @@
-use Rattle.std.proofs.Common.{◌≡◌, ℕ, ◌+◌, ◌-◌, ◌*◌, ◌/◌, ◌<◌, ◌≤◌, ◌++◌, max, min, inl, inr, List, length, get_or, refl, sym, ap, subst, ◌∙◌, arith}
+use Rattle.std.proofs.Common.{◌≡◌, ℕ, ◌+◌, ◌-◌, ◌*◌, ◌/◌, ◌<◌, ◌≤◌, ◌++◌, max, min, inl, inr, List, [], ◌∷◌, length, ltb, get_or, refl, sym, ap, subst, ◌∙◌, arith}
 use Rattle.std.specs.List.{flat_map, range_with_len}
+use Rattle.std.proofs.lemmas.Bool.{cond-true, lt-ltb}
 use Rattle.posix_defs.specs.Asking.{AskedInTurn}
 use Rattle.posix_defs.specs.DiskFormat.{block_size, data_blocks}
 use Rattle.posix_defs.specs.SoundDisk.{block_bytes, block_of_run, pointer_at, pointer_block, run_of, Pointers, Sound}
@@ -21,9 +22,6 @@ get-requires g c =
     let inode = c.args.inode.now in
     let far : 266 < data_blocks inode.size = omega (arith, c.requires.far, c.requires.range.1, few_blocks (c.args.at + length c.args.out.now) inode.size c.requires.within) in
     (named_is_for_files disk c.requires.sound c.requires.node.0 inode (Pointers 1) c.requires.node.1.0 (omega (arith, far))).1
-
-abbrev double_at : (disk : List (List ℕ)) (number : ℕ) → List ℕ → Type 0
-double_at disk number double = (k : ℕ) → k < 256 → get_or double k 0 ≡ pointer_at (block_bytes disk number) k
 
 -- nothing is asked for at first
 nothing_asked : {Thing : Type 0} (asked : Thing → ℕ → Thing → Type 0) (thing : Thing) (f : ℕ → List ℕ) (run first : ℕ) → run ≡ first → AskedInTurn asked thing (flat_map f (range_with_len first (run - first))) thing
@@ -118,3 +116,25 @@ loop-run-preserved g c =
       asked = run_asked g.B.Blocks.asked c.get.new.self c.loop-run.b c.read_run.new.b (asked_in_run base inode c.args.from c.args.to) (run_of c.args.from) run low inv.asked this;
       follows = g.met.B.Blocks.follows_trans c.get.new.self c.loop-run.b c.read_run.new.b inv.follows c.read_run.ensures.follows;
     }
+
+pub returns-clause-bytes : goal.returns-clause-bytes
+returns-clause-bytes g c = λ k lt.
+    let inode = c.args.inode.now in
+    let within : run_of ((c.args.at + k) / block_size) < c.loop-run.run = omega (arith, lt, c.run_of-2.ensures, c.requires.range.1) in
+    c.loop-run.invariant.here k (omega (arith, lt, c.loop-run.auto.out)) within ∙ ap (λ (d : List (List ℕ)). byte_at d inode (c.args.at + k)) c.get.ensures.kept
+
+pub returns-clause-asked : goal.returns-clause-asked
+returns-clause-asked g c =
+    let was : List (List ℕ) = g.B.Blocks.blocks c.args.b.now in
+    let base : List (List ℕ) = g.B.Blocks.blocks c.get.new.self in
+    let inode = c.args.inode.now in
+    let runs : ℕ = run_of (c.args.to - 1) + 1 - run_of c.args.from in
+    let last : c.loop-run.run - run_of c.args.from ≡ runs = omega (arith, c.run_of.ensures, c.run_of-2.ensures, c.loop-run.auto.run) in
+    let all : AskedInTurn g.B.Blocks.asked c.get.new.self (flat_map (asked_in_run base inode c.args.from c.args.to) (range_with_len (run_of c.args.from) runs)) c.loop-run.b =
+    subst (λ (n : ℕ). AskedInTurn g.B.Blocks.asked c.get.new.self (flat_map (asked_in_run base inode c.args.from c.args.to) (range_with_len (run_of c.args.from) n)) c.loop-run.b) last c.loop-run.invariant.asked in
+    let rest : AskedInTurn g.B.Blocks.asked c.get.new.self (flat_map (asked_in_run was inode c.args.from c.args.to) (runs_between c.args.from c.args.to)) c.loop-run.b =
+    subst (λ (d : List (List ℕ)). AskedInTurn g.B.Blocks.asked c.get.new.self (flat_map (asked_in_run d inode c.args.from c.args.to) (runs_between c.args.from c.args.to)) c.loop-run.b) c.get.ensures.kept all in
+    let double : double_for inode c.args.to ≡ inode.double ∷ [] = cond-true (ltb 266 c.args.to) (inode.double ∷ []) [] (lt-ltb 266 c.args.to c.requires.far) in
+    subst (λ (xs : List ℕ). AskedInTurn g.B.Blocks.asked c.args.b.now (xs ++ flat_map (asked_in_run was inode c.args.from c.args.to) (runs_between c.args.from c.args.to)) c.loop-run.b) (sym double) (
+    asked_append g.B.Blocks.asked c.args.b.now c.get.new.self c.loop-run.b (inode.double ∷ []) (flat_map (asked_in_run was inode c.args.from c.args.to) (runs_between c.args.from c.args.to)) (c.get.new.self, c.get.ensures.asked, refl) rest
+    )
