@@ -134,7 +134,7 @@ pub fn refuse(script: &Script, objects: &mut Objects, pid: u32)
         unreachable!();
     };
     let reply = Reply::Fail(Errno::ENOMEM);
-    let _ = go_on(script, objects, pid, caller.control, reply);
+    let _ = go_on(script, objects, &caller, reply);
     objects.heap.mark();
 }
 

@@ -22,11 +22,11 @@ ghost use Rattle.store_objects.specs.Uses.{UsesAtMost};
 ghost use Rattle.store_objects.specs.Walking.{Serves};
 ghost use Rattle.file_calls.specs.Starting.{CachesShed, begun_in, forgotten_in, shed_in, started_in};
 
-use kabi_types::{Control, Reply, Script};
+use kabi_types::{Reply, Script};
 use kheap_slabs::Purse;
 use posix_defs::Turned;
 use proc_files::{close_at_exec, program_for};
-use store_objects::{Objects, go_on, kept_back};
+use store_objects::{Caller, Objects, go_on, kept_back};
 
 /// Has the caller start the program whose line (`#!`, its name and a newline) the file begins with to which a path leads: from then on
 /// it has nothing in memory, and has closed what an exec closes (FD_CLOEXEC); the other descriptors and its registers stay, and the
@@ -38,23 +38,23 @@ use store_objects::{Objects, go_on, kept_back};
 /// What the closings ask for of the heap meanwhile is kept back for them, and is given back.
 ///
 /// <https://pubs.opengroup.org/onlinepubs/9699919799/functions/exec.html>
+#[inline(never)]
 pub fn exec(
     script: &Script,
     objects: &mut Objects,
     purse: &mut Purse,
-    pid: u32,
-    control: Control,
+    caller: &Caller,
     path: &[u8],
 ) -> Turned
     requires stands { (world : World) × StandsFor script.now objects.old world × IsSound world.plain }
-    requires runs { Runs objects.old pid control }
+    requires runs { Runs objects.old caller.now.pid caller.now.control }
     requires right { argument_fault (Call.Exec path.now) ≡ None }
     requires may { MayWalk objects.old.heap purse.old }
     requires needed { purse.old.left ≡ need_of (Call.Exec path.now) }
     requires room { live_bytes objects.old.heap + bound (Call.Exec path.now) + reserve ≤ objects.old.heap.heap }
     ensures kept { AreKept script.now objects.new }
     ensures uses { UsesAtMost objects.old.heap objects.new.heap (bound (Call.Exec path.now)) reserve }
-    ensures does { Serves script.now objects.old pid (Call.Exec path.now) (λ plain. exec script.now plain pid path.now) result objects.new }
+    ensures does { Serves script.now objects.old caller.now.pid (Call.Exec path.now) (λ plain. exec script.now plain caller.now.pid path.now) result objects.new }
 {
     objects.heap_is_well_formed();
     let found = program_for(
@@ -62,20 +62,20 @@ pub fn exec(
         purse,
         &objects.procs,
         &mut objects.tree,
-        pid,
+        caller.pid,
         path,
         script,
     );
     match found {
-        Ok(program) => start(script, objects, pid, control, program),
-        Err(errno) => go_on(script, objects, pid, control, Reply::Fail(errno)),
+        Ok(program) => start(script, objects, caller, program),
+        Err(errno) => go_on(script, objects, caller, Reply::Fail(errno)),
     }
 }
 
 // A process that stands at this control starts a program.
-fn start(script: &Script, objects: &mut Objects, pid: u32, control: Control, program: u32) -> Turned
+fn start(script: &Script, objects: &mut Objects, caller: &Caller, program: u32) -> Turned
     requires stands { (world : World) × StandsFor script.now objects.old world × IsSound world.plain }
-    requires runs { Runs objects.old pid control }
+    requires runs { Runs objects.old caller.now.pid caller.now.control }
     requires room { live_bytes objects.old.heap + reserve ≤ objects.old.heap.heap }
     requires there { program < length script.now.programs }
     ensures kept { AreKept script.now objects.new }
@@ -83,11 +83,11 @@ fn start(script: &Script, objects: &mut Objects, pid: u32, control: Control, pro
     ensures told { result ≡ turned.Done (reply.Val (pos 0)) }
     ensures shed { CachesShed objects.old objects.new }
     ensures starts { (world : World) → StandsFor script.now objects.old world → IsSound world.plain
-        → StandsFor script.now objects.new (started_in script.now objects.new.tree world pid program) }
+        → StandsFor script.now objects.new (started_in script.now objects.new.tree world caller.now.pid program) }
 {
-    forget_memory(objects, pid);
-    shed(script, objects, pid);
-    begin(script, objects, pid, control, program)
+    forget_memory(objects, caller.pid);
+    shed(script, objects, caller.pid);
+    begin(script, objects, caller, program)
 }
 
 // A process has nothing in memory any more.
@@ -128,20 +128,20 @@ fn shed(script: &Script, objects: &mut Objects, pid: u32)
 }
 
 // A process that stood at this control is at the beginning of a program.
-fn begin(script: &Script, objects: &mut Objects, pid: u32, control: Control, program: u32) -> Turned
+fn begin(script: &Script, objects: &mut Objects, caller: &Caller, program: u32) -> Turned
     requires kept { AreKept script.now objects.old }
     requires valid { IsValid script.now }
-    requires runs { Runs objects.old pid control }
+    requires runs { Runs objects.old caller.now.pid caller.now.control }
     requires there { program < length script.now.programs }
     ensures kept { AreKept script.now objects.new }
     ensures told { result ≡ turned.Done (reply.Val (pos 0)) }
     ensures takes { TakesNothing objects.old.heap objects.new.heap }
     ensures tree { objects.new.tree ≡ objects.old.tree }
-    ensures begins { (world : World) → StandsFor script.now objects.old world → StandsFor script.now objects.new (begun_in script.now world pid program) }
+    ensures begins { (world : World) → StandsFor script.now objects.old world → StandsFor script.now objects.new (begun_in script.now world caller.now.pid program) }
 {
-    let mut beginning = control;
+    let mut beginning = caller.control;
     prog_ctl::restart(&mut beginning, program);
     prog_ctl::go_to_call(script, &mut beginning);
-    objects.move_on(pid, beginning);
+    objects.move_on(caller.pid, beginning);
     Turned::Done(Reply::Val(0))
 }

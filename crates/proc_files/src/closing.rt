@@ -29,7 +29,7 @@ use bound_table::BoundTable;
 use kabi_types::Errno;
 use kheap_slabs::{KHeap, Purse, Target};
 use memfs_ops::FileTree;
-use proc_numbers::{count_of, descriptor_of, places_of};
+use proc_numbers::{close_one, count_of, descriptor_of, places_of};
 use proc_table::ProcTable;
 
 /// A process closes a number, whatever it is open on. With the last descriptor that names it a description goes, and what it was
@@ -76,7 +76,10 @@ pub fn close_number(
     Ok(())
 }
 
-/// A process has a number open no more, whatever it was open on. One that isn't open changes nothing.
+/// A process has a number open no more, whatever it was open on: `close`, `dup2`, `exec` and the end of a process close by this.
+///
+/// A socket that goes has no name before. With the last descriptor that names it a description goes, and what it was open on is
+/// closed; a file without links goes with the last description of it. A number that isn't open changes nothing.
 ///
 /// The purse pays for the blocks that this asks for, and is then as it was.
 pub(crate) fn close_open(
@@ -111,7 +114,10 @@ pub(crate) fn close_open(
     ensures cached { KeepsCached tree.old tree.new }
 {
     unname_going(heap, procs, names, pid, fd);
-    crate::node_closing::close_unbound(heap, purse, procs, tree, pid, fd);
+    let Some(node) = close_one(heap, procs, pid, fd) else {
+        return;
+    };
+    tree.close_node(heap, purse, node);
 }
 
 // The socket that goes with a number of a process, if one does, has no name from now on.

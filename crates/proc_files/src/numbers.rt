@@ -1,6 +1,6 @@
 //! Whether a number is open on a node.
 
-ghost use Rattle.std.specs.Prelude.{◌≡◌, ℕ, [], IsSome, false, is_some, true};
+ghost use Rattle.std.specs.Prelude.{◌≡◌, [], IsSome, false, is_some, true};
 ghost use Rattle.open_laws.specs.Described.{node_in};
 ghost use Rattle.open_laws.specs.Owned.{HasItsOwners};
 ghost use Rattle.open_laws.specs.Placed.{Numbers};
@@ -9,7 +9,7 @@ ghost use Rattle.posix_defs.specs.Files.State.{Files};
 ghost use Rattle.posix_defs.specs.Reaching.{is_on_node as plain_on_node};
 ghost use Rattle.proc_table.specs.Table.{key_of};
 ghost use Rattle.proc_numbers.specs.Having.{AreListed, HaveOpen};
-ghost use Rattle.proc_files.specs.Reading.{IsOffNodes, IsOnNode};
+ghost use Rattle.proc_numbers.specs.Found.{IsOffNodes, IsOnNode};
 
 use kheap_slabs::{KHeap, Target};
 use proc_numbers::descriptor_of;

@@ -1,6 +1,6 @@
 //! `read` and `pread` of files, and `readdir`.
 
-ghost use Rattle.std.specs.Prelude.{◌≡◌, ◌/◌, ◌-◌, ◌+◌, ◌%◌, ◌≤◌, ◌<◌, ℕ, None, Some, IsSome, length};
+ghost use Rattle.std.specs.Prelude.{◌≡◌, ◌/◌, ◌-◌, ◌+◌, ◌%◌, ◌≤◌, ◌<◌, ℕ, None, Some, length};
 ghost use Rattle.std.specs.List.{AllByRecursion};
 ghost use Rattle.kabi_types.specs.Arguments.{argument_fault, count_of};
 ghost use Rattle.kabi_types.specs.declared.calls.Call.{Call};
@@ -30,7 +30,8 @@ ghost use Rattle.proc_table.specs.Table.{processes};
 ghost use Rattle.proc_numbers.specs.Standing.{IsKept, StandsFor};
 ghost use Rattle.proc_files.specs.Answering.{StaysOffNodes};
 ghost use Rattle.proc_files.specs.Holding.{HoldFiles, HoldSome};
-ghost use Rattle.proc_files.specs.Reading.{HoldsDirectory, HoldsFile, IsOnNode, KeepsRead, LeadsHolding, ReadsNode, SavesRead, moved_by};
+ghost use Rattle.proc_numbers.specs.Found.{IsOnNode};
+ghost use Rattle.proc_files.specs.Reading.{HoldsDirectory, HoldsFile, KeepsRead, LeadsHolding, ReadsNode, SavesRead, moved_by};
 
 use crate::nodes::{is_directory, may_read, move_to};
 use crate::spaces::{FileBuffer, Range, range_of};

@@ -23,7 +23,8 @@ ghost use Rattle.proc_table.specs.Table.{processes};
 ghost use Rattle.proc_numbers.specs.Standing.{IsKept, StandsFor};
 ghost use Rattle.proc_files.specs.Answering.{StaysOffNodes};
 ghost use Rattle.proc_files.specs.Holding.{HoldFiles, HoldSome};
-ghost use Rattle.proc_files.specs.Reading.{HoldsFile, IsOnNode, LeadsHolding};
+ghost use Rattle.proc_numbers.specs.Found.{IsOnNode};
+ghost use Rattle.proc_files.specs.Reading.{HoldsFile, LeadsHolding};
 
 use crate::nodes::{is_directory, may_write, move_to};
 use crate::spaces::{FileBuffer, Range, range_of};

@@ -12,27 +12,27 @@ ghost use Rattle.store_objects.specs.Objects.{AreKept, Runs};
 ghost use Rattle.store_objects.specs.Standing.{Performs, StandsFor};
 
 use crate::told::go_on_done;
-use kabi_types::{Control, PollList, Script};
+use kabi_types::{PollList, Script};
 use posix_defs::Turned;
-use store_objects::Objects;
+use store_objects::{Caller, Objects};
 
 /// Tells what each entry is ready for; sleeps with timeout -1 where none is ready for anything (POSIX poll).
+#[inline(never)]
 pub fn poll(
     script: &Script,
     objects: &mut Objects,
-    pid: u32,
-    control: Control,
+    caller: &Caller,
     timeout: i64,
     entries: &PollList,
 ) -> Turned
     requires kept { AreKept script.now objects.old }
-    requires runs { Runs objects.old pid control }
+    requires runs { Runs objects.old caller.now.pid caller.now.control }
     ensures kept { AreKept script.now objects.new }
     ensures takes { TakesNothing objects.old.heap objects.new.heap }
-    ensures does { Performs script.now objects.old pid (Call.Poll timeout entries.now) (λ plain. poll script.now plain pid timeout entries.now) result objects.new }
+    ensures does { Performs script.now objects.old caller.now.pid (Call.Poll timeout entries.now) (λ plain. poll script.now plain caller.now.pid timeout entries.now) result objects.new }
 {
-    let told = proc_numbers::poll(&objects.heap, &objects.procs, pid, timeout, entries);
-    go_on_done(script, objects, pid, control, told)
+    let told = proc_numbers::poll(&objects.heap, &objects.procs, caller.pid, timeout, entries);
+    go_on_done(script, objects, caller, told)
 }
 
 /// Whether a `poll` of a live process would sleep, whatever its operands are.

@@ -10,7 +10,7 @@ ghost use Rattle.prog_ctl.specs.Runnable.{Rests, Stands};
 ghost use Rattle.store_objects.specs.Objects.{AreKept, Runs};
 ghost use Rattle.store_objects.specs.Standing.{StandsFor, answered_in};
 
-use crate::objects::Objects;
+use crate::objects::{Caller, Objects};
 use kabi_types::{Control, Reply, Script};
 use posix_defs::Turned;
 
@@ -28,22 +28,16 @@ pub fn behind(script: &Script, mut control: Control, reply: &Reply) -> Control
     control
 }
 
-/// The process goes on behind its call, at which it stands, and which got this reply.
-pub fn go_on(
-    script: &Script,
-    objects: &mut Objects,
-    pid: u32,
-    control: Control,
-    reply: Reply,
-) -> Turned
+/// The caller goes on behind its call, at which it stands, and which got this reply.
+pub fn go_on(script: &Script, objects: &mut Objects, caller: &Caller, reply: Reply) -> Turned
     requires kept { AreKept script.now objects.old }
-    requires runs { Runs objects.old pid control }
+    requires runs { Runs objects.old caller.now.pid caller.now.control }
     ensures kept { AreKept script.now objects.new }
     ensures told { result ≡ turned.Done reply }
     ensures takes { TakesNothing objects.old.heap objects.new.heap }
     ensures tree { objects.new.tree ≡ objects.old.tree }
-    ensures goes { (world : World) → StandsFor script.now objects.old world → StandsFor script.now objects.new (answered_in script.now world pid reply) }
+    ensures goes { (world : World) → StandsFor script.now objects.old world → StandsFor script.now objects.new (answered_in script.now world caller.now.pid reply) }
 {
-    objects.move_on(pid, behind(script, control, &reply));
+    objects.move_on(caller.pid, behind(script, caller.control, &reply));
     Turned::Done(reply)
 }

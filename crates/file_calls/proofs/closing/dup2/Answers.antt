@@ -27,7 +27,7 @@ pub dup_number-made-requires-clause-owners : goal.dup_number-made-requires-claus
 dup_number-made-requires-clause-owners c = c.requires.stands.1.kept.owners
 
 pub dup_number-made-requires-clause-there : goal.dup_number-made-requires-clause-there
-dup_number-made-requires-clause-there c = key_who_runs c.args.script.now c.args.objects.now c.args.pid c.args.control c.requires.stands.1.kept c.requires.runs
+dup_number-made-requires-clause-there c = key_who_runs c.args.script.now c.args.objects.now c.args.caller.now.pid c.args.caller.now.control c.requires.stands.1.kept c.requires.runs
 
 pub dup_number-made-requires-clause-hold : goal.dup_number-made-requires-clause-hold
 dup_number-made-requires-clause-hold c =
@@ -42,14 +42,14 @@ pub go_on-requires-clause-kept : goal.go_on-requires-clause-kept
 go_on-requires-clause-kept c =
     let n = c.dup_number-made in
     let some = n.ensures.hold in
-    kept_mid c.args.script.now c.args.objects.now n.new.heap n.new.tree n.new.names c.args.pid c.args.control c.requires.stands.1.kept c.requires.runs n.ensures.changes n.ensures.listed n.ensures.owners
+    kept_mid c.args.script.now c.args.objects.now n.new.heap n.new.tree n.new.names c.args.caller.now.pid c.args.caller.now.control c.requires.stands.1.kept c.requires.runs n.ensures.changes n.ensures.listed n.ensures.owners
     some.hold.bound n.ensures.places (record { numbers = some.numbers; others = some.others; files = some.files; hold = some.hold.held })
 
 pub go_on-requires-clause-runs : goal.go_on-requires-clause-runs
 go_on-requires-clause-runs c =
     let n = c.dup_number-made in
     let some = n.ensures.hold in
-    runs_mid c.args.script.now c.args.objects.now n.new.heap n.new.tree n.new.names c.args.pid c.args.control c.requires.stands.1.kept c.requires.runs n.ensures.changes n.ensures.listed n.ensures.owners
+    runs_mid c.args.script.now c.args.objects.now n.new.heap n.new.tree n.new.names c.args.caller.now.pid c.args.caller.now.control c.requires.stands.1.kept c.requires.runs n.ensures.changes n.ensures.listed n.ensures.owners
     some.hold.bound n.ensures.places (record { numbers = some.numbers; others = some.others; files = some.files; hold = some.hold.held })
 
 pub returns-clause-uses : goal.returns-clause-uses
@@ -64,7 +64,7 @@ pub returns-clause-does : goal.returns-clause-does
 returns-clause-does c =
     let script = c.args.script.now in
     let old = c.args.objects.now in
-    let pid = c.args.pid in
+    let pid = c.args.caller.now.pid in
     let n = c.dup_number-made in
     let some = n.ensures.hold in
     let kept = c.requires.stands.1.kept in
@@ -73,9 +73,9 @@ returns-clause-does c =
     let fd = to_z-of_z w64 c.args.fd c.ranges.fd in
     let to = to_z-of_z w64 c.args.to c.ranges.to in
     let one : HoldSome n.new.heap old.procs n.new.tree = record { numbers = some.numbers; others = some.others; files = some.files; hold = some.hold.held } in
-    serves_naming script old n.new.heap n.new.tree n.new.names pid c.args.control kept c.requires.runs n.ensures.changes n.ensures.listed n.ensures.owners some.hold.bound n.ensures.places one
+    serves_naming script old n.new.heap n.new.tree n.new.names pid c.args.caller.now.control kept c.requires.runs n.ensures.changes n.ensures.listed n.ensures.owners some.hold.bound n.ensures.places one
     which said c.go_on.result c.go_on.new.objects (λ plain. dup2 script plain pid c.args.fd c.args.to) c.heap_is_well_formed.ensures
-    (within_same old (mid script old n.new.heap n.new.tree n.new.names pid c.args.control kept c.requires.runs n.ensures.changes n.ensures.listed n.ensures.owners some.hold.bound n.ensures.places one)
+    (within_same old (mid script old n.new.heap n.new.tree n.new.names pid c.args.caller.now.control kept c.requires.runs n.ensures.changes n.ensures.listed n.ensures.owners some.hold.bound n.ensures.places one)
     c.kept_back-purse.result n.new.purse which n.ensures.paid n.ensures.same n.ensures.reads)
     n.ensures.queues c.go_on.ensures.told c.go_on.ensures.goes (no_frames which (λ frames pid value. refl) pid said)
     (λ numbers others plain hold.
@@ -84,7 +84,7 @@ returns-clause-does c =
     (subst (λ z. AnswersNaming numbers others n.new.heap old.procs n.new.tree n.new.names script plain pid (dup2 script plain pid z (to_z w64 (of_z w64 c.args.to))) (value_of n.result)) fd
     (n.ensures.answers numbers others script plain hold))))
     (λ world next stands.
-    leaves_numbers old (mid script old n.new.heap n.new.tree n.new.names pid c.args.control kept c.requires.runs n.ensures.changes n.ensures.listed n.ensures.owners some.hold.bound n.ensures.places one)
+    leaves_numbers old (mid script old n.new.heap n.new.tree n.new.names pid c.args.caller.now.control kept c.requires.runs n.ensures.changes n.ensures.listed n.ensures.owners some.hold.bound n.ensures.places one)
     world pid which (record { right = refl; paths = refl; leaves = refl; walks = refl }) said next
     (λ off.
     let first = c.requires.stands in

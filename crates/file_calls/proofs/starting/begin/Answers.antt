@@ -15,7 +15,7 @@ move_on-requires-clause-there c = ap is_some c.requires.runs.found
 
 pub returns-clause-kept : goal.returns-clause-kept
 returns-clause-kept c =
-    kept_moved c.args.script.now c.args.objects.now c.move_on.new.self c.args.pid c.go_to_call.new.control c.requires.kept c.move_on.ensures c.go_to_call.ensures.stands c.go_to_call.ensures.rests
+    kept_moved c.args.script.now c.args.objects.now c.move_on.new.self c.args.caller.now.pid c.go_to_call.new.control c.requires.kept c.move_on.ensures c.go_to_call.ensures.stands c.go_to_call.ensures.rests
 
 pub returns-clause-takes : goal.returns-clause-takes
 returns-clause-takes c = c.move_on.ensures.takes
@@ -26,7 +26,7 @@ returns-clause-tree c = c.move_on.ensures.tree
 pub returns-clause-begins : goal.returns-clause-begins
 returns-clause-begins c = λ world stands.
     let script = c.args.script.now in
-    goes_to script c.args.objects.now c.move_on.new.self world c.args.pid (restarted (settled script (control_of world.plain c.args.pid)) c.args.program) c.go_to_call.new.control stands c.move_on.ensures
+    goes_to script c.args.objects.now c.move_on.new.self world c.args.caller.now.pid (restarted (settled script (control_of world.plain c.args.caller.now.pid)) c.args.program) c.go_to_call.new.control stands c.move_on.ensures
     c.go_to_call.ensures.stands c.go_to_call.ensures.rests
-    (ap (λ control. settled script (restarted control c.args.program)) (led_to script c.args.objects.now world.plain c.args.pid c.args.control c.requires.runs stands.processes)
+    (ap (λ control. settled script (restarted control c.args.program)) (led_to script c.args.objects.now world.plain c.args.caller.now.pid c.args.caller.now.control c.requires.runs stands.processes)
     ∙ ap (settled script) (sym c.restart.ensures.restarted) ∙ sym c.go_to_call.ensures.settled)

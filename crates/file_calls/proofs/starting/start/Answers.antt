@@ -12,15 +12,15 @@ pub forget_memory-requires-clause-kept : goal.forget_memory-requires-clause-kept
 forget_memory-requires-clause-kept c = (c.args.script.now, c.requires.stands.1.kept)
 
 pub forget_memory-requires-clause-alive : goal.forget_memory-requires-clause-alive
-forget_memory-requires-clause-alive c = alive_who_runs c.args.objects.now c.args.pid c.args.control c.requires.runs
+forget_memory-requires-clause-alive c = alive_who_runs c.args.objects.now c.args.caller.now.pid c.args.caller.now.control c.requires.runs
 
 pub shed-requires-clause-stands : goal.shed-requires-clause-stands
 shed-requires-clause-stands c =
     let some = c.requires.stands in
-    (forgotten_in some.0 c.args.pid, c.forget_memory.ensures.forgotten c.args.script.now some.0 some.1, record { nodes = some.2.nodes; names = some.2.names })
+    (forgotten_in some.0 c.args.caller.now.pid, c.forget_memory.ensures.forgotten c.args.script.now some.0 some.1, record { nodes = some.2.nodes; names = some.2.names })
 
 pub shed-requires-clause-alive : goal.shed-requires-clause-alive
-shed-requires-clause-alive c = alive_who_runs c.forget_memory.new.objects c.args.pid c.args.control (c.forget_memory.ensures.runs c.args.control c.requires.runs)
+shed-requires-clause-alive c = alive_who_runs c.forget_memory.new.objects c.args.caller.now.pid c.args.caller.now.control (c.forget_memory.ensures.runs c.args.caller.now.control c.requires.runs)
 
 pub shed-requires-clause-room : goal.shed-requires-clause-room
 shed-requires-clause-room c = room_still c.args.objects.now.heap c.forget_memory.new.objects.heap c.forget_memory.ensures.takes c.requires.room
@@ -29,7 +29,7 @@ pub begin-requires-clause-valid : goal.begin-requires-clause-valid
 begin-requires-clause-valid c = c.requires.stands.1.valid
 
 pub begin-requires-clause-runs : goal.begin-requires-clause-runs
-begin-requires-clause-runs c = c.shed.ensures.runs c.args.control (c.forget_memory.ensures.runs c.args.control c.requires.runs)
+begin-requires-clause-runs c = c.shed.ensures.runs c.args.caller.now.control (c.forget_memory.ensures.runs c.args.caller.now.control c.requires.runs)
 
 pub returns-clause-uses : goal.returns-clause-uses
 returns-clause-uses c =
@@ -46,7 +46,7 @@ returns-clause-shed c =
 pub returns-clause-starts : goal.returns-clause-starts
 returns-clause-starts c = λ world stands sound.
     let script = c.args.script.now in
-    let pid = c.args.pid in
+    let pid = c.args.caller.now.pid in
     let first = forgotten_in world pid in
     subst (λ (fs : TreeView). StandsFor script c.begin.new.objects (started_in script fs world pid c.args.program)) (sym c.begin.ensures.tree)
     (c.begin.ensures.begins (shed_in c.shed.new.objects.tree first pid)

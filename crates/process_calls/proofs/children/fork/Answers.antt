@@ -19,22 +19,22 @@ pub fork-requires-clause-alive : goal.fork-requires-clause-alive
 fork-requires-clause-alive c = record { proc = c.requires.runs.proc; there = c.requires.runs.found; runs = c.requires.runs.up }
 
 pub fork-requires-clause-shares : goal.fork-requires-clause-shares
-fork-requires-clause-shares c = λ parent there. can_share c.args.script.now c.args.objects.now c.args.pid parent c.requires.kept c.heap_is_well_formed.ensures there
+fork-requires-clause-shares c = λ parent there. can_share c.args.script.now c.args.objects.now c.args.caller.now.pid parent c.requires.kept c.heap_is_well_formed.ensures there
 
 pub behind-requires-clause-stands : goal.behind-requires-clause-stands
-behind-requires-clause-stands c = let at = at_its_call c.args.script.now c.args.objects.now c.args.pid c.args.control c.requires.kept c.requires.runs in at.0
+behind-requires-clause-stands c = let at = at_its_call c.args.script.now c.args.objects.now c.args.caller.now.pid c.args.caller.now.control c.requires.kept c.requires.runs in at.0
 
 pub behind-requires-clause-rests : goal.behind-requires-clause-rests
-behind-requires-clause-rests c = let at = at_its_call c.args.script.now c.args.objects.now c.args.pid c.args.control c.requires.kept c.requires.runs in at.1
+behind-requires-clause-rests c = let at = at_its_call c.args.script.now c.args.objects.now c.args.caller.now.pid c.args.caller.now.control c.requires.kept c.requires.runs in at.1
 
 pub move_on-requires-clause-stored : goal.move_on-requires-clause-stored
 move_on-requires-clause-stored c = c.fork.ensures.moves.holds.stored
 
 pub move_on-requires-clause-there : goal.move_on-requires-clause-there
 move_on-requires-clause-there c =
-    child_there c.args.script.now c.args.objects.now (record { heap = c.fork.new.heap; procs = c.fork.new.self; tree = c.args.objects.now.tree; names = c.args.objects.now.names }) c.args.pid c.in-Ok.child c.args.control
+    child_there c.args.script.now c.args.objects.now (record { heap = c.fork.new.heap; procs = c.fork.new.self; tree = c.args.objects.now.tree; names = c.args.objects.now.names }) c.args.caller.now.pid c.in-Ok.child c.args.caller.now.control
     c.requires.kept c.requires.runs c.fork.ensures.moves refl refl
-    (record { can = can_share c.args.script.now c.args.objects.now c.args.pid c.requires.runs.proc c.requires.kept c.heap_is_well_formed.ensures c.requires.runs.found; descs = c.in-Ok.ensures.shared c.requires.runs.proc c.requires.runs.found })
+    (record { can = can_share c.args.script.now c.args.objects.now c.args.caller.now.pid c.requires.runs.proc c.requires.kept c.heap_is_well_formed.ensures c.requires.runs.found; descs = c.in-Ok.ensures.shared c.requires.runs.proc c.requires.runs.found })
     c.in-Ok.ensures.child
 
 pub directory_of-directory-requires-clause-stored : goal.directory_of-directory-requires-clause-stored
@@ -47,24 +47,24 @@ pub hold_directory-requires : goal.hold_directory-requires
 hold_directory-requires c = record {
   held = λ other.
       let some = c.requires.stands in
-      may_hold c.args.script.now c.args.objects.now (record { heap = c.fork.new.heap; procs = c.fork.new.self; tree = c.args.objects.now.tree; names = c.args.objects.now.names }) c.move_on.new.self c.args.pid c.in-Ok.child c.args.control c.behind.result
+      may_hold c.args.script.now c.args.objects.now (record { heap = c.fork.new.heap; procs = c.fork.new.self; tree = c.args.objects.now.tree; names = c.args.objects.now.names }) c.move_on.new.self c.args.caller.now.pid c.in-Ok.child c.args.caller.now.control c.behind.result
       c.requires.kept c.requires.runs c.fork.ensures.moves refl refl
-      (record { can = can_share c.args.script.now c.args.objects.now c.args.pid c.requires.runs.proc c.requires.kept c.heap_is_well_formed.ensures c.requires.runs.found; descs = c.in-Ok.ensures.shared c.requires.runs.proc c.requires.runs.found })
+      (record { can = can_share c.args.script.now c.args.objects.now c.args.caller.now.pid c.requires.runs.proc c.requires.kept c.heap_is_well_formed.ensures c.requires.runs.found; descs = c.in-Ok.ensures.shared c.requires.runs.proc c.requires.runs.found })
       c.in-Ok.ensures.child (number_of _ _ c.in-Ok.child (sym c.in-Ok.is ∙ c.fork.ensures.answer)) c.move_on.ensures
       c.directory_of-directory.result (c.directory_of-directory.ensures c.requires.runs.proc c.requires.runs.found) other some.0 some.1 c.heap_is_well_formed.ensures;
 }
 
 pub go_on-requires-clause-kept : goal.go_on-requires-clause-kept
 go_on-requires-clause-kept c =
-    kept_pinned c.args.script.now c.args.objects.now (record { heap = c.fork.new.heap; procs = c.fork.new.self; tree = c.args.objects.now.tree; names = c.args.objects.now.names }) c.move_on.new.self c.hold_directory.new.objects c.args.pid c.in-Ok.child c.directory_of-directory.result c.args.control c.behind.result
-    c.requires.kept c.requires.runs c.fork.ensures.moves refl refl (record { can = can_share c.args.script.now c.args.objects.now c.args.pid c.requires.runs.proc c.requires.kept c.heap_is_well_formed.ensures c.requires.runs.found; descs = c.in-Ok.ensures.shared c.requires.runs.proc c.requires.runs.found })
+    kept_pinned c.args.script.now c.args.objects.now (record { heap = c.fork.new.heap; procs = c.fork.new.self; tree = c.args.objects.now.tree; names = c.args.objects.now.names }) c.move_on.new.self c.hold_directory.new.objects c.args.caller.now.pid c.in-Ok.child c.directory_of-directory.result c.args.caller.now.control c.behind.result
+    c.requires.kept c.requires.runs c.fork.ensures.moves refl refl (record { can = can_share c.args.script.now c.args.objects.now c.args.caller.now.pid c.requires.runs.proc c.requires.kept c.heap_is_well_formed.ensures c.requires.runs.found; descs = c.in-Ok.ensures.shared c.requires.runs.proc c.requires.runs.found })
     c.in-Ok.ensures.child (number_of _ _ c.in-Ok.child (sym c.in-Ok.is ∙ c.fork.ensures.answer)) c.move_on.ensures
     (c.directory_of-directory.ensures c.requires.runs.proc c.requires.runs.found) c.hold_directory.ensures.only c.hold_directory.ensures.stands c.behind.ensures.stands c.behind.ensures.rests
 
 pub go_on-requires-clause-runs : goal.go_on-requires-clause-runs
 go_on-requires-clause-runs c =
-    runs_pinned c.args.script.now c.args.objects.now (record { heap = c.fork.new.heap; procs = c.fork.new.self; tree = c.args.objects.now.tree; names = c.args.objects.now.names }) c.move_on.new.self c.hold_directory.new.objects c.args.pid c.in-Ok.child c.directory_of-directory.result c.args.control c.behind.result
-    c.requires.kept c.requires.runs c.fork.ensures.moves refl refl (record { can = can_share c.args.script.now c.args.objects.now c.args.pid c.requires.runs.proc c.requires.kept c.heap_is_well_formed.ensures c.requires.runs.found; descs = c.in-Ok.ensures.shared c.requires.runs.proc c.requires.runs.found })
+    runs_pinned c.args.script.now c.args.objects.now (record { heap = c.fork.new.heap; procs = c.fork.new.self; tree = c.args.objects.now.tree; names = c.args.objects.now.names }) c.move_on.new.self c.hold_directory.new.objects c.args.caller.now.pid c.in-Ok.child c.directory_of-directory.result c.args.caller.now.control c.behind.result
+    c.requires.kept c.requires.runs c.fork.ensures.moves refl refl (record { can = can_share c.args.script.now c.args.objects.now c.args.caller.now.pid c.requires.runs.proc c.requires.kept c.heap_is_well_formed.ensures c.requires.runs.found; descs = c.in-Ok.ensures.shared c.requires.runs.proc c.requires.runs.found })
     c.in-Ok.ensures.child (number_of _ _ c.in-Ok.child (sym c.in-Ok.is ∙ c.fork.ensures.answer)) c.move_on.ensures
     (c.directory_of-directory.ensures c.requires.runs.proc c.requires.runs.found) c.hold_directory.ensures.only c.hold_directory.ensures.stands
 
@@ -74,7 +74,7 @@ go_on-requires-in-Err-clause-kept c =
 
 pub go_on-requires-in-Err-clause-runs : goal.go_on-requires-in-Err-clause-runs
 go_on-requires-in-Err-clause-runs c =
-    subst (λ objects. Runs objects c.args.pid c.args.control)
+    subst (λ objects. Runs objects c.args.caller.now.pid c.args.caller.now.control)
     (sym (same_objects c.args.objects.now c.fork.new.heap c.fork.new.self c.in-Err.ensures.unchanged.0 c.in-Err.ensures.unchanged.1)) c.requires.runs
 
 pub returns-in-Ok-clause-paid : goal.returns-in-Ok-clause-paid
@@ -96,21 +96,21 @@ returns-in-Ok-clause-does c =
     let mid : Objects = record { heap = c.fork.new.heap; procs = c.fork.new.self; tree = c.args.objects.now.tree; names = c.args.objects.now.names } in
     let answer : Ok c.in-Ok.child ≡ forked_as _ c.args.objects.now.procs.last = sym c.in-Ok.is ∙ c.fork.ensures.answer in
     let value : _ ≡ pos c.in-Ok.child = to_z-of_z w64 c.from.result (record { sfits = c.from.type_inv }) ∙ c.from.ensures in
-    does_fork script c.args.objects.now mid c.move_on.new.self c.hold_directory.new.objects c.args.pid c.in-Ok.child c.directory_of-directory.result c.args.control c.behind.result
+    does_fork script c.args.objects.now mid c.move_on.new.self c.hold_directory.new.objects c.args.caller.now.pid c.in-Ok.child c.directory_of-directory.result c.args.caller.now.control c.behind.result
     c.requires.kept c.requires.runs c.fork.ensures.moves refl refl
-    (record { can = can_share c.args.script.now c.args.objects.now c.args.pid c.requires.runs.proc c.requires.kept c.heap_is_well_formed.ensures c.requires.runs.found; descs = c.in-Ok.ensures.shared c.requires.runs.proc c.requires.runs.found })
+    (record { can = can_share c.args.script.now c.args.objects.now c.args.caller.now.pid c.requires.runs.proc c.requires.kept c.heap_is_well_formed.ensures c.requires.runs.found; descs = c.in-Ok.ensures.shared c.requires.runs.proc c.requires.runs.found })
     c.in-Ok.ensures.child (number_of _ _ c.in-Ok.child answer) c.move_on.ensures
     (c.directory_of-directory.ensures c.requires.runs.proc c.requires.runs.found) c.hold_directory.ensures.only c.hold_directory.ensures.stands
     c.go_on.new.objects c.go_on.result c.behind.ensures.stands c.behind.ensures.rests answer
-    (λ table is. subst (λ r. IsTable c.fork.new.heap c.fork.new.self (forked_in table c.args.pid r)) c.in-Ok.is (c.fork.ensures.table table is))
-    (λ frames has. subst (λ r. HasAccount c.fork.new.heap c.fork.new.self (forked_account frames c.args.pid r)) c.in-Ok.is (c.fork.ensures.account frames has))
+    (λ table is. subst (λ r. IsTable c.fork.new.heap c.fork.new.self (forked_in table c.args.caller.now.pid r)) c.in-Ok.is (c.fork.ensures.table table is))
+    (λ frames has. subst (λ r. HasAccount c.fork.new.heap c.fork.new.self (forked_account frames c.args.caller.now.pid r)) c.in-Ok.is (c.fork.ensures.account frames has))
     c.behind.ensures.leads
     (c.go_on.ensures.told ∙ ap (λ z. Done (Val z)) value)
-    (subst (λ z. GoesOn script c.hold_directory.new.objects c.args.pid (Val z) c.go_on.new.objects) value c.go_on.ensures.goes)
+    (subst (λ z. GoesOn script c.hold_directory.new.objects c.args.caller.now.pid (Val z) c.go_on.new.objects) value c.go_on.ensures.goes)
 
 pub returns-in-Err-clause-does : goal.returns-in-Err-clause-does
 returns-in-Err-clause-does c =
     let same = same_objects c.args.objects.now c.fork.new.heap c.fork.new.self c.in-Err.ensures.unchanged.0 c.in-Err.ensures.unchanged.1 in
-    does_full c.args.script.now c.args.objects.now c.go_on-in-Err.new.objects c.args.pid c.in-Err.errno c.go_on-in-Err.result
+    does_full c.args.script.now c.args.objects.now c.go_on-in-Err.new.objects c.args.caller.now.pid c.in-Err.errno c.go_on-in-Err.result
     (sym c.in-Err.is ∙ c.fork.ensures.answer) c.go_on-in-Err.ensures.told
-    (subst (λ objects. GoesOn c.args.script.now objects c.args.pid (Fail c.in-Err.errno) c.go_on-in-Err.new.objects) same c.go_on-in-Err.ensures.goes)
+    (subst (λ objects. GoesOn c.args.script.now objects c.args.caller.now.pid (Fail c.in-Err.errno) c.go_on-in-Err.new.objects) same c.go_on-in-Err.ensures.goes)

@@ -12,17 +12,17 @@ returns-then-target-pid-clause-kept c = c.end.ensures.kept c.args.script.now c.r
 
 pub returns-then-target-pid-clause-does : goal.returns-then-target-pid-clause-does
 returns-then-target-pid-clause-does c = λ named sent.
-    does_itself c.args.script.now c.args.objects.now c.end.new.objects c.args.pid c.args.target c.args.signal named sent _ c.if-target-pid.true (c.end.ensures.dies c.args.script.now) refl
+    does_itself c.args.script.now c.args.objects.now c.end.new.objects c.args.caller.now.pid c.args.target c.args.signal named sent _ c.if-target-pid.true (c.end.ensures.dies c.args.script.now) refl
 
 pub go_on-requires-clause-kept : goal.go_on-requires-clause-kept
 go_on-requires-clause-kept c = c.end.ensures.kept c.args.script.now c.requires.stands.1.kept
 
 pub go_on-requires-clause-runs : goal.go_on-requires-clause-runs
-go_on-requires-clause-runs c = c.end.ensures.others c.requires.other c.args.pid c.args.control (λ same. c.if-target-pid.false (sym same)) c.requires.runs
+go_on-requires-clause-runs c = c.end.ensures.others c.requires.other c.args.caller.now.pid c.args.caller.now.control (λ same. c.if-target-pid.false (sym same)) c.requires.runs
 
 pub returns-clause-does : goal.returns-clause-does
 returns-clause-does c = λ named sent.
-    does_another c.args.script.now c.args.objects.now c.end.new.objects c.go_on.new.objects c.args.pid c.args.target c.args.signal named sent c.go_on.result c.if-target-pid.false
+    does_another c.args.script.now c.args.objects.now c.end.new.objects c.go_on.new.objects c.args.caller.now.pid c.args.target c.args.signal named sent c.go_on.result c.if-target-pid.false
     (c.end.ensures.dies c.args.script.now) c.go_on.ensures.told c.go_on.ensures.goes
 
 pub returns-clause-uses : goal.returns-clause-uses

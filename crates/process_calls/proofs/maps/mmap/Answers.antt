@@ -34,13 +34,13 @@ pub go_on-requires-clause-kept : goal.go_on-requires-clause-kept
 go_on-requires-clause-kept c = c.map.ensures.kept c.args.script.now c.requires.kept
 
 pub go_on-requires-clause-runs : goal.go_on-requires-clause-runs
-go_on-requires-clause-runs c = c.map.ensures.runs c.args.control c.requires.runs
+go_on-requires-clause-runs c = c.map.ensures.runs c.args.caller.now.control c.requires.runs
 
 pub go_on-requires-in-Err-clause-kept : goal.go_on-requires-in-Err-clause-kept
 go_on-requires-in-Err-clause-kept c = c.map.ensures.kept c.args.script.now c.requires.kept
 
 pub go_on-requires-in-Err-clause-runs : goal.go_on-requires-in-Err-clause-runs
-go_on-requires-in-Err-clause-runs c = c.map.ensures.runs c.args.control c.requires.runs
+go_on-requires-in-Err-clause-runs c = c.map.ensures.runs c.args.caller.now.control c.requires.runs
 
 place_of : (first : ℕ) → (page_size * first) / 4096 ≡ first
 place_of first = let e : (4096 * first) / 4096 ≡ first = omega arith in e
@@ -48,7 +48,7 @@ place_of first = let e : (4096 * first) / 4096 ≡ first = omega arith in e
 pub returns-in-Ok-clause-does : goal.returns-in-Ok-clause-does
 returns-in-Ok-clause-does c = λ world stands alive.
     let script = c.args.script.now in
-    let pid = c.args.pid in
+    let pid = c.args.caller.now.pid in
     let memory = memory_of world.plain.table pid in
     let u : c.cast_unsigned.result ≡ cast_unsigned w64 c.args.length =
     subst (λ z. c.cast_unsigned.result ≡ cast_unsigned w64 z) (to_z-of_z w64 c.args.length c.ranges.length) c.cast_unsigned.ensures in
@@ -80,7 +80,7 @@ err_means (Some first) errno e = cc
 pub returns-in-Err-clause-does : goal.returns-in-Err-clause-does
 returns-in-Err-clause-does c =
     let script = c.args.script.now in
-    let pid = c.args.pid in
+    let pid = c.args.caller.now.pid in
     let goes : GoesOn script c.args.objects.now pid (Fail c.in-Err.errno) c.go_on-in-Err.new.objects =
     subst (λ o. GoesOn script o pid (Fail c.in-Err.errno) c.go_on-in-Err.new.objects) c.in-Err.ensures.unchanged c.go_on-in-Err.ensures.goes in
     does_fail script c.args.objects.now c.go_on-in-Err.new.objects pid (call.Mmap c.args.length) c.in-Err.errno c.go_on-in-Err.result (λ plain. mmap script plain pid c.args.length)

@@ -16,12 +16,12 @@ pub go_on-requires-clause-kept : goal.go_on-requires-clause-kept
 go_on-requires-clause-kept c = c.unmap.ensures.kept c.args.script.now c.requires.kept
 
 pub go_on-requires-clause-runs : goal.go_on-requires-clause-runs
-go_on-requires-clause-runs c = c.unmap.ensures.runs c.args.control c.requires.runs
+go_on-requires-clause-runs c = c.unmap.ensures.runs c.args.caller.now.control c.requires.runs
 
 pub returns-clause-does : goal.returns-clause-does
 returns-clause-does c = λ world stands alive.
     let script = c.args.script.now in
-    let pid = c.args.pid in
+    let pid = c.args.caller.now.pid in
     let u : c.cast_unsigned.result ≡ cast_unsigned w64 c.args.addr =
     subst (λ z. c.cast_unsigned.result ≡ cast_unsigned w64 z) (to_z-of_z w64 c.args.addr c.ranges.addr) c.cast_unsigned.ensures in
     let v : c.cast_unsigned-2.result ≡ cast_unsigned w64 c.args.length =

@@ -20,17 +20,17 @@ pub control-requires-clause-owners : goal.control-requires-clause-owners
 control-requires-clause-owners c = c.requires.kept.owners
 
 pub control-requires-clause-there : goal.control-requires-clause-there
-control-requires-clause-there c = key_who_runs c.args.script.now c.args.objects.now c.args.pid c.args.control c.requires.kept c.requires.runs
+control-requires-clause-there c = key_who_runs c.args.script.now c.args.objects.now c.args.caller.now.pid c.args.caller.now.control c.requires.kept c.requires.runs
 
 pub go_on-requires-clause-kept : goal.go_on-requires-clause-kept
 go_on-requires-clause-kept c =
     let done = c.control.ensures in
-    kept_then c.args.script.now c.args.objects.now c.control.new.heap c.args.pid c.args.control c.requires.kept c.requires.runs done.changes done.listed done.owners (λ key. ap (λ (h : Heap). name_of h.socks key) done.beside)
+    kept_then c.args.script.now c.args.objects.now c.control.new.heap c.args.caller.now.pid c.args.caller.now.control c.requires.kept c.requires.runs done.changes done.listed done.owners (λ key. ap (λ (h : Heap). name_of h.socks key) done.beside)
 
 pub go_on-requires-clause-runs : goal.go_on-requires-clause-runs
 go_on-requires-clause-runs c =
     let done = c.control.ensures in
-    runs_then c.args.script.now c.args.objects.now c.control.new.heap c.args.pid c.args.control c.requires.kept c.requires.runs done.changes done.listed done.owners (λ key. ap (λ (h : Heap). name_of h.socks key) done.beside)
+    runs_then c.args.script.now c.args.objects.now c.control.new.heap c.args.caller.now.pid c.args.caller.now.control c.requires.kept c.requires.runs done.changes done.listed done.owners (λ key. ap (λ (h : Heap). name_of h.socks key) done.beside)
 
 pub returns-clause-takes : goal.returns-clause-takes
 returns-clause-takes c = TakesNothing-trans c.args.objects.now.heap c.control.new.heap c.go_on.new.objects.heap c.control.ensures.takes c.go_on.ensures.takes
@@ -40,11 +40,11 @@ returns-clause-does c =
     let script = c.args.script.now in
     let old = c.args.objects.now in
     let heap = c.control.new.heap in
-    let pid = c.args.pid in
+    let pid = c.args.caller.now.pid in
     let done = c.control.ensures in
     let said = c.value-reply.result in
     let which = call.Fcntl c.args.fd c.args.cmd c.args.arg in
-    performs script old heap pid c.args.control c.requires.kept c.requires.runs done.changes done.listed done.owners (λ key. ap (λ (h : Heap). name_of h.socks key) done.beside)
+    performs script old heap pid c.args.caller.now.control c.requires.kept c.requires.runs done.changes done.listed done.owners (λ key. ap (λ (h : Heap). name_of h.socks key) done.beside)
     c.go_on.new.objects which said c.go_on.result (λ plain. fcntl script plain pid c.args.fd c.args.cmd c.args.arg)
     (queues_same old.heap heap (ap (λ (h : Heap). h.pipes) done.beside) (ap (λ (h : Heap). h.socks) done.beside))
     (λ plain. fcntl_stay script plain pid c.args.fd c.args.cmd c.args.arg) c.go_on.ensures.told c.go_on.ensures.goes (no_frames which (λ frames pid value. refl) pid said)

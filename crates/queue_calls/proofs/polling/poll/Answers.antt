@@ -14,14 +14,14 @@ poll-told-requires-clause-kept c = is_kept c.args.script.now c.args.objects.now 
 
 pub poll-told-requires-clause-there : goal.poll-told-requires-clause-there
 poll-told-requires-clause-there c =
-    has_key c.args.script.now c.args.objects.now c.args.pid c.requires.kept (runs_alive c.args.objects.now c.args.pid c.args.control c.requires.runs)
+    has_key c.args.script.now c.args.objects.now c.args.caller.now.pid c.requires.kept (runs_alive c.args.objects.now c.args.caller.now.pid c.args.caller.now.control c.requires.runs)
 
 pub returns-clause-does : goal.returns-clause-does
 returns-clause-does c =
     let script = c.args.script.now in
     let old = c.args.objects.now in
     let new = c.go_on_done.new.objects in
-    let pid = c.args.pid in
+    let pid = c.args.caller.now.pid in
     let entries = c.args.entries.now in
     let told = c.poll-told.result in
     subst (λ t. Performs script old pid (call.Poll c.args.timeout entries) (λ plain. poll script plain pid c.args.timeout entries) t new) (sym c.go_on_done.ensures.told)
