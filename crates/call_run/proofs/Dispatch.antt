@@ -20,9 +20,6 @@ pub wrong_told : (script : Script) (plain : Plain) (pid : ℕ) (fault : Option E
     → unless_wrong script plain pid fault answer ≡ failed script plain pid errno
 wrong_told script plain pid fault errno answer is = ap (λ f. unless_wrong script plain pid f answer) is
 
-pub right_told : (script : Script) (plain : Plain) (pid : ℕ) (fault : Option Errno) (answer : Answer) → fault ≡ None
-    → unless_wrong script plain pid fault answer ≡ answer
-right_told script plain pid fault answer is = ap (λ f. unless_wrong script plain pid f answer) is
 
 -- a call is answered as the machine answers it where no operand is wrong
 abbrev pub PerformsCall : Script → Objects → ℕ → Call → Turned → Objects → Type 0
