@@ -7,22 +7,22 @@ use Rattle.process_calls.proofs.ends.strike.Goals as goal
 pub end-requires-clause-stands : goal.end-requires-clause-stands
 end-requires-clause-stands c = let some = c.requires.stands in (c.args.script.now, some.0, some.1, some.2)
 
-pub returns-then-target-pid-clause-kept : goal.returns-then-target-pid-clause-kept
-returns-then-target-pid-clause-kept c = c.end.ensures.kept c.args.script.now c.requires.stands.1.kept
+pub returns-then-target-caller-clause-kept : goal.returns-then-target-caller-clause-kept
+returns-then-target-caller-clause-kept c = c.end.ensures.kept c.args.script.now c.requires.stands.1.kept
 
-pub returns-then-target-pid-clause-does : goal.returns-then-target-pid-clause-does
-returns-then-target-pid-clause-does c = λ named sent.
-    does_itself c.args.script.now c.args.objects.now c.end.new.objects c.args.caller.now.pid c.args.target c.args.signal named sent _ c.if-target-pid.true (c.end.ensures.dies c.args.script.now) refl
+pub returns-then-target-caller-clause-does : goal.returns-then-target-caller-clause-does
+returns-then-target-caller-clause-does c = λ named sent.
+    does_itself c.args.script.now c.args.objects.now c.end.new.objects c.args.caller.now.pid c.args.target c.args.signal named sent _ c.if-target-caller.true (c.end.ensures.dies c.args.script.now) refl
 
 pub go_on-requires-clause-kept : goal.go_on-requires-clause-kept
 go_on-requires-clause-kept c = c.end.ensures.kept c.args.script.now c.requires.stands.1.kept
 
 pub go_on-requires-clause-runs : goal.go_on-requires-clause-runs
-go_on-requires-clause-runs c = c.end.ensures.others c.requires.other c.args.caller.now.pid c.args.caller.now.control (λ same. c.if-target-pid.false (sym same)) c.requires.runs
+go_on-requires-clause-runs c = c.end.ensures.others c.requires.other c.args.caller.now.pid c.args.caller.now.control (λ same. c.if-target-caller.false (sym same)) c.requires.runs
 
 pub returns-clause-does : goal.returns-clause-does
 returns-clause-does c = λ named sent.
-    does_another c.args.script.now c.args.objects.now c.end.new.objects c.go_on.new.objects c.args.caller.now.pid c.args.target c.args.signal named sent c.go_on.result c.if-target-pid.false
+    does_another c.args.script.now c.args.objects.now c.end.new.objects c.go_on.new.objects c.args.caller.now.pid c.args.target c.args.signal named sent c.go_on.result c.if-target-caller.false
     (c.end.ensures.dies c.args.script.now) c.go_on.ensures.told c.go_on.ensures.goes
 
 pub returns-clause-uses : goal.returns-clause-uses
