@@ -20,7 +20,6 @@ pub wrong_told : (script : Script) (plain : Plain) (pid : ℕ) (fault : Option E
     → unless_wrong script plain pid fault answer ≡ failed script plain pid errno
 wrong_told script plain pid fault errno answer is = ap (λ f. unless_wrong script plain pid f answer) is
 
-
 -- a call is answered as the machine answers it where no operand is wrong
 abbrev pub PerformsCall : Script → Objects → ℕ → Call → Turned → Objects → Type 0
 PerformsCall script old pid which told new = Performs script old pid which (λ plain. answer_to script plain pid which) told new

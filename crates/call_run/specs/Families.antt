@@ -1,4 +1,4 @@
--- The calls, by what they name and what they move bytes of.
+-- What the paths of a call are, and what it moves bytes of.
 use Rattle.std.specs.Prelude.{ℕ, ◌≡◌, ◌<◌, Bool, true, false}
 use Rattle.std.specs.List.{AllByRecursion}
 use Rattle.kabi_types.specs.declared.calls.Call.{Call}
@@ -18,22 +18,7 @@ use Rattle.proc_table.specs.Table.{TableView}
 abbrev pub HasPaths : Call → Type 0
 HasPaths which = AllByRecursion ArePathBytes (paths_of which)
 
--- the calls that name nodes of the tree by their paths
-abbrev pub is_named : CallKind → Bool
-is_named kind.Stat = true
-is_named kind.Chdir = true
-is_named kind.OpenFile = true
-is_named kind.Exec = true
-is_named kind.Bind = true
-is_named kind.Connect = true
-is_named kind.Mkdir = true
-is_named kind.Rmdir = true
-is_named kind.Unlink = true
-is_named kind.Link = true
-is_named kind.Rename = true
-is_named _ = false
-
--- those that move bytes of whatever is open
+-- the calls that move bytes of whatever is open
 abbrev pub is_moving : CallKind → Bool
 is_moving kind.Read = true
 is_moving kind.Write = true

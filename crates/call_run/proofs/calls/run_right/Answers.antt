@@ -8,6 +8,7 @@ use Rattle.kheap_slabs.specs.Heap.{live_bytes}
 use Rattle.posix_defs.specs.Machine.{answer_to}
 use Rattle.posix_defs.specs.Needs.{bound, chunks_for, nodes_for, pages_in, pages_touched, slack}
 use Rattle.posix_defs.specs.Process.{parent_of}
+use Rattle.posix_defs.specs.Reaching.{path_to_leave}
 use Rattle.posix_defs.specs.Sizes.{reserve}
 use Rattle.store_objects.proofs.Callers.{caller_lives, caller_runs}
 use Rattle.store_objects.proofs.Paying.{can_pay, left_is, uses_more, uses_nothing, uses_paid}
@@ -21,7 +22,7 @@ use Rattle.call_run.proofs.Dispatch.{does_one, does_that, does_three, does_two, 
 use Rattle.call_run.proofs.Naming.{has_file_need, has_need, may_fetch, paths_of_it, right_that, room_kept, room_less, walks_connecting, walks_one, walks_opening, walks_two}
 use Rattle.call_run.proofs.OnFiles.{fresh_is}
 use Rattle.call_run.proofs.Reaching.{served, unnamed_served}
-use Rattle.call_run.specs.Families.{IsOffFiles, IsOnFile, is_moving, is_named}
+use Rattle.call_run.specs.Families.{IsOffFiles, IsOnFile, is_moving}
 use Rattle.kabi_types.specs.declared.calls.Call.TheVariants as call
 use Rattle.call_run.proofs.calls.run_right.Goals as goal
 
@@ -38,7 +39,7 @@ returns-in-Getpid-clause-uses c = uses_nothing c.args.objects.now.heap c.tell.ne
 
 pub returns-in-Getpid-clause-does : goal.returns-in-Getpid-clause-does
 returns-in-Getpid-clause-does c =
-    unnamed_served c.args.script.now c.args.objects.now c.tell.new.objects c.args.caller.now.pid c.args.call.now c.tell.result (λ plain. answer_to c.args.script.now plain c.args.caller.now.pid c.args.call.now) (ap (λ w. is_named (kind_of w)) c.in-Getpid.is)
+    unnamed_served c.args.script.now c.args.objects.now c.tell.new.objects c.args.caller.now.pid c.args.call.now c.tell.result (λ plain. answer_to c.args.script.now plain c.args.caller.now.pid c.args.call.now) (ap path_to_leave c.in-Getpid.is)
     (does_that c.args.script.now c.args.objects.now c.tell.new.objects c.args.caller.now.pid c.args.call.now call.Getpid c.tell.result c.in-Getpid.is
     (does_tell c.args.script.now c.args.objects.now c.tell.new.objects c.args.caller.now.pid call.Getpid (pos c.args.caller.now.pid) c.tell.result _ (λ plain. pos c.args.caller.now.pid)
     c.tell.ensures.told c.tell.ensures.goes (λ frames. refl) (λ world stands. refl) (λ plain. refl)))
@@ -60,7 +61,7 @@ returns-in-Getppid-clause-uses c = uses_nothing c.args.objects.now.heap c.tell-i
 pub returns-in-Getppid-clause-does : goal.returns-in-Getppid-clause-does
 returns-in-Getppid-clause-does c =
     let it = c.requires.caller in
-    unnamed_served c.args.script.now c.args.objects.now c.tell-in-Getppid.new.objects c.args.caller.now.pid c.args.call.now c.tell-in-Getppid.result (λ plain. answer_to c.args.script.now plain c.args.caller.now.pid c.args.call.now) (ap (λ w. is_named (kind_of w)) c.in-Getppid.is)
+    unnamed_served c.args.script.now c.args.objects.now c.tell-in-Getppid.new.objects c.args.caller.now.pid c.args.call.now c.tell-in-Getppid.result (λ plain. answer_to c.args.script.now plain c.args.caller.now.pid c.args.call.now) (ap path_to_leave c.in-Getppid.is)
     (does_that c.args.script.now c.args.objects.now c.tell-in-Getppid.new.objects c.args.caller.now.pid c.args.call.now call.Getppid c.tell-in-Getppid.result c.in-Getppid.is
     (does_tell c.args.script.now c.args.objects.now c.tell-in-Getppid.new.objects c.args.caller.now.pid call.Getppid (pos c.args.caller.now.parent) c.tell-in-Getppid.result _ (λ plain. pos (parent_of plain.table c.args.caller.now.pid))
     c.tell-in-Getppid.ensures.told c.tell-in-Getppid.ensures.goes (λ frames. refl)
@@ -82,7 +83,7 @@ returns-in-SchedYield-clause-uses c = uses_nothing c.args.objects.now.heap c.tel
 
 pub returns-in-SchedYield-clause-does : goal.returns-in-SchedYield-clause-does
 returns-in-SchedYield-clause-does c =
-    unnamed_served c.args.script.now c.args.objects.now c.tell-in-SchedYield.new.objects c.args.caller.now.pid c.args.call.now c.tell-in-SchedYield.result (λ plain. answer_to c.args.script.now plain c.args.caller.now.pid c.args.call.now) (ap (λ w. is_named (kind_of w)) c.in-SchedYield.is)
+    unnamed_served c.args.script.now c.args.objects.now c.tell-in-SchedYield.new.objects c.args.caller.now.pid c.args.call.now c.tell-in-SchedYield.result (λ plain. answer_to c.args.script.now plain c.args.caller.now.pid c.args.call.now) (ap path_to_leave c.in-SchedYield.is)
     (does_that c.args.script.now c.args.objects.now c.tell-in-SchedYield.new.objects c.args.caller.now.pid c.args.call.now call.SchedYield c.tell-in-SchedYield.result c.in-SchedYield.is
     (does_tell c.args.script.now c.args.objects.now c.tell-in-SchedYield.new.objects c.args.caller.now.pid call.SchedYield (pos 0) c.tell-in-SchedYield.result _ (λ plain. pos 0)
     c.tell-in-SchedYield.ensures.told c.tell-in-SchedYield.ensures.goes (λ frames. refl) (λ world stands. refl) (λ plain. refl)))
@@ -122,7 +123,7 @@ returns-in-Fork-clause-uses c =
 
 pub returns-in-Fork-clause-does : goal.returns-in-Fork-clause-does
 returns-in-Fork-clause-does c =
-    unnamed_served c.args.script.now c.args.objects.now c.fork.new.objects c.args.caller.now.pid c.args.call.now c.fork.result (λ plain. answer_to c.args.script.now plain c.args.caller.now.pid c.args.call.now) (ap (λ w. is_named (kind_of w)) c.in-Fork.is)
+    unnamed_served c.args.script.now c.args.objects.now c.fork.new.objects c.args.caller.now.pid c.args.call.now c.fork.result (λ plain. answer_to c.args.script.now plain c.args.caller.now.pid c.args.call.now) (ap path_to_leave c.in-Fork.is)
     (does_that c.args.script.now c.args.objects.now c.fork.new.objects c.args.caller.now.pid c.args.call.now (call.Fork) c.fork.result c.in-Fork.is
     c.fork.ensures.does)
 
@@ -202,7 +203,7 @@ returns-in-Waitpid-clause-uses c = uses_nothing c.args.objects.now.heap c.wait.n
 
 pub returns-in-Waitpid-clause-does : goal.returns-in-Waitpid-clause-does
 returns-in-Waitpid-clause-does c =
-    unnamed_served c.args.script.now c.args.objects.now c.wait.new.objects c.args.caller.now.pid c.args.call.now c.wait.result (λ plain. answer_to c.args.script.now plain c.args.caller.now.pid c.args.call.now) (ap (λ w. is_named (kind_of w)) c.in-Waitpid.is)
+    unnamed_served c.args.script.now c.args.objects.now c.wait.new.objects c.args.caller.now.pid c.args.call.now c.wait.result (λ plain. answer_to c.args.script.now plain c.args.caller.now.pid c.args.call.now) (ap path_to_leave c.in-Waitpid.is)
     (does_two c.args.script.now c.args.objects.now c.wait.new.objects c.args.caller.now.pid c.args.call.now c.wait.result call.Waitpid c.in-Waitpid.which c.in-Waitpid.options c.in-Waitpid.is
     (search (rules, to_z-of_z)) (search (rules, to_z-of_z)) c.wait.ensures.does)
 
@@ -262,7 +263,7 @@ returns-in-Mmap-clause-uses c =
 
 pub returns-in-Mmap-clause-does : goal.returns-in-Mmap-clause-does
 returns-in-Mmap-clause-does c =
-    unnamed_served c.args.script.now c.args.objects.now c.mmap.new.objects c.args.caller.now.pid c.args.call.now c.mmap.result (λ plain. answer_to c.args.script.now plain c.args.caller.now.pid c.args.call.now) (ap (λ w. is_named (kind_of w)) c.in-Mmap.is)
+    unnamed_served c.args.script.now c.args.objects.now c.mmap.new.objects c.args.caller.now.pid c.args.call.now c.mmap.result (λ plain. answer_to c.args.script.now plain c.args.caller.now.pid c.args.call.now) (ap path_to_leave c.in-Mmap.is)
     (does_one c.args.script.now c.args.objects.now c.mmap.new.objects c.args.caller.now.pid c.args.call.now c.mmap.result call.Mmap c.in-Mmap.length c.in-Mmap.is
     (search (rules, to_z-of_z)) c.mmap.ensures.does)
 
@@ -282,7 +283,7 @@ returns-in-Munmap-clause-uses c = uses_nothing c.args.objects.now.heap c.munmap.
 
 pub returns-in-Munmap-clause-does : goal.returns-in-Munmap-clause-does
 returns-in-Munmap-clause-does c =
-    unnamed_served c.args.script.now c.args.objects.now c.munmap.new.objects c.args.caller.now.pid c.args.call.now c.munmap.result (λ plain. answer_to c.args.script.now plain c.args.caller.now.pid c.args.call.now) (ap (λ w. is_named (kind_of w)) c.in-Munmap.is)
+    unnamed_served c.args.script.now c.args.objects.now c.munmap.new.objects c.args.caller.now.pid c.args.call.now c.munmap.result (λ plain. answer_to c.args.script.now plain c.args.caller.now.pid c.args.call.now) (ap path_to_leave c.in-Munmap.is)
     (does_two c.args.script.now c.args.objects.now c.munmap.new.objects c.args.caller.now.pid c.args.call.now c.munmap.result call.Munmap c.in-Munmap.addr c.in-Munmap.length c.in-Munmap.is
     (search (rules, to_z-of_z)) (search (rules, to_z-of_z)) c.munmap.ensures.does)
 
@@ -315,7 +316,7 @@ returns-in-Store-clause-uses c =
 
 pub returns-in-Store-clause-does : goal.returns-in-Store-clause-does
 returns-in-Store-clause-does c =
-    unnamed_served c.args.script.now c.args.objects.now c.store.new.objects c.args.caller.now.pid c.args.call.now c.store.result (λ plain. answer_to c.args.script.now plain c.args.caller.now.pid c.args.call.now) (ap (λ w. is_named (kind_of w)) c.in-Store.is)
+    unnamed_served c.args.script.now c.args.objects.now c.store.new.objects c.args.caller.now.pid c.args.call.now c.store.result (λ plain. answer_to c.args.script.now plain c.args.caller.now.pid c.args.call.now) (ap path_to_leave c.in-Store.is)
     (does_one c.args.script.now c.args.objects.now c.store.new.objects c.args.caller.now.pid c.args.call.now c.store.result (λ z. call.Store z c.in-Store.bytes) c.in-Store.addr c.in-Store.is
     (search (rules, to_z-of_z)) c.store.ensures.does)
 
@@ -335,7 +336,7 @@ returns-in-Load-clause-uses c = uses_nothing c.args.objects.now.heap c.load.new.
 
 pub returns-in-Load-clause-does : goal.returns-in-Load-clause-does
 returns-in-Load-clause-does c =
-    unnamed_served c.args.script.now c.args.objects.now c.load.new.objects c.args.caller.now.pid c.args.call.now c.load.result (λ plain. answer_to c.args.script.now plain c.args.caller.now.pid c.args.call.now) (ap (λ w. is_named (kind_of w)) c.in-Load.is)
+    unnamed_served c.args.script.now c.args.objects.now c.load.new.objects c.args.caller.now.pid c.args.call.now c.load.result (λ plain. answer_to c.args.script.now plain c.args.caller.now.pid c.args.call.now) (ap path_to_leave c.in-Load.is)
     (does_two c.args.script.now c.args.objects.now c.load.new.objects c.args.caller.now.pid c.args.call.now c.load.result call.Load c.in-Load.addr c.in-Load.n c.in-Load.is
     (search (rules, to_z-of_z)) (search (rules, to_z-of_z)) c.load.ensures.does)
 
@@ -415,7 +416,7 @@ returns-in-Dup-clause-uses c = uses_nothing c.args.objects.now.heap c.dup.new.ob
 
 pub returns-in-Dup-clause-does : goal.returns-in-Dup-clause-does
 returns-in-Dup-clause-does c =
-    unnamed_served c.args.script.now c.args.objects.now c.dup.new.objects c.args.caller.now.pid c.args.call.now c.dup.result (λ plain. answer_to c.args.script.now plain c.args.caller.now.pid c.args.call.now) (ap (λ w. is_named (kind_of w)) c.in-Dup.is)
+    unnamed_served c.args.script.now c.args.objects.now c.dup.new.objects c.args.caller.now.pid c.args.call.now c.dup.result (λ plain. answer_to c.args.script.now plain c.args.caller.now.pid c.args.call.now) (ap path_to_leave c.in-Dup.is)
     (does_one c.args.script.now c.args.objects.now c.dup.new.objects c.args.caller.now.pid c.args.call.now c.dup.result call.Dup c.in-Dup.fd c.in-Dup.is
     (search (rules, to_z-of_z)) c.dup.ensures.does)
 
@@ -457,7 +458,7 @@ returns-in-Fcntl-clause-uses c = uses_nothing c.args.objects.now.heap c.fcntl.ne
 
 pub returns-in-Fcntl-clause-does : goal.returns-in-Fcntl-clause-does
 returns-in-Fcntl-clause-does c =
-    unnamed_served c.args.script.now c.args.objects.now c.fcntl.new.objects c.args.caller.now.pid c.args.call.now c.fcntl.result (λ plain. answer_to c.args.script.now plain c.args.caller.now.pid c.args.call.now) (ap (λ w. is_named (kind_of w)) c.in-Fcntl.is)
+    unnamed_served c.args.script.now c.args.objects.now c.fcntl.new.objects c.args.caller.now.pid c.args.call.now c.fcntl.result (λ plain. answer_to c.args.script.now plain c.args.caller.now.pid c.args.call.now) (ap path_to_leave c.in-Fcntl.is)
     (does_three c.args.script.now c.args.objects.now c.fcntl.new.objects c.args.caller.now.pid c.args.call.now c.fcntl.result call.Fcntl c.in-Fcntl.fd c.in-Fcntl.cmd c.in-Fcntl.arg c.in-Fcntl.is
     (search (rules, to_z-of_z)) (search (rules, to_z-of_z)) (search (rules, to_z-of_z)) c.fcntl.ensures.does)
 
@@ -534,7 +535,7 @@ returns-in-Read-Queue-clause-uses c =
 
 pub returns-in-Read-Queue-clause-does : goal.returns-in-Read-Queue-clause-does
 returns-in-Read-Queue-clause-does c =
-    unnamed_served c.args.script.now c.args.objects.now c.read_queue.new.objects c.args.caller.now.pid c.args.call.now c.read_queue.result (λ plain. answer_to c.args.script.now plain c.args.caller.now.pid c.args.call.now) (ap (λ w. is_named (kind_of w)) c.in-Read.is)
+    unnamed_served c.args.script.now c.args.objects.now c.read_queue.new.objects c.args.caller.now.pid c.args.call.now c.read_queue.result (λ plain. answer_to c.args.script.now plain c.args.caller.now.pid c.args.call.now) (ap path_to_leave c.in-Read.is)
     (does_three c.args.script.now c.args.objects.now c.read_queue.new.objects c.args.caller.now.pid c.args.call.now c.read_queue.result call.Read c.in-Read.fd c.in-Read.addr c.in-Read.n c.in-Read.is
     (search (rules, to_z-of_z)) (search (rules, to_z-of_z)) (search (rules, to_z-of_z)) c.read_queue.ensures.does)
 
@@ -611,7 +612,7 @@ returns-in-Write-Queue-clause-uses c =
 
 pub returns-in-Write-Queue-clause-does : goal.returns-in-Write-Queue-clause-does
 returns-in-Write-Queue-clause-does c =
-    unnamed_served c.args.script.now c.args.objects.now c.write_queue.new.objects c.args.caller.now.pid c.args.call.now c.write_queue.result (λ plain. answer_to c.args.script.now plain c.args.caller.now.pid c.args.call.now) (ap (λ w. is_named (kind_of w)) c.in-Write.is)
+    unnamed_served c.args.script.now c.args.objects.now c.write_queue.new.objects c.args.caller.now.pid c.args.call.now c.write_queue.result (λ plain. answer_to c.args.script.now plain c.args.caller.now.pid c.args.call.now) (ap path_to_leave c.in-Write.is)
     (does_three c.args.script.now c.args.objects.now c.write_queue.new.objects c.args.caller.now.pid c.args.call.now c.write_queue.result (λ x y z. call.Write x y z c.in-Write.done) c.in-Write.fd c.in-Write.addr c.in-Write.n c.in-Write.is
     (search (rules, to_z-of_z)) (search (rules, to_z-of_z)) (search (rules, to_z-of_z)) c.write_queue.ensures.does)
 
@@ -1081,7 +1082,7 @@ returns-in-Pipe-clause-uses c =
 
 pub returns-in-Pipe-clause-does : goal.returns-in-Pipe-clause-does
 returns-in-Pipe-clause-does c =
-    unnamed_served c.args.script.now c.args.objects.now c.pipe.new.objects c.args.caller.now.pid c.args.call.now c.pipe.result (λ plain. answer_to c.args.script.now plain c.args.caller.now.pid c.args.call.now) (ap (λ w. is_named (kind_of w)) c.in-Pipe.is)
+    unnamed_served c.args.script.now c.args.objects.now c.pipe.new.objects c.args.caller.now.pid c.args.call.now c.pipe.result (λ plain. answer_to c.args.script.now plain c.args.caller.now.pid c.args.call.now) (ap path_to_leave c.in-Pipe.is)
     (does_that c.args.script.now c.args.objects.now c.pipe.new.objects c.args.caller.now.pid c.args.call.now call.Pipe c.pipe.result c.in-Pipe.is c.pipe.ensures.does)
 
 pub returns-in-Pipe-clause-cached : goal.returns-in-Pipe-clause-cached
@@ -1114,7 +1115,7 @@ returns-in-Socket-clause-uses c =
 
 pub returns-in-Socket-clause-does : goal.returns-in-Socket-clause-does
 returns-in-Socket-clause-does c =
-    unnamed_served c.args.script.now c.args.objects.now c.socket.new.objects c.args.caller.now.pid c.args.call.now c.socket.result (λ plain. answer_to c.args.script.now plain c.args.caller.now.pid c.args.call.now) (ap (λ w. is_named (kind_of w)) c.in-Socket.is)
+    unnamed_served c.args.script.now c.args.objects.now c.socket.new.objects c.args.caller.now.pid c.args.call.now c.socket.result (λ plain. answer_to c.args.script.now plain c.args.caller.now.pid c.args.call.now) (ap path_to_leave c.in-Socket.is)
     (does_that c.args.script.now c.args.objects.now c.socket.new.objects c.args.caller.now.pid c.args.call.now call.Socket c.socket.result c.in-Socket.is c.socket.ensures.does)
 
 pub returns-in-Socket-clause-cached : goal.returns-in-Socket-clause-cached
@@ -1147,7 +1148,7 @@ returns-in-Socketpair-clause-uses c =
 
 pub returns-in-Socketpair-clause-does : goal.returns-in-Socketpair-clause-does
 returns-in-Socketpair-clause-does c =
-    unnamed_served c.args.script.now c.args.objects.now c.socketpair.new.objects c.args.caller.now.pid c.args.call.now c.socketpair.result (λ plain. answer_to c.args.script.now plain c.args.caller.now.pid c.args.call.now) (ap (λ w. is_named (kind_of w)) c.in-Socketpair.is)
+    unnamed_served c.args.script.now c.args.objects.now c.socketpair.new.objects c.args.caller.now.pid c.args.call.now c.socketpair.result (λ plain. answer_to c.args.script.now plain c.args.caller.now.pid c.args.call.now) (ap path_to_leave c.in-Socketpair.is)
     (does_that c.args.script.now c.args.objects.now c.socketpair.new.objects c.args.caller.now.pid c.args.call.now call.Socketpair c.socketpair.result c.in-Socketpair.is c.socketpair.ensures.does)
 
 pub returns-in-Socketpair-clause-cached : goal.returns-in-Socketpair-clause-cached
@@ -1204,7 +1205,7 @@ returns-in-Listen-clause-uses c = uses_nothing c.args.objects.now.heap c.listen.
 
 pub returns-in-Listen-clause-does : goal.returns-in-Listen-clause-does
 returns-in-Listen-clause-does c =
-    unnamed_served c.args.script.now c.args.objects.now c.listen.new.objects c.args.caller.now.pid c.args.call.now c.listen.result (λ plain. answer_to c.args.script.now plain c.args.caller.now.pid c.args.call.now) (ap (λ w. is_named (kind_of w)) c.in-Listen.is)
+    unnamed_served c.args.script.now c.args.objects.now c.listen.new.objects c.args.caller.now.pid c.args.call.now c.listen.result (λ plain. answer_to c.args.script.now plain c.args.caller.now.pid c.args.call.now) (ap path_to_leave c.in-Listen.is)
     (does_one c.args.script.now c.args.objects.now c.listen.new.objects c.args.caller.now.pid c.args.call.now c.listen.result call.Listen c.in-Listen.fd c.in-Listen.is
     (search (rules, to_z-of_z)) c.listen.ensures.does)
 
@@ -1268,7 +1269,7 @@ returns-in-Accept-clause-uses c =
 
 pub returns-in-Accept-clause-does : goal.returns-in-Accept-clause-does
 returns-in-Accept-clause-does c =
-    unnamed_served c.args.script.now c.args.objects.now c.accept.new.objects c.args.caller.now.pid c.args.call.now c.accept.result (λ plain. answer_to c.args.script.now plain c.args.caller.now.pid c.args.call.now) (ap (λ w. is_named (kind_of w)) c.in-Accept.is)
+    unnamed_served c.args.script.now c.args.objects.now c.accept.new.objects c.args.caller.now.pid c.args.call.now c.accept.result (λ plain. answer_to c.args.script.now plain c.args.caller.now.pid c.args.call.now) (ap path_to_leave c.in-Accept.is)
     (does_one c.args.script.now c.args.objects.now c.accept.new.objects c.args.caller.now.pid c.args.call.now c.accept.result call.Accept c.in-Accept.fd c.in-Accept.is
     (search (rules, to_z-of_z)) c.accept.ensures.does)
 
@@ -1288,7 +1289,7 @@ returns-in-Shutdown-clause-uses c = uses_nothing c.args.objects.now.heap c.shutd
 
 pub returns-in-Shutdown-clause-does : goal.returns-in-Shutdown-clause-does
 returns-in-Shutdown-clause-does c =
-    unnamed_served c.args.script.now c.args.objects.now c.shutdown.new.objects c.args.caller.now.pid c.args.call.now c.shutdown.result (λ plain. answer_to c.args.script.now plain c.args.caller.now.pid c.args.call.now) (ap (λ w. is_named (kind_of w)) c.in-Shutdown.is)
+    unnamed_served c.args.script.now c.args.objects.now c.shutdown.new.objects c.args.caller.now.pid c.args.call.now c.shutdown.result (λ plain. answer_to c.args.script.now plain c.args.caller.now.pid c.args.call.now) (ap path_to_leave c.in-Shutdown.is)
     (does_two c.args.script.now c.args.objects.now c.shutdown.new.objects c.args.caller.now.pid c.args.call.now c.shutdown.result call.Shutdown c.in-Shutdown.fd c.in-Shutdown.how c.in-Shutdown.is
     (search (rules, to_z-of_z)) (search (rules, to_z-of_z)) c.shutdown.ensures.does)
 
@@ -1308,7 +1309,7 @@ returns-in-Poll-clause-uses c = uses_nothing c.args.objects.now.heap c.poll.new.
 
 pub returns-in-Poll-clause-does : goal.returns-in-Poll-clause-does
 returns-in-Poll-clause-does c =
-    unnamed_served c.args.script.now c.args.objects.now c.poll.new.objects c.args.caller.now.pid c.args.call.now c.poll.result (λ plain. answer_to c.args.script.now plain c.args.caller.now.pid c.args.call.now) (ap (λ w. is_named (kind_of w)) c.in-Poll.is)
+    unnamed_served c.args.script.now c.args.objects.now c.poll.new.objects c.args.caller.now.pid c.args.call.now c.poll.result (λ plain. answer_to c.args.script.now plain c.args.caller.now.pid c.args.call.now) (ap path_to_leave c.in-Poll.is)
     (does_one c.args.script.now c.args.objects.now c.poll.new.objects c.args.caller.now.pid c.args.call.now c.poll.result (λ z. call.Poll z c.in-Poll.entries) c.in-Poll.timeout c.in-Poll.is
     (search (rules, to_z-of_z)) c.poll.ensures.does)
 
