@@ -204,7 +204,7 @@ returns-in-Waitpid-clause-uses c = uses_nothing c.args.objects.now.heap c.wait.n
 pub returns-in-Waitpid-clause-does : goal.returns-in-Waitpid-clause-does
 returns-in-Waitpid-clause-does c =
     unnamed_served c.args.script.now c.args.objects.now c.wait.new.objects c.args.caller.now.pid c.args.call.now c.wait.result (λ plain. answer_to c.args.script.now plain c.args.caller.now.pid c.args.call.now) (ap path_to_leave c.in-Waitpid.is)
-    (does_two c.args.script.now c.args.objects.now c.wait.new.objects c.args.caller.now.pid c.args.call.now c.wait.result call.Waitpid c.in-Waitpid.which c.in-Waitpid.options c.in-Waitpid.is
+    (does_two c.args.script.now c.args.objects.now c.wait.new.objects c.args.caller.now.pid c.args.call.now c.wait.result call.Waitpid c.in-Waitpid.pid c.in-Waitpid.options c.in-Waitpid.is
     (search (rules, to_z-of_z)) (search (rules, to_z-of_z)) c.wait.ensures.does)
 
 pub returns-in-Waitpid-clause-cached : goal.returns-in-Waitpid-clause-cached
@@ -218,7 +218,7 @@ signal_process-requires-clause-runs c = caller_runs c.args.objects.now c.args.ca
 pub signal_process-requires-clause-right : goal.signal_process-requires-clause-right
 signal_process-requires-clause-right c =
     subst (λ which. argument_fault which ≡ None)
-    (spelt_two c.args.call.now call.Kill c.in-Kill.target c.in-Kill.signal c.in-Kill.is (search (rules, to_z-of_z)) (search (rules, to_z-of_z))) c.requires.right
+    (spelt_two c.args.call.now call.Kill c.in-Kill.pid c.in-Kill.signal c.in-Kill.is (search (rules, to_z-of_z)) (search (rules, to_z-of_z))) c.requires.right
 
 pub signal_process-requires-clause-stands : goal.signal_process-requires-clause-stands
 signal_process-requires-clause-stands c = (c.requires.stands.0, c.requires.stands.1, c.requires.stands.2)
@@ -231,8 +231,8 @@ returns-in-Kill-clause-uses c = uses_more c.args.objects.now.heap c.signal_proce
 
 pub returns-in-Kill-clause-does : goal.returns-in-Kill-clause-does
 returns-in-Kill-clause-does c =
-    serves_that c.args.script.now c.args.objects.now c.signal_process.new.objects c.args.caller.now.pid c.args.call.now (call.Kill (to_z w64 (of_z w64 c.in-Kill.target)) (to_z w64 (of_z w64 c.in-Kill.signal))) c.signal_process.result
-    (spelt_two c.args.call.now call.Kill c.in-Kill.target c.in-Kill.signal c.in-Kill.is (search (rules, to_z-of_z)) (search (rules, to_z-of_z))) c.signal_process.ensures.does
+    serves_that c.args.script.now c.args.objects.now c.signal_process.new.objects c.args.caller.now.pid c.args.call.now (call.Kill (to_z w64 (of_z w64 c.in-Kill.pid)) (to_z w64 (of_z w64 c.in-Kill.signal))) c.signal_process.result
+    (spelt_two c.args.call.now call.Kill c.in-Kill.pid c.in-Kill.signal c.in-Kill.is (search (rules, to_z-of_z)) (search (rules, to_z-of_z))) c.signal_process.ensures.does
 
 pub returns-in-Kill-clause-cached : goal.returns-in-Kill-clause-cached
 returns-in-Kill-clause-cached c = subst (λ which. ReadsCached c.args.objects.now c.args.caller.now.pid which c.signal_process.result c.signal_process.new.objects) (sym c.in-Kill.is) tt
@@ -467,157 +467,157 @@ returns-in-Fcntl-clause-cached c = subst (λ which. ReadsCached c.args.objects.n
 
 -- ---- Read of a file
 
-pub read_file-requires-clause-runs : goal.read_file-requires-clause-runs
-read_file-requires-clause-runs c = caller_runs c.args.objects.now c.args.caller.now.pid c.args.caller.now c.requires.caller
+pub read-requires-clause-runs : goal.read-requires-clause-runs
+read-requires-clause-runs c = caller_runs c.args.objects.now c.args.caller.now.pid c.args.caller.now c.requires.caller
 
-pub read_file-requires-clause-right : goal.read_file-requires-clause-right
-read_file-requires-clause-right c = right_that c.args.call.now (call.Read (to_z w64 (of_z w64 c.in-Read.fd)) (to_z w64 (of_z w64 c.in-Read.addr)) (to_z w64 (of_z w64 c.in-Read.n))) c.requires.right (spelt_three c.args.call.now call.Read c.in-Read.fd c.in-Read.addr c.in-Read.n c.in-Read.is (search (rules, to_z-of_z)) (search (rules, to_z-of_z)) (search (rules, to_z-of_z)))
+pub read-requires-clause-right : goal.read-requires-clause-right
+read-requires-clause-right c = right_that c.args.call.now (call.Read (to_z w64 (of_z w64 c.in-Read.fd)) (to_z w64 (of_z w64 c.in-Read.addr)) (to_z w64 (of_z w64 c.in-Read.n))) c.requires.right (spelt_three c.args.call.now call.Read c.in-Read.fd c.in-Read.addr c.in-Read.n c.in-Read.is (search (rules, to_z-of_z)) (search (rules, to_z-of_z)) (search (rules, to_z-of_z)))
 
-pub read_file-requires-clause-may : goal.read_file-requires-clause-may
-read_file-requires-clause-may c =
-    may_fetch c.args.objects.now.heap c.purse_for-paid.result c.args.need c.args.call.now (call.Read (to_z w64 (of_z w64 c.in-Read.fd)) (to_z w64 (of_z w64 c.in-Read.addr)) (to_z w64 (of_z w64 c.in-Read.n))) (c.purse_for-paid.ensures.value ∙ ap (λ t. unspent (need_for t c.args.need)) c.in-Read-File.is) c.requires.needed c.requires.right
+pub read-requires-clause-may : goal.read-requires-clause-may
+read-requires-clause-may c =
+    may_fetch c.args.objects.now.heap c.purse_for-paid.result c.args.need c.args.call.now (call.Read (to_z w64 (of_z w64 c.in-Read.fd)) (to_z w64 (of_z w64 c.in-Read.addr)) (to_z w64 (of_z w64 c.in-Read.n))) (c.purse_for-paid.ensures.value ∙ ap (λ t. unspent (need_for t c.args.need)) c.in-File.is) c.requires.needed c.requires.right
     (spelt_three c.args.call.now call.Read c.in-Read.fd c.in-Read.addr c.in-Read.n c.in-Read.is (search (rules, to_z-of_z)) (search (rules, to_z-of_z)) (search (rules, to_z-of_z))) refl (room_less c.args.objects.now.heap c.args.call.now c.requires.room)
 
-pub read_file-requires-clause-needed : goal.read_file-requires-clause-needed
-read_file-requires-clause-needed c =
-    has_file_need c.args.objects.now.heap c.purse_for-paid.result c.args.need c.args.call.now (call.Read (to_z w64 (of_z w64 c.in-Read.fd)) (to_z w64 (of_z w64 c.in-Read.addr)) (to_z w64 (of_z w64 c.in-Read.n))) (c.purse_for-paid.ensures.value ∙ ap (λ t. unspent (need_for t c.args.need)) c.in-Read-File.is) c.requires.needed c.requires.right
+pub read-requires-clause-needed : goal.read-requires-clause-needed
+read-requires-clause-needed c =
+    has_file_need c.args.objects.now.heap c.purse_for-paid.result c.args.need c.args.call.now (call.Read (to_z w64 (of_z w64 c.in-Read.fd)) (to_z w64 (of_z w64 c.in-Read.addr)) (to_z w64 (of_z w64 c.in-Read.n))) (c.purse_for-paid.ensures.value ∙ ap (λ t. unspent (need_for t c.args.need)) c.in-File.is) c.requires.needed c.requires.right
     (spelt_three c.args.call.now call.Read c.in-Read.fd c.in-Read.addr c.in-Read.n c.in-Read.is (search (rules, to_z-of_z)) (search (rules, to_z-of_z)) (search (rules, to_z-of_z)))
 
-pub read_file-requires-clause-on : goal.read_file-requires-clause-on
-read_file-requires-clause-on c = subst (IsOnFile c.args.objects.now.heap c.args.objects.now.procs c.args.caller.now.pid) (spelt_three c.args.call.now call.Read c.in-Read.fd c.in-Read.addr c.in-Read.n c.in-Read.is (search (rules, to_z-of_z)) (search (rules, to_z-of_z)) (search (rules, to_z-of_z))) (c.target_of-target.ensures.on c.in-Read-File.is)
+pub read-requires-clause-on : goal.read-requires-clause-on
+read-requires-clause-on c = subst (IsOnFile c.args.objects.now.heap c.args.objects.now.procs c.args.caller.now.pid) (spelt_three c.args.call.now call.Read c.in-Read.fd c.in-Read.addr c.in-Read.n c.in-Read.is (search (rules, to_z-of_z)) (search (rules, to_z-of_z)) (search (rules, to_z-of_z))) (c.target_of-target.ensures.on c.in-File.is)
 
-pub read_file-requires-clause-stands : goal.read_file-requires-clause-stands
-read_file-requires-clause-stands c = (c.requires.stands.0, c.requires.stands.1, c.requires.stands.2)
+pub read-requires-clause-stands : goal.read-requires-clause-stands
+read-requires-clause-stands c = (c.requires.stands.0, c.requires.stands.1, c.requires.stands.2)
 
-pub returns-in-Read-File-clause-uses : goal.returns-in-Read-File-clause-uses
-returns-in-Read-File-clause-uses c =
-    uses_paid c.args.objects.now.heap c.read_file.new.objects.heap c.purse_for-paid.result c.read_file.new.purse (bound c.args.call.now) _ c.read_file.ensures.paid
+pub returns-in-File-clause-uses : goal.returns-in-File-clause-uses
+returns-in-File-clause-uses c =
+    uses_paid c.args.objects.now.heap c.read.new.objects.heap c.purse_for-paid.result c.read.new.purse (bound c.args.call.now) _ c.read.ensures.paid
     (c.purse_for-paid.ensures.within c.args.call.now c.requires.needed)
 
-pub returns-in-Read-File-clause-does : goal.returns-in-Read-File-clause-does
-returns-in-Read-File-clause-does c =
-    serves_that c.args.script.now c.args.objects.now c.read_file.new.objects c.args.caller.now.pid c.args.call.now (call.Read (to_z w64 (of_z w64 c.in-Read.fd)) (to_z w64 (of_z w64 c.in-Read.addr)) (to_z w64 (of_z w64 c.in-Read.n))) c.read_file.result
-    (spelt_three c.args.call.now call.Read c.in-Read.fd c.in-Read.addr c.in-Read.n c.in-Read.is (search (rules, to_z-of_z)) (search (rules, to_z-of_z)) (search (rules, to_z-of_z))) c.read_file.ensures.does
+pub returns-in-File-clause-does : goal.returns-in-File-clause-does
+returns-in-File-clause-does c =
+    serves_that c.args.script.now c.args.objects.now c.read.new.objects c.args.caller.now.pid c.args.call.now (call.Read (to_z w64 (of_z w64 c.in-Read.fd)) (to_z w64 (of_z w64 c.in-Read.addr)) (to_z w64 (of_z w64 c.in-Read.n))) c.read.result
+    (spelt_three c.args.call.now call.Read c.in-Read.fd c.in-Read.addr c.in-Read.n c.in-Read.is (search (rules, to_z-of_z)) (search (rules, to_z-of_z)) (search (rules, to_z-of_z))) c.read.ensures.does
 
-pub returns-in-Read-File-clause-cached : goal.returns-in-Read-File-clause-cached
-returns-in-Read-File-clause-cached c =
-    subst (λ which. ReadsCached c.args.objects.now c.args.caller.now.pid which c.read_file.result c.read_file.new.objects)
-    (sym (spelt_three c.args.call.now call.Read c.in-Read.fd c.in-Read.addr c.in-Read.n c.in-Read.is (search (rules, to_z-of_z)) (search (rules, to_z-of_z)) (search (rules, to_z-of_z)))) c.read_file.ensures.cached
+pub returns-in-File-clause-cached : goal.returns-in-File-clause-cached
+returns-in-File-clause-cached c =
+    subst (λ which. ReadsCached c.args.objects.now c.args.caller.now.pid which c.read.result c.read.new.objects)
+    (sym (spelt_three c.args.call.now call.Read c.in-Read.fd c.in-Read.addr c.in-Read.n c.in-Read.is (search (rules, to_z-of_z)) (search (rules, to_z-of_z)) (search (rules, to_z-of_z)))) c.read.ensures.cached
 
 -- ---- Read of a queue
 
-pub read_queue-requires-clause-room : goal.read_queue-requires-clause-room
-read_queue-requires-clause-room c =
+pub read-requires-in-Queue-clause-room : goal.read-requires-in-Queue-clause-room
+read-requires-in-Queue-clause-room c =
     can_pay c.args.objects.now.heap c.purse_for-paid.result c.args.call.now (c.purse_for-paid.ensures.within c.args.call.now c.requires.needed) (room_less c.args.objects.now.heap c.args.call.now c.requires.room)
 
-pub read_queue-requires-clause-left : goal.read_queue-requires-clause-left
-read_queue-requires-clause-left c =
+pub read-requires-in-Queue-clause-left : goal.read-requires-in-Queue-clause-left
+read-requires-in-Queue-clause-left c =
     let addr : to_z w64 (of_z w64 c.in-Read.addr) ≡ c.in-Read.addr = search (rules, to_z-of_z) in
     let n : to_z w64 (of_z w64 c.in-Read.n) ≡ c.in-Read.n = search (rules, to_z-of_z) in
     subst (λ z. pages_touched (count_of z) (count_of (to_z w64 (of_z w64 c.in-Read.n))) ≤ c.purse_for-paid.result.left.page) (sym addr)
     (subst (λ z. pages_touched (count_of c.in-Read.addr) (count_of z) ≤ c.purse_for-paid.result.left.page) (sym n)
     (subst (λ (need : Need). pages_touched (count_of c.in-Read.addr) (count_of c.in-Read.n) ≤ need.page)
-    (sym (left_is c.purse_for-paid.result Queue c.args.need c.args.call.now (call.Read c.in-Read.fd c.in-Read.addr c.in-Read.n) (c.purse_for-paid.ensures.value ∙ ap (λ t. unspent (need_for t c.args.need)) c.in-Read-Queue.is) c.requires.needed c.requires.right c.in-Read.is)) (le_refl _)))
+    (sym (left_is c.purse_for-paid.result Queue c.args.need c.args.call.now (call.Read c.in-Read.fd c.in-Read.addr c.in-Read.n) (c.purse_for-paid.ensures.value ∙ ap (λ t. unspent (need_for t c.args.need)) c.in-Queue.is) c.requires.needed c.requires.right c.in-Read.is)) (le_refl _)))
 
-pub read_queue-requires-clause-off : goal.read_queue-requires-clause-off
-read_queue-requires-clause-off c = subst (IsOffFiles c.args.objects.now.heap c.args.objects.now.procs c.args.caller.now.pid) (spelt_three c.args.call.now call.Read c.in-Read.fd c.in-Read.addr c.in-Read.n c.in-Read.is (search (rules, to_z-of_z)) (search (rules, to_z-of_z)) (search (rules, to_z-of_z))) (c.target_of-target.ensures.off c.in-Read-Queue.is)
+pub read-requires-in-Queue-clause-off : goal.read-requires-in-Queue-clause-off
+read-requires-in-Queue-clause-off c = subst (IsOffFiles c.args.objects.now.heap c.args.objects.now.procs c.args.caller.now.pid) (spelt_three c.args.call.now call.Read c.in-Read.fd c.in-Read.addr c.in-Read.n c.in-Read.is (search (rules, to_z-of_z)) (search (rules, to_z-of_z)) (search (rules, to_z-of_z))) (c.target_of-target.ensures.off c.in-Queue.is)
 
-pub read_queue-requires-clause-runs : goal.read_queue-requires-clause-runs
-read_queue-requires-clause-runs c = caller_runs c.args.objects.now c.args.caller.now.pid c.args.caller.now c.requires.caller
+pub read-requires-in-Queue-clause-runs : goal.read-requires-in-Queue-clause-runs
+read-requires-in-Queue-clause-runs c = caller_runs c.args.objects.now c.args.caller.now.pid c.args.caller.now c.requires.caller
 
-pub read_queue-requires-clause-stands : goal.read_queue-requires-clause-stands
-read_queue-requires-clause-stands c = (c.requires.stands.0, c.requires.stands.1)
+pub read-requires-in-Queue-clause-stands : goal.read-requires-in-Queue-clause-stands
+read-requires-in-Queue-clause-stands c = (c.requires.stands.0, c.requires.stands.1)
 
-pub returns-in-Read-Queue-clause-uses : goal.returns-in-Read-Queue-clause-uses
-returns-in-Read-Queue-clause-uses c =
-    uses_paid c.args.objects.now.heap c.read_queue.new.objects.heap c.purse_for-paid.result c.read_queue.new.purse (bound c.args.call.now) _ c.read_queue.ensures.paid
+pub returns-in-Queue-clause-uses : goal.returns-in-Queue-clause-uses
+returns-in-Queue-clause-uses c =
+    uses_paid c.args.objects.now.heap c.read-in-Queue.new.objects.heap c.purse_for-paid.result c.read-in-Queue.new.purse (bound c.args.call.now) _ c.read-in-Queue.ensures.paid
     (c.purse_for-paid.ensures.within c.args.call.now c.requires.needed)
 
-pub returns-in-Read-Queue-clause-does : goal.returns-in-Read-Queue-clause-does
-returns-in-Read-Queue-clause-does c =
-    unnamed_served c.args.script.now c.args.objects.now c.read_queue.new.objects c.args.caller.now.pid c.args.call.now c.read_queue.result (λ plain. answer_to c.args.script.now plain c.args.caller.now.pid c.args.call.now) (ap path_to_leave c.in-Read.is)
-    (does_three c.args.script.now c.args.objects.now c.read_queue.new.objects c.args.caller.now.pid c.args.call.now c.read_queue.result call.Read c.in-Read.fd c.in-Read.addr c.in-Read.n c.in-Read.is
-    (search (rules, to_z-of_z)) (search (rules, to_z-of_z)) (search (rules, to_z-of_z)) c.read_queue.ensures.does)
+pub returns-in-Queue-clause-does : goal.returns-in-Queue-clause-does
+returns-in-Queue-clause-does c =
+    unnamed_served c.args.script.now c.args.objects.now c.read-in-Queue.new.objects c.args.caller.now.pid c.args.call.now c.read-in-Queue.result (λ plain. answer_to c.args.script.now plain c.args.caller.now.pid c.args.call.now) (ap path_to_leave c.in-Read.is)
+    (does_three c.args.script.now c.args.objects.now c.read-in-Queue.new.objects c.args.caller.now.pid c.args.call.now c.read-in-Queue.result call.Read c.in-Read.fd c.in-Read.addr c.in-Read.n c.in-Read.is
+    (search (rules, to_z-of_z)) (search (rules, to_z-of_z)) (search (rules, to_z-of_z)) c.read-in-Queue.ensures.does)
 
-pub returns-in-Read-Queue-clause-cached : goal.returns-in-Read-Queue-clause-cached
-returns-in-Read-Queue-clause-cached c =
-    queue_cached c.args.objects.now c.read_queue.new.objects c.args.caller.now.pid c.args.call.now c.in-Read.fd c.in-Read.addr c.in-Read.n c.read_queue.result c.in-Read.is (c.target_of-target.ensures.off c.in-Read-Queue.is)
+pub returns-in-Queue-clause-cached : goal.returns-in-Queue-clause-cached
+returns-in-Queue-clause-cached c =
+    queue_cached c.args.objects.now c.read-in-Queue.new.objects c.args.caller.now.pid c.args.call.now c.in-Read.fd c.in-Read.addr c.in-Read.n c.read-in-Queue.result c.in-Read.is (c.target_of-target.ensures.off c.in-Queue.is)
 
 -- ---- Write to a file
 
-pub write_file-requires-clause-runs : goal.write_file-requires-clause-runs
-write_file-requires-clause-runs c = caller_runs c.args.objects.now c.args.caller.now.pid c.args.caller.now c.requires.caller
+pub write-requires-clause-runs : goal.write-requires-clause-runs
+write-requires-clause-runs c = caller_runs c.args.objects.now c.args.caller.now.pid c.args.caller.now c.requires.caller
 
-pub write_file-requires-clause-right : goal.write_file-requires-clause-right
-write_file-requires-clause-right c = right_that c.args.call.now (call.Write (to_z w64 (of_z w64 c.in-Write.fd)) (to_z w64 (of_z w64 c.in-Write.addr)) (to_z w64 (of_z w64 c.in-Write.n)) 0) c.requires.right (spelt_three c.args.call.now (λ x y z. call.Write x y z c.in-Write.done) c.in-Write.fd c.in-Write.addr c.in-Write.n c.in-Write.is (search (rules, to_z-of_z)) (search (rules, to_z-of_z)) (search (rules, to_z-of_z)) ∙ ap (call.Write (to_z w64 (of_z w64 c.in-Write.fd)) (to_z w64 (of_z w64 c.in-Write.addr)) (to_z w64 (of_z w64 c.in-Write.n))) (fresh_is c.args.call.now c.in-Write.fd c.in-Write.addr c.in-Write.n c.in-Write.done c.in-Write.is (c.target_of-target.ensures.fresh c.in-Write-File.is c.args.script.now c.requires.stands.0 c.requires.stands.1 c.requires.stands.3)))
+pub write-requires-clause-right : goal.write-requires-clause-right
+write-requires-clause-right c = right_that c.args.call.now (call.Write (to_z w64 (of_z w64 c.in-Write.fd)) (to_z w64 (of_z w64 c.in-Write.addr)) (to_z w64 (of_z w64 c.in-Write.n)) 0) c.requires.right (spelt_three c.args.call.now (λ x y z. call.Write x y z c.in-Write.done) c.in-Write.fd c.in-Write.addr c.in-Write.n c.in-Write.is (search (rules, to_z-of_z)) (search (rules, to_z-of_z)) (search (rules, to_z-of_z)) ∙ ap (call.Write (to_z w64 (of_z w64 c.in-Write.fd)) (to_z w64 (of_z w64 c.in-Write.addr)) (to_z w64 (of_z w64 c.in-Write.n))) (fresh_is c.args.call.now c.in-Write.fd c.in-Write.addr c.in-Write.n c.in-Write.done c.in-Write.is (c.target_of-target.ensures.fresh c.in-File-target.is c.args.script.now c.requires.stands.0 c.requires.stands.1 c.requires.stands.3)))
 
-pub write_file-requires-clause-may : goal.write_file-requires-clause-may
-write_file-requires-clause-may c =
-    may_fetch c.args.objects.now.heap c.purse_for-paid.result c.args.need c.args.call.now (call.Write (to_z w64 (of_z w64 c.in-Write.fd)) (to_z w64 (of_z w64 c.in-Write.addr)) (to_z w64 (of_z w64 c.in-Write.n)) 0) (c.purse_for-paid.ensures.value ∙ ap (λ t. unspent (need_for t c.args.need)) c.in-Write-File.is) c.requires.needed c.requires.right
-    (spelt_three c.args.call.now (λ x y z. call.Write x y z c.in-Write.done) c.in-Write.fd c.in-Write.addr c.in-Write.n c.in-Write.is (search (rules, to_z-of_z)) (search (rules, to_z-of_z)) (search (rules, to_z-of_z)) ∙ ap (call.Write (to_z w64 (of_z w64 c.in-Write.fd)) (to_z w64 (of_z w64 c.in-Write.addr)) (to_z w64 (of_z w64 c.in-Write.n))) (fresh_is c.args.call.now c.in-Write.fd c.in-Write.addr c.in-Write.n c.in-Write.done c.in-Write.is (c.target_of-target.ensures.fresh c.in-Write-File.is c.args.script.now c.requires.stands.0 c.requires.stands.1 c.requires.stands.3))) refl (room_less c.args.objects.now.heap c.args.call.now c.requires.room)
+pub write-requires-clause-may : goal.write-requires-clause-may
+write-requires-clause-may c =
+    may_fetch c.args.objects.now.heap c.purse_for-paid.result c.args.need c.args.call.now (call.Write (to_z w64 (of_z w64 c.in-Write.fd)) (to_z w64 (of_z w64 c.in-Write.addr)) (to_z w64 (of_z w64 c.in-Write.n)) 0) (c.purse_for-paid.ensures.value ∙ ap (λ t. unspent (need_for t c.args.need)) c.in-File-target.is) c.requires.needed c.requires.right
+    (spelt_three c.args.call.now (λ x y z. call.Write x y z c.in-Write.done) c.in-Write.fd c.in-Write.addr c.in-Write.n c.in-Write.is (search (rules, to_z-of_z)) (search (rules, to_z-of_z)) (search (rules, to_z-of_z)) ∙ ap (call.Write (to_z w64 (of_z w64 c.in-Write.fd)) (to_z w64 (of_z w64 c.in-Write.addr)) (to_z w64 (of_z w64 c.in-Write.n))) (fresh_is c.args.call.now c.in-Write.fd c.in-Write.addr c.in-Write.n c.in-Write.done c.in-Write.is (c.target_of-target.ensures.fresh c.in-File-target.is c.args.script.now c.requires.stands.0 c.requires.stands.1 c.requires.stands.3))) refl (room_less c.args.objects.now.heap c.args.call.now c.requires.room)
 
-pub write_file-requires-clause-needed : goal.write_file-requires-clause-needed
-write_file-requires-clause-needed c =
-    has_file_need c.args.objects.now.heap c.purse_for-paid.result c.args.need c.args.call.now (call.Write (to_z w64 (of_z w64 c.in-Write.fd)) (to_z w64 (of_z w64 c.in-Write.addr)) (to_z w64 (of_z w64 c.in-Write.n)) 0) (c.purse_for-paid.ensures.value ∙ ap (λ t. unspent (need_for t c.args.need)) c.in-Write-File.is) c.requires.needed c.requires.right
-    (spelt_three c.args.call.now (λ x y z. call.Write x y z c.in-Write.done) c.in-Write.fd c.in-Write.addr c.in-Write.n c.in-Write.is (search (rules, to_z-of_z)) (search (rules, to_z-of_z)) (search (rules, to_z-of_z)) ∙ ap (call.Write (to_z w64 (of_z w64 c.in-Write.fd)) (to_z w64 (of_z w64 c.in-Write.addr)) (to_z w64 (of_z w64 c.in-Write.n))) (fresh_is c.args.call.now c.in-Write.fd c.in-Write.addr c.in-Write.n c.in-Write.done c.in-Write.is (c.target_of-target.ensures.fresh c.in-Write-File.is c.args.script.now c.requires.stands.0 c.requires.stands.1 c.requires.stands.3)))
+pub write-requires-clause-needed : goal.write-requires-clause-needed
+write-requires-clause-needed c =
+    has_file_need c.args.objects.now.heap c.purse_for-paid.result c.args.need c.args.call.now (call.Write (to_z w64 (of_z w64 c.in-Write.fd)) (to_z w64 (of_z w64 c.in-Write.addr)) (to_z w64 (of_z w64 c.in-Write.n)) 0) (c.purse_for-paid.ensures.value ∙ ap (λ t. unspent (need_for t c.args.need)) c.in-File-target.is) c.requires.needed c.requires.right
+    (spelt_three c.args.call.now (λ x y z. call.Write x y z c.in-Write.done) c.in-Write.fd c.in-Write.addr c.in-Write.n c.in-Write.is (search (rules, to_z-of_z)) (search (rules, to_z-of_z)) (search (rules, to_z-of_z)) ∙ ap (call.Write (to_z w64 (of_z w64 c.in-Write.fd)) (to_z w64 (of_z w64 c.in-Write.addr)) (to_z w64 (of_z w64 c.in-Write.n))) (fresh_is c.args.call.now c.in-Write.fd c.in-Write.addr c.in-Write.n c.in-Write.done c.in-Write.is (c.target_of-target.ensures.fresh c.in-File-target.is c.args.script.now c.requires.stands.0 c.requires.stands.1 c.requires.stands.3)))
 
-pub write_file-requires-clause-on : goal.write_file-requires-clause-on
-write_file-requires-clause-on c = subst (IsOnFile c.args.objects.now.heap c.args.objects.now.procs c.args.caller.now.pid) (spelt_three c.args.call.now (λ x y z. call.Write x y z c.in-Write.done) c.in-Write.fd c.in-Write.addr c.in-Write.n c.in-Write.is (search (rules, to_z-of_z)) (search (rules, to_z-of_z)) (search (rules, to_z-of_z)) ∙ ap (call.Write (to_z w64 (of_z w64 c.in-Write.fd)) (to_z w64 (of_z w64 c.in-Write.addr)) (to_z w64 (of_z w64 c.in-Write.n))) (fresh_is c.args.call.now c.in-Write.fd c.in-Write.addr c.in-Write.n c.in-Write.done c.in-Write.is (c.target_of-target.ensures.fresh c.in-Write-File.is c.args.script.now c.requires.stands.0 c.requires.stands.1 c.requires.stands.3))) (c.target_of-target.ensures.on c.in-Write-File.is)
+pub write-requires-clause-on : goal.write-requires-clause-on
+write-requires-clause-on c = subst (IsOnFile c.args.objects.now.heap c.args.objects.now.procs c.args.caller.now.pid) (spelt_three c.args.call.now (λ x y z. call.Write x y z c.in-Write.done) c.in-Write.fd c.in-Write.addr c.in-Write.n c.in-Write.is (search (rules, to_z-of_z)) (search (rules, to_z-of_z)) (search (rules, to_z-of_z)) ∙ ap (call.Write (to_z w64 (of_z w64 c.in-Write.fd)) (to_z w64 (of_z w64 c.in-Write.addr)) (to_z w64 (of_z w64 c.in-Write.n))) (fresh_is c.args.call.now c.in-Write.fd c.in-Write.addr c.in-Write.n c.in-Write.done c.in-Write.is (c.target_of-target.ensures.fresh c.in-File-target.is c.args.script.now c.requires.stands.0 c.requires.stands.1 c.requires.stands.3))) (c.target_of-target.ensures.on c.in-File-target.is)
 
-pub write_file-requires-clause-stands : goal.write_file-requires-clause-stands
-write_file-requires-clause-stands c = (c.requires.stands.0, c.requires.stands.1, c.requires.stands.2)
+pub write-requires-clause-stands : goal.write-requires-clause-stands
+write-requires-clause-stands c = (c.requires.stands.0, c.requires.stands.1, c.requires.stands.2)
 
-pub returns-in-Write-File-clause-uses : goal.returns-in-Write-File-clause-uses
-returns-in-Write-File-clause-uses c =
-    uses_paid c.args.objects.now.heap c.write_file.new.objects.heap c.purse_for-paid.result c.write_file.new.purse (bound c.args.call.now) _ c.write_file.ensures.paid
+pub returns-in-File-target-clause-uses : goal.returns-in-File-target-clause-uses
+returns-in-File-target-clause-uses c =
+    uses_paid c.args.objects.now.heap c.write.new.objects.heap c.purse_for-paid.result c.write.new.purse (bound c.args.call.now) _ c.write.ensures.paid
     (c.purse_for-paid.ensures.within c.args.call.now c.requires.needed)
 
-pub returns-in-Write-File-clause-does : goal.returns-in-Write-File-clause-does
-returns-in-Write-File-clause-does c =
-    serves_that c.args.script.now c.args.objects.now c.write_file.new.objects c.args.caller.now.pid c.args.call.now (call.Write (to_z w64 (of_z w64 c.in-Write.fd)) (to_z w64 (of_z w64 c.in-Write.addr)) (to_z w64 (of_z w64 c.in-Write.n)) 0) c.write_file.result
-    (spelt_three c.args.call.now (λ x y z. call.Write x y z c.in-Write.done) c.in-Write.fd c.in-Write.addr c.in-Write.n c.in-Write.is (search (rules, to_z-of_z)) (search (rules, to_z-of_z)) (search (rules, to_z-of_z)) ∙ ap (call.Write (to_z w64 (of_z w64 c.in-Write.fd)) (to_z w64 (of_z w64 c.in-Write.addr)) (to_z w64 (of_z w64 c.in-Write.n))) (fresh_is c.args.call.now c.in-Write.fd c.in-Write.addr c.in-Write.n c.in-Write.done c.in-Write.is (c.target_of-target.ensures.fresh c.in-Write-File.is c.args.script.now c.requires.stands.0 c.requires.stands.1 c.requires.stands.3))) c.write_file.ensures.does
+pub returns-in-File-target-clause-does : goal.returns-in-File-target-clause-does
+returns-in-File-target-clause-does c =
+    serves_that c.args.script.now c.args.objects.now c.write.new.objects c.args.caller.now.pid c.args.call.now (call.Write (to_z w64 (of_z w64 c.in-Write.fd)) (to_z w64 (of_z w64 c.in-Write.addr)) (to_z w64 (of_z w64 c.in-Write.n)) 0) c.write.result
+    (spelt_three c.args.call.now (λ x y z. call.Write x y z c.in-Write.done) c.in-Write.fd c.in-Write.addr c.in-Write.n c.in-Write.is (search (rules, to_z-of_z)) (search (rules, to_z-of_z)) (search (rules, to_z-of_z)) ∙ ap (call.Write (to_z w64 (of_z w64 c.in-Write.fd)) (to_z w64 (of_z w64 c.in-Write.addr)) (to_z w64 (of_z w64 c.in-Write.n))) (fresh_is c.args.call.now c.in-Write.fd c.in-Write.addr c.in-Write.n c.in-Write.done c.in-Write.is (c.target_of-target.ensures.fresh c.in-File-target.is c.args.script.now c.requires.stands.0 c.requires.stands.1 c.requires.stands.3))) c.write.ensures.does
 
-pub returns-in-Write-File-clause-cached : goal.returns-in-Write-File-clause-cached
-returns-in-Write-File-clause-cached c = subst (λ which. ReadsCached c.args.objects.now c.args.caller.now.pid which c.write_file.result c.write_file.new.objects) (sym c.in-Write.is) tt
+pub returns-in-File-target-clause-cached : goal.returns-in-File-target-clause-cached
+returns-in-File-target-clause-cached c = subst (λ which. ReadsCached c.args.objects.now c.args.caller.now.pid which c.write.result c.write.new.objects) (sym c.in-Write.is) tt
 
 -- ---- Write to a queue
 
-pub write_queue-requires-clause-room : goal.write_queue-requires-clause-room
-write_queue-requires-clause-room c =
+pub write-requires-in-Queue-target-clause-room : goal.write-requires-in-Queue-target-clause-room
+write-requires-in-Queue-target-clause-room c =
     can_pay c.args.objects.now.heap c.purse_for-paid.result c.args.call.now (c.purse_for-paid.ensures.within c.args.call.now c.requires.needed) (room_less c.args.objects.now.heap c.args.call.now c.requires.room)
 
-pub write_queue-requires-clause-so_far : goal.write_queue-requires-clause-so_far
-write_queue-requires-clause-so_far c = done_is c.args.call.now c.in-Write.fd c.in-Write.addr c.in-Write.n c.in-Write.done c.args.caller.now.control.done c.in-Write.is c.requires.so_far
+pub write-requires-in-Queue-target-clause-so_far : goal.write-requires-in-Queue-target-clause-so_far
+write-requires-in-Queue-target-clause-so_far c = done_is c.args.call.now c.in-Write.fd c.in-Write.addr c.in-Write.n c.in-Write.done c.args.caller.now.control.done c.in-Write.is c.requires.so_far
 
-pub write_queue-requires-clause-left : goal.write_queue-requires-clause-left
-write_queue-requires-clause-left c =
+pub write-requires-in-Queue-target-clause-left : goal.write-requires-in-Queue-target-clause-left
+write-requires-in-Queue-target-clause-left c =
     let n : to_z w64 (of_z w64 c.in-Write.n) ≡ c.in-Write.n = search (rules, to_z-of_z) in
     subst (λ z. chunks_for (count_of z - c.in-Write.done) ≤ c.purse_for-paid.result.left.chunk) (sym n)
     (subst (λ (need : Need). chunks_for (count_of c.in-Write.n - c.in-Write.done) ≤ need.chunk)
-    (sym (left_is c.purse_for-paid.result Queue c.args.need c.args.call.now (call.Write c.in-Write.fd c.in-Write.addr c.in-Write.n c.in-Write.done) (c.purse_for-paid.ensures.value ∙ ap (λ t. unspent (need_for t c.args.need)) c.in-Write-Queue.is) c.requires.needed c.requires.right c.in-Write.is)) (le_refl _))
+    (sym (left_is c.purse_for-paid.result Queue c.args.need c.args.call.now (call.Write c.in-Write.fd c.in-Write.addr c.in-Write.n c.in-Write.done) (c.purse_for-paid.ensures.value ∙ ap (λ t. unspent (need_for t c.args.need)) c.in-Queue-target.is) c.requires.needed c.requires.right c.in-Write.is)) (le_refl _))
 
-pub write_queue-requires-clause-off : goal.write_queue-requires-clause-off
-write_queue-requires-clause-off c = subst (IsOffFiles c.args.objects.now.heap c.args.objects.now.procs c.args.caller.now.pid) (spelt_three c.args.call.now (λ x y z. call.Write x y z c.in-Write.done) c.in-Write.fd c.in-Write.addr c.in-Write.n c.in-Write.is (search (rules, to_z-of_z)) (search (rules, to_z-of_z)) (search (rules, to_z-of_z))) (c.target_of-target.ensures.off c.in-Write-Queue.is)
+pub write-requires-in-Queue-target-clause-off : goal.write-requires-in-Queue-target-clause-off
+write-requires-in-Queue-target-clause-off c = subst (IsOffFiles c.args.objects.now.heap c.args.objects.now.procs c.args.caller.now.pid) (spelt_three c.args.call.now (λ x y z. call.Write x y z c.in-Write.done) c.in-Write.fd c.in-Write.addr c.in-Write.n c.in-Write.is (search (rules, to_z-of_z)) (search (rules, to_z-of_z)) (search (rules, to_z-of_z))) (c.target_of-target.ensures.off c.in-Queue-target.is)
 
-pub write_queue-requires-clause-runs : goal.write_queue-requires-clause-runs
-write_queue-requires-clause-runs c = caller_runs c.args.objects.now c.args.caller.now.pid c.args.caller.now c.requires.caller
+pub write-requires-in-Queue-target-clause-runs : goal.write-requires-in-Queue-target-clause-runs
+write-requires-in-Queue-target-clause-runs c = caller_runs c.args.objects.now c.args.caller.now.pid c.args.caller.now c.requires.caller
 
-pub write_queue-requires-clause-stands : goal.write_queue-requires-clause-stands
-write_queue-requires-clause-stands c = (c.requires.stands.0, c.requires.stands.1)
+pub write-requires-in-Queue-target-clause-stands : goal.write-requires-in-Queue-target-clause-stands
+write-requires-in-Queue-target-clause-stands c = (c.requires.stands.0, c.requires.stands.1)
 
-pub returns-in-Write-Queue-clause-uses : goal.returns-in-Write-Queue-clause-uses
-returns-in-Write-Queue-clause-uses c =
-    uses_paid c.args.objects.now.heap c.write_queue.new.objects.heap c.purse_for-paid.result c.write_queue.new.purse (bound c.args.call.now) _ c.write_queue.ensures.paid
+pub returns-in-Queue-target-clause-uses : goal.returns-in-Queue-target-clause-uses
+returns-in-Queue-target-clause-uses c =
+    uses_paid c.args.objects.now.heap c.write-in-Queue-target.new.objects.heap c.purse_for-paid.result c.write-in-Queue-target.new.purse (bound c.args.call.now) _ c.write-in-Queue-target.ensures.paid
     (c.purse_for-paid.ensures.within c.args.call.now c.requires.needed)
 
-pub returns-in-Write-Queue-clause-does : goal.returns-in-Write-Queue-clause-does
-returns-in-Write-Queue-clause-does c =
-    unnamed_served c.args.script.now c.args.objects.now c.write_queue.new.objects c.args.caller.now.pid c.args.call.now c.write_queue.result (λ plain. answer_to c.args.script.now plain c.args.caller.now.pid c.args.call.now) (ap path_to_leave c.in-Write.is)
-    (does_three c.args.script.now c.args.objects.now c.write_queue.new.objects c.args.caller.now.pid c.args.call.now c.write_queue.result (λ x y z. call.Write x y z c.in-Write.done) c.in-Write.fd c.in-Write.addr c.in-Write.n c.in-Write.is
-    (search (rules, to_z-of_z)) (search (rules, to_z-of_z)) (search (rules, to_z-of_z)) c.write_queue.ensures.does)
+pub returns-in-Queue-target-clause-does : goal.returns-in-Queue-target-clause-does
+returns-in-Queue-target-clause-does c =
+    unnamed_served c.args.script.now c.args.objects.now c.write-in-Queue-target.new.objects c.args.caller.now.pid c.args.call.now c.write-in-Queue-target.result (λ plain. answer_to c.args.script.now plain c.args.caller.now.pid c.args.call.now) (ap path_to_leave c.in-Write.is)
+    (does_three c.args.script.now c.args.objects.now c.write-in-Queue-target.new.objects c.args.caller.now.pid c.args.call.now c.write-in-Queue-target.result (λ x y z. call.Write x y z c.in-Write.done) c.in-Write.fd c.in-Write.addr c.in-Write.n c.in-Write.is
+    (search (rules, to_z-of_z)) (search (rules, to_z-of_z)) (search (rules, to_z-of_z)) c.write-in-Queue-target.ensures.does)
 
-pub returns-in-Write-Queue-clause-cached : goal.returns-in-Write-Queue-clause-cached
-returns-in-Write-Queue-clause-cached c = subst (λ which. ReadsCached c.args.objects.now c.args.caller.now.pid which c.write_queue.result c.write_queue.new.objects) (sym c.in-Write.is) tt
+pub returns-in-Queue-target-clause-cached : goal.returns-in-Queue-target-clause-cached
+returns-in-Queue-target-clause-cached c = subst (λ which. ReadsCached c.args.objects.now c.args.caller.now.pid which c.write-in-Queue-target.result c.write-in-Queue-target.new.objects) (sym c.in-Write.is) tt
 
 -- ---- Pread
 
