@@ -6,6 +6,7 @@ ghost use Rattle.kheap_slabs.specs.Heap.{live_bytes};
 ghost use Rattle.posix_defs.specs.Calls.OnDescriptors.{close, dup2};
 ghost use Rattle.posix_defs.specs.Sizes.{reserve};
 ghost use Rattle.posix_defs.specs.World.{World};
+ghost use Rattle.proc_table.specs.Table.{IsPlaced};
 ghost use Rattle.store_objects.specs.Objects.{AreKept, Runs};
 ghost use Rattle.store_objects.specs.Standing.{IsSound, StandsFor};
 ghost use Rattle.store_objects.specs.Uses.{UsesAtMost};
@@ -26,11 +27,12 @@ use store_objects::{Caller, Objects, go_on, kept_back};
 #[inline(never)]
 pub fn close(script: &Script, objects: &mut Objects, caller: &Caller, fd: i64) -> Turned
     requires stands { (world : World) × StandsFor script.now objects.old world × IsSound world.plain }
-    requires runs { Runs objects.old caller.now.pid caller.now.control }
+    requires runs { Runs objects.old caller.now.place.pid caller.now.control }
+    requires placed { IsPlaced objects.old.procs caller.now.place }
     requires room { live_bytes objects.old.heap + reserve ≤ objects.old.heap.heap }
     ensures kept { AreKept script.now objects.new }
     ensures uses { UsesAtMost objects.old.heap objects.new.heap 0 reserve }
-    ensures does { Serves script.now objects.old caller.now.pid (Call.Close fd) (λ plain. close script.now plain caller.now.pid fd) result objects.new }
+    ensures does { Serves script.now objects.old caller.now.place.pid (Call.Close fd) (λ plain. close script.now plain caller.now.place.pid fd) result objects.new }
 {
     objects.heap_is_well_formed();
     let mut purse = kept_back();
@@ -40,7 +42,7 @@ pub fn close(script: &Script, objects: &mut Objects, caller: &Caller, fd: i64) -
         &objects.procs,
         &mut objects.tree,
         &mut objects.names,
-        caller.pid,
+        caller.place,
         fd,
     );
     go_on(script, objects, caller, zero(closed))
@@ -55,11 +57,12 @@ pub fn close(script: &Script, objects: &mut Objects, caller: &Caller, fd: i64) -
 #[inline(never)]
 pub fn dup2(script: &Script, objects: &mut Objects, caller: &Caller, fd: i64, to: i64) -> Turned
     requires stands { (world : World) × StandsFor script.now objects.old world × IsSound world.plain }
-    requires runs { Runs objects.old caller.now.pid caller.now.control }
+    requires runs { Runs objects.old caller.now.place.pid caller.now.control }
+    requires placed { IsPlaced objects.old.procs caller.now.place }
     requires room { live_bytes objects.old.heap + reserve ≤ objects.old.heap.heap }
     ensures kept { AreKept script.now objects.new }
     ensures uses { UsesAtMost objects.old.heap objects.new.heap 0 reserve }
-    ensures does { Serves script.now objects.old caller.now.pid (Call.Dup2 fd to) (λ plain. dup2 script.now plain caller.now.pid fd to) result objects.new }
+    ensures does { Serves script.now objects.old caller.now.place.pid (Call.Dup2 fd to) (λ plain. dup2 script.now plain caller.now.place.pid fd to) result objects.new }
 {
     objects.heap_is_well_formed();
     let mut purse = kept_back();
@@ -69,7 +72,7 @@ pub fn dup2(script: &Script, objects: &mut Objects, caller: &Caller, fd: i64, to
         &objects.procs,
         &mut objects.tree,
         &mut objects.names,
-        caller.pid,
+        caller.place,
         fd,
         to,
     );

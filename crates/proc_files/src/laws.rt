@@ -50,3 +50,44 @@ pub fn other_calls_leave_names()
     ensures shut { (files : Files) (place : ℕ) (how : ℤ) → IsSome (sock_at files.sockets place) → HaveNames files
         → HaveNames (with_sockets files (after_shut files.sockets place how)) }
 {}
+pub fn made_sockets_have_no_names()
+    ensures { (numbers : Numbers) (after : Numbers) (old : Heap) (new : Heap) (kept : TableView) (files : Files) (now : Files)
+        → HaveOpen numbers old kept files → HaveOpen after new kept now → KeepsNumbers old numbers after
+        → ((key : ℕ) → InUse old.socks key → InUse new.socks key)
+        → ((place : ℕ) → (socket_at now.sockets place).node ≡ (socket_at files.sockets place).node)
+        → (key : ℕ) → name_of new.socks key ≡ name_of old.socks key }
+{}
+
+/// The calls that neither bind, connect nor close leave each bound socket bound to a socket's name, and who waits without one.
+pub fn other_calls_leave_names()
+    ensures made { (files : Files) → HaveNames files
+        → HaveNames (with_sockets files (with_new files.sockets (length files.sockets))) }
+    ensures pair { (files : Files) → HaveNames files
+        → HaveNames (with_sockets files (with_pair files.sockets (length files.sockets) (length files.sockets + 1))) }
+    ensures listening { (files : Files) (place : ℕ) → IsSome (sock_at files.sockets place) → HaveNames files
+        → HaveNames (with_sockets files (after_listen files.sockets place)) }
+    ensures accepted { (files : Files) (place : ℕ) → IsSome (sock_at files.sockets place) → HaveNames files
+        → HaveNames (with_sockets files (after_accept files.sockets place)) }
+    ensures read { (files : Files) (place count : ℕ) → IsSome (sock_at files.sockets place) → HaveNames files
+        → HaveNames (with_sockets files (after_read files.sockets place count)) }
+    ensures written { (files : Files) (place : ℕ) (bytes : List ℕ) (count : ℕ) → AreLinked files.sockets → HaveNames files
+        → HaveNames (with_sockets files (after_write files.sockets place bytes count)) }
+    ensures shut { (files : Files) (place : ℕ) (how : ℤ) → IsSome (sock_at files.sockets place) → HaveNames files
+        → HaveNames (with_sockets files (after_shut files.sockets place how)) }
+{}
+pub fn other_calls_leave_names()
+    ensures made { (files : Files) → HaveNames files
+        → HaveNames (with_sockets files (with_new files.sockets (length files.sockets))) }
+    ensures pair { (files : Files) → HaveNames files
+        → HaveNames (with_sockets files (with_pair files.sockets (length files.sockets) (length files.sockets + 1))) }
+    ensures listening { (files : Files) (place : ℕ) → IsSome (sock_at files.sockets place) → HaveNames files
+        → HaveNames (with_sockets files (after_listen files.sockets place)) }
+    ensures accepted { (files : Files) (place : ℕ) → IsSome (sock_at files.sockets place) → HaveNames files
+        → HaveNames (with_sockets files (after_accept files.sockets place)) }
+    ensures read { (files : Files) (place count : ℕ) → IsSome (sock_at files.sockets place) → HaveNames files
+        → HaveNames (with_sockets files (after_read files.sockets place count)) }
+    ensures written { (files : Files) (place : ℕ) (bytes : List ℕ) (count : ℕ) → AreLinked files.sockets → HaveNames files
+        → HaveNames (with_sockets files (after_write files.sockets place bytes count)) }
+    ensures shut { (files : Files) (place : ℕ) (how : ℤ) → IsSome (sock_at files.sockets place) → HaveNames files
+        → HaveNames (with_sockets files (after_shut files.sockets place how)) }
+{}

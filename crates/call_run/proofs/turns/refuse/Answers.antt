@@ -16,6 +16,9 @@ caller-requires c = let alive = c.requires.alive in alive.1.stands.kept.holds.st
 pub go_on-requires-clause-kept : goal.go_on-requires-clause-kept
 go_on-requires-clause-kept c = let alive = c.requires.alive in alive.1.stands.kept
 
+pub go_on-requires-clause-placed : goal.go_on-requires-clause-placed
+go_on-requires-clause-placed c = c.in-Some.ensures.some.placed
+
 pub unreachable-requires : goal.unreachable-requires
 unreachable-requires c =
     let alive = c.requires.alive in

@@ -15,7 +15,7 @@ use Rattle.store_objects.proofs.StoreFiles.{holds_names}
 use Rattle.store_objects.proofs.Keeping.{listed_in}
 use Rattle.store_objects.proofs.Paying.{uses_nothing, uses_then}
 use Rattle.store_objects.proofs.Within.{within_same}
-use Rattle.file_calls.proofs.CallingOpens.{holds_some_names, kept_mid, key_who_runs, mid, runs_mid, serves_naming}
+use Rattle.file_calls.proofs.CallingOpens.{holds_some_names, kept_mid, mid, runs_mid, serves_naming}
 use Rattle.file_calls.proofs.Purses.{can_pay, may_close, uses_back}
 use Rattle.file_calls.proofs.Reached.{leaves_numbers, second_off, stays_replaced}
 use Rattle.file_calls.proofs.closing.dup2.Goals as goal
@@ -25,9 +25,6 @@ dup_number-made-requires-clause-listed c = listed_in c.args.script.now c.args.ob
 
 pub dup_number-made-requires-clause-owners : goal.dup_number-made-requires-clause-owners
 dup_number-made-requires-clause-owners c = c.requires.stands.1.kept.owners
-
-pub dup_number-made-requires-clause-there : goal.dup_number-made-requires-clause-there
-dup_number-made-requires-clause-there c = key_who_runs c.args.script.now c.args.objects.now c.args.caller.now.pid c.args.caller.now.control c.requires.stands.1.kept c.requires.runs
 
 pub dup_number-made-requires-clause-hold : goal.dup_number-made-requires-clause-hold
 dup_number-made-requires-clause-hold c =
@@ -42,14 +39,14 @@ pub go_on-requires-clause-kept : goal.go_on-requires-clause-kept
 go_on-requires-clause-kept c =
     let n = c.dup_number-made in
     let some = n.ensures.hold in
-    kept_mid c.args.script.now c.args.objects.now n.new.heap n.new.tree n.new.names c.args.caller.now.pid c.args.caller.now.control c.requires.stands.1.kept c.requires.runs n.ensures.changes n.ensures.listed n.ensures.owners
+    kept_mid c.args.script.now c.args.objects.now n.new.heap n.new.tree n.new.names c.args.caller.now.place.pid c.args.caller.now.control c.requires.stands.1.kept c.requires.runs n.ensures.changes n.ensures.listed n.ensures.owners
     some.hold.bound n.ensures.places (record { numbers = some.numbers; others = some.others; files = some.files; hold = some.hold.held })
 
 pub go_on-requires-clause-runs : goal.go_on-requires-clause-runs
 go_on-requires-clause-runs c =
     let n = c.dup_number-made in
     let some = n.ensures.hold in
-    runs_mid c.args.script.now c.args.objects.now n.new.heap n.new.tree n.new.names c.args.caller.now.pid c.args.caller.now.control c.requires.stands.1.kept c.requires.runs n.ensures.changes n.ensures.listed n.ensures.owners
+    runs_mid c.args.script.now c.args.objects.now n.new.heap n.new.tree n.new.names c.args.caller.now.place.pid c.args.caller.now.control c.requires.stands.1.kept c.requires.runs n.ensures.changes n.ensures.listed n.ensures.owners
     some.hold.bound n.ensures.places (record { numbers = some.numbers; others = some.others; files = some.files; hold = some.hold.held })
 
 pub returns-clause-uses : goal.returns-clause-uses
@@ -64,7 +61,7 @@ pub returns-clause-does : goal.returns-clause-does
 returns-clause-does c =
     let script = c.args.script.now in
     let old = c.args.objects.now in
-    let pid = c.args.caller.now.pid in
+    let pid = c.args.caller.now.place.pid in
     let n = c.dup_number-made in
     let some = n.ensures.hold in
     let kept = c.requires.stands.1.kept in

@@ -17,14 +17,14 @@ open_one-requires-clause-listed c =
     listed_on c.args.heap.now c.describe-desc.new.heap c.args.procs.now (ap (λ (h : Heap). h.procs) c.describe-desc.ensures.kept) c.requires.listed
 
 pub open_one-requires-clause-free : goal.open_one-requires-clause-free
-open_one-requires-clause-free c = ap (λ (h : Heap). named_at h c.args.procs.now c.args.pid c.args.fd) c.describe-desc.ensures.kept ∙ c.requires.free
+open_one-requires-clause-free c = ap (λ (h : Heap). named_at h c.args.procs.now c.args.place.pid c.args.fd) c.describe-desc.ensures.kept ∙ c.requires.free
 
 pub returns-clause-opened : goal.returns-clause-opened
 returns-clause-opened c = λ numbers files have. record {
   key = c.describe-desc.result;
   vacant = c.describe-desc.ensures.vacant;
   stands = subst (HaveOpen (with_desc numbers files c.describe-desc.result) c.open_one.new.heap c.args.procs.now)
-      (opened_then numbers files c.args.sock c.describe-desc.result c.args.pid c.args.fd)
+      (opened_then numbers files c.args.sock c.describe-desc.result c.args.place.pid c.args.fd)
       (c.open_one.ensures.opened (with_desc numbers files c.describe-desc.result) (described_more files (numbers.socks c.args.sock))
       (c.describe-desc.ensures.opened numbers files c.args.procs.now [] c.requires.listed c.requires.named have));
 }
@@ -39,9 +39,9 @@ returns-clause-nodes c = λ none.
 
 pub returns-clause-changes : goal.returns-clause-changes
 returns-clause-changes c =
-    changes_after c.args.heap.now c.describe-desc.new.heap c.open_one.new.heap c.args.procs.now c.args.pid (ap (λ (h : Heap). h.procs) c.describe-desc.ensures.kept)
+    changes_after c.args.heap.now c.describe-desc.new.heap c.open_one.new.heap c.args.procs.now c.args.place.pid (ap (λ (h : Heap). h.procs) c.describe-desc.ensures.kept)
     (subst (λ (h : Heap). h ≡ record c.args.heap.now { procs = h.procs; descs = h.descs; pipes = h.pipes; chunks = h.chunks; socks = h.socks; high = h.high }) (sym c.describe-desc.ensures.kept) refl)
-    (changes_named c.describe-desc.new.heap c.open_one.new.heap c.args.procs.now c.args.pid c.args.fd (record { desc = c.describe-desc.result; close_on_exec = false })
+    (changes_named c.describe-desc.new.heap c.open_one.new.heap c.args.procs.now c.args.place.pid c.args.fd (record { desc = c.describe-desc.result; close_on_exec = false })
     (listed_on c.args.heap.now c.describe-desc.new.heap c.args.procs.now (ap (λ (h : Heap). h.procs) c.describe-desc.ensures.kept) c.requires.listed) c.open_one.ensures.names)
 
 pub returns-clause-queues : goal.returns-clause-queues
