@@ -37,8 +37,8 @@ use kabi_types::{Call, Errno, Memory, Need, Reply, Script, may_wait};
 use path_calls::{chdir, link, mkdir, rename, rmdir, stat, unlink};
 use posix_defs::Turned;
 use proc_files::{FileBuffer, MOST_MOVED, is_on_node};
-use process_calls::{exit, fork, load, mmap, munmap, signal_process, store, wait, would_sleep};
 use proc_table::Place;
+use process_calls::{exit, fork, load, mmap, munmap, signal_process, store, wait, would_sleep};
 use prog_ctl::Awaited;
 use queue_calls::{
     Buffer, CAPACITY, accept, accept_would_block, dup, fcntl, listen, pipe, poll, poll_would_block,
@@ -162,9 +162,9 @@ fn run_right(
             *flags,
         ),
         Call::Close { fd } => close(script, objects, caller, *fd),
-        Call::Dup { fd } => dup(script, objects, caller, *fd),
-        Call::Dup2 { fd, to } => dup2(script, objects, caller, *fd, *to),
-        Call::Fcntl { fd, cmd, arg } => fcntl(script, objects, caller, *fd, *cmd, *arg),
+        Call::Dup { fd } => dup(script, objects, purse, caller, *fd),
+        Call::Dup2 { fd, to } => dup2(script, objects, purse, caller, *fd, *to),
+        Call::Fcntl { fd, cmd, arg } => fcntl(script, objects, purse, caller, *fd, *cmd, *arg),
         Call::Read { fd, addr, n } => match target {
             Target::File => read_file(script, objects, purse, file, caller, *fd, *addr, *n),
             Target::Queue => {

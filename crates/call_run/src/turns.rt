@@ -174,7 +174,10 @@ fn end_other(objects: &mut Objects, pid: u32)
     if pid == INIT || !objects.runs(pid) {
         return;
     }
-    let place = Place { pid, key: objects.key_there(pid) };
+    let place = Place {
+        pid,
+        key: objects.key_there(pid),
+    };
     end(objects, place, SIGKILL);
     objects.heap_is_well_formed();
 }

@@ -1,9 +1,10 @@
 //! The calls with which descriptions go: `close` and `dup2`.
 
-ghost use Rattle.std.specs.Prelude.{◌≤◌, ◌+◌};
+ghost use Rattle.std.specs.Prelude.{◌≡◌, ◌≤◌, ◌+◌};
 ghost use Rattle.kabi_types.specs.declared.calls.Call.{Call};
 ghost use Rattle.kheap_slabs.specs.Heap.{live_bytes};
 ghost use Rattle.posix_defs.specs.Calls.OnDescriptors.{close, dup2};
+ghost use Rattle.posix_defs.specs.Needs.{bound, need_of};
 ghost use Rattle.posix_defs.specs.Sizes.{reserve};
 ghost use Rattle.posix_defs.specs.World.{World};
 ghost use Rattle.proc_table.specs.Table.{IsPlaced};
@@ -14,6 +15,7 @@ ghost use Rattle.store_objects.specs.Walking.{Serves};
 
 use crate::replies::{value, zero};
 use kabi_types::Script;
+use kheap_slabs::Purse;
 use posix_defs::Turned;
 use proc_files::{close_number, dup_number};
 use store_objects::{Caller, Objects, go_on, kept_back};
@@ -55,20 +57,29 @@ pub fn close(script: &Script, objects: &mut Objects, caller: &Caller, fd: i64) -
 ///
 /// <https://pubs.opengroup.org/onlinepubs/9699919799/functions/dup.html>
 #[inline(never)]
-pub fn dup2(script: &Script, objects: &mut Objects, caller: &Caller, fd: i64, to: i64) -> Turned
+pub fn dup2(
+    script: &Script,
+    objects: &mut Objects,
+    purse: &mut Purse,
+    caller: &Caller,
+    fd: i64,
+    to: i64,
+) -> Turned
     requires stands { (world : World) × StandsFor script.now objects.old world × IsSound world.plain }
     requires runs { Runs objects.old caller.now.place.pid caller.now.control }
     requires placed { IsPlaced objects.old.procs caller.now.place }
-    requires room { live_bytes objects.old.heap + reserve ≤ objects.old.heap.heap }
+    requires needed { purse.old.left ≡ need_of (Call.Dup2 fd to) }
+    requires room { live_bytes objects.old.heap + bound (Call.Dup2 fd to) + reserve ≤ objects.old.heap.heap }
     ensures kept { AreKept script.now objects.new }
-    ensures uses { UsesAtMost objects.old.heap objects.new.heap 0 reserve }
+    ensures uses { UsesAtMost objects.old.heap objects.new.heap (bound (Call.Dup2 fd to)) reserve }
     ensures does { Serves script.now objects.old caller.now.place.pid (Call.Dup2 fd to) (λ plain. dup2 script.now plain caller.now.place.pid fd to) result objects.new }
 {
     objects.heap_is_well_formed();
-    let mut purse = kept_back();
+    let mut back = kept_back();
     let made = dup_number(
         &mut objects.heap,
-        &mut purse,
+        purse,
+        &mut back,
         &objects.procs,
         &mut objects.tree,
         &mut objects.names,

@@ -50,6 +50,7 @@ pub fn other_calls_leave_names()
     ensures shut { (files : Files) (place : ℕ) (how : ℤ) → IsSome (sock_at files.sockets place) → HaveNames files
         → HaveNames (with_sockets files (after_shut files.sockets place how)) }
 {}
+
 pub fn made_sockets_have_no_names()
     ensures { (numbers : Numbers) (after : Numbers) (old : Heap) (new : Heap) (kept : TableView) (files : Files) (now : Files)
         → HaveOpen numbers old kept files → HaveOpen after new kept now → KeepsNumbers old numbers after
@@ -75,6 +76,7 @@ pub fn other_calls_leave_names()
     ensures shut { (files : Files) (place : ℕ) (how : ℤ) → IsSome (sock_at files.sockets place) → HaveNames files
         → HaveNames (with_sockets files (after_shut files.sockets place how)) }
 {}
+
 pub fn other_calls_leave_names()
     ensures made { (files : Files) → HaveNames files
         → HaveNames (with_sockets files (with_new files.sockets (length files.sockets))) }

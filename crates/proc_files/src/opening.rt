@@ -156,7 +156,7 @@ fn open_new(
         desc,
         close_on_exec: has_flag(flags, O_CLOEXEC),
     };
-    open_one(heap, procs, place, fd, descriptor);
+    open_one(heap, purse, procs, place, fd, descriptor);
 }
 
 // The lowest number of a process that is free.

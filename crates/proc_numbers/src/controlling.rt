@@ -4,7 +4,7 @@ ghost use Rattle.std.specs.Prelude.{◌≡◌, ◌<◌, ◌≤◌, ℕ, List, []
 ghost use Rattle.kabi_types.specs.declared.scripts.Script.{Script};
 ghost use Rattle.kheap_slabs.specs.Objects.{InUse, object};
 ghost use Rattle.kheap_slabs.specs.declared.objects.Desc.{Desc as HeldDesc};
-ghost use Rattle.kheap_slabs.specs.Paid.{TakesNothing};
+ghost use Rattle.kheap_slabs.specs.Paid.{CanPay, IsPaid, TakesNothing};
 ghost use Rattle.open_laws.specs.Described.{access_in, counted_in};
 ghost use Rattle.open_laws.specs.Owned.{HasItsOwners};
 ghost use Rattle.open_laws.specs.Placed.{Numbers};
@@ -20,7 +20,7 @@ ghost use Rattle.proc_numbers.specs.Answering.{Answers, value_of, with_flags};
 use crate::opening::{count_of, descriptor_of, mark_one};
 use crate::sharing::share_lowest;
 use kabi_types::Errno;
-use kheap_slabs::{Access, Desc, DescFlags, KHeap};
+use kheap_slabs::{Access, Desc, DescFlags, KHeap, Purse};
 use proc_table::{Place, ProcTable};
 
 /// The commands of `fcntl`: a further number, a number's flags, and a description's flags.
@@ -47,12 +47,13 @@ const O_NONBLOCK: u32 = 2048;
 /// bit 0 of the argument. F_GETFL tells the access mode, O_APPEND and O_NONBLOCK, and F_SETFL sets the last two as they are in the
 /// argument, for all numbers that name the description.
 ///
-/// EBADF where the number isn't open, EMFILE where no number is free for F_DUPFD, EINVAL where the command isn't one of these;
-/// nothing is changed then.
+/// The purse pays for what a number takes, which is nothing. EBADF where the number isn't open, EMFILE where no number is free for
+/// F_DUPFD, EINVAL where the command isn't one of these; nothing is changed then.
 ///
 /// <https://pubs.opengroup.org/onlinepubs/9699919799/functions/fcntl.html>
 pub fn control(
     heap: &mut KHeap,
+    purse: &mut Purse,
     procs: &ProcTable,
     place: Place,
     fd: i64,
@@ -62,6 +63,7 @@ pub fn control(
     requires listed { AreListed heap.old procs.now }
     requires owners { HasItsOwners heap.old [] }
     requires there { IsPlaced procs.now place }
+    requires pays { CanPay heap.old purse.old }
     ensures answers { (numbers : Numbers) (script : Script) (plain : Plain) → HaveOpen numbers heap.old procs.now plain.files
         → Answers numbers heap.new procs.now script plain place.pid (fcntl script plain place.pid fd cmd arg) (value_of result) }
     ensures nodes { OpensNoNode heap.old.descs → OpensNoNode heap.new.descs }
@@ -71,13 +73,15 @@ pub fn control(
     ensures beside { heap.new ≡ record heap.old { procs = heap.new.procs; descs = heap.new.descs } }
     ensures unchanged { OnErr result (heap.new ≡ heap.old) }
     ensures takes { TakesNothing heap.old heap.new }
+    ensures paid { IsPaid heap.old purse.old heap.new purse.new }
+    ensures spent { purse.new ≡ purse.old }
 {
     let Some(held) = descriptor_of(heap, procs, place, fd) else {
         return Err(Errno::EBADF);
     };
     let number = count_of(fd) as u32;
     match count_of(cmd) {
-        F_DUPFD => share_lowest(heap, procs, place, held.desc, count_of(arg)),
+        F_DUPFD => share_lowest(heap, purse, procs, place, held.desc, count_of(arg)),
         F_GETFD => Ok(bit(held.close_on_exec)),
         F_SETFD => {
             let cloexec = has_flag(arg, FD_CLOEXEC);

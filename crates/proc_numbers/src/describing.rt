@@ -55,6 +55,7 @@ pub(crate) fn open_on(
     let desc = describe(heap, purse, sock);
     open_one(
         heap,
+        purse,
         procs,
         place,
         fd,

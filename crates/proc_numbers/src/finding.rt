@@ -34,7 +34,12 @@ pub struct OpenSocket {
 /// The socket that a number of a process is open on.
 ///
 /// EBADF where the number isn't open, ENOTSOCK where it is open on something else.
-pub fn socket_of(heap: &KHeap, procs: &ProcTable, place: Place, fd: i64) -> Result<OpenSocket, Errno>
+pub fn socket_of(
+    heap: &KHeap,
+    procs: &ProcTable,
+    place: Place,
+    fd: i64,
+) -> Result<OpenSocket, Errno>
     requires listed { AreListed heap.now procs.now }
     requires owners { HasItsOwners heap.now [] }
     requires there { IsPlaced procs.now place }

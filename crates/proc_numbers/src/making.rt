@@ -116,8 +116,8 @@ pub fn make_pair(
         desc: ends.other,
         close_on_exec: false,
     };
-    open_one(heap, procs, place, first, on_one);
-    open_one(heap, procs, place, second, on_other);
+    open_one(heap, purse, procs, place, first, on_one);
+    open_one(heap, purse, procs, place, second, on_other);
     Ok((first, second))
 }
 

@@ -2,7 +2,7 @@
 
 ghost use Rattle.std.specs.Prelude.{◌≡◌, ◌<◌, ℕ, List, ◌∷◌, IsSome, None, Some, length};
 ghost use Rattle.kabi_types.specs.Arguments.{count_of, may_be_descriptor, most_descriptors};
-ghost use Rattle.kheap_slabs.specs.Paid.{TakesNothing};
+ghost use Rattle.kheap_slabs.specs.Paid.{CanPay, IsPaid, TakesNothing};
 ghost use Rattle.open_laws.specs.Open.{descriptor_by};
 ghost use Rattle.open_laws.specs.Owned.{HasItsOwners};
 ghost use Rattle.open_laws.specs.Placed.{Numbers};
@@ -15,7 +15,7 @@ ghost use Rattle.proc_numbers.specs.Naming.{ChangesNumbers, NamesNumber, named_a
 
 use crate::closing::is_well_formed;
 use kabi_types::MOST_DESCRIPTORS;
-use kheap_slabs::{Descriptor, KHeap, Proc};
+use kheap_slabs::{Descriptor, KHeap, Proc, Purse};
 use proc_table::{Place, ProcTable};
 
 /// The descriptors of a process, by number.
@@ -70,9 +70,19 @@ pub fn count_of(number: i64) -> u64
 
 /// A number of a process that isn't open names an open description from now on, which counts this descriptor already: it was
 /// in hand.
-pub fn open_one(heap: &mut KHeap, procs: &ProcTable, place: Place, fd: u32, descriptor: Descriptor)
+///
+/// The purse pays for what a number takes, which is nothing.
+pub fn open_one(
+    heap: &mut KHeap,
+    _purse: &mut Purse,
+    procs: &ProcTable,
+    place: Place,
+    fd: u32,
+    descriptor: Descriptor,
+)
     requires listed { AreListed heap.old procs.now }
     requires there { IsPlaced procs.now place }
+    requires pays { CanPay heap.old _purse.old }
     requires number { fd < most_descriptors }
     requires free { named_at heap.old procs.now place.pid fd ≡ None }
     ensures opened { (numbers : Numbers) (files : Files) → HaveOpen numbers heap.old procs.now files
@@ -81,6 +91,8 @@ pub fn open_one(heap: &mut KHeap, procs: &ProcTable, place: Place, fd: u32, desc
     ensures owners { (hand : List ℕ) → HasItsOwners heap.old (descriptor.desc ∷ hand) → HasItsOwners heap.new hand }
     ensures names { NamesNumber heap.old heap.new procs.now place.pid fd descriptor }
     ensures takes { TakesNothing heap.old heap.new }
+    ensures paid { IsPaid heap.old _purse.old heap.new _purse.new }
+    ensures spent { _purse.new ≡ _purse.old }
 {
     put_number(heap, procs, place, fd, descriptor);
 }

@@ -74,8 +74,8 @@ pub fn make_pipe(
         desc: ends.writing,
         close_on_exec: false,
     };
-    open_one(heap, procs, place, first, reading);
-    open_one(heap, procs, place, second, writing);
+    open_one(heap, purse, procs, place, first, reading);
+    open_one(heap, purse, procs, place, second, writing);
     Ok((first, second))
 }
 

@@ -28,7 +28,13 @@ const FOREVER: i64 = -1;
 
 /// What each entry is ready for, whatever its number is open on; with timeout -1 it sleeps where none is ready for anything
 /// (POSIX poll).
-pub fn poll(heap: &KHeap, procs: &ProcTable, place: Place, timeout: i64, entries: &PollList) -> Turned
+pub fn poll(
+    heap: &KHeap,
+    procs: &ProcTable,
+    place: Place,
+    timeout: i64,
+    entries: &PollList,
+) -> Turned
     requires kept { IsKept heap.now procs.now }
     requires there { IsPlaced procs.now place }
     ensures { (script : Script) (numbers : Numbers) (plain : Plain) (account : Account)

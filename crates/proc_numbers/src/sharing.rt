@@ -4,7 +4,7 @@ ghost use Rattle.std.specs.Prelude.{◌≡◌, ◌<◌, ◌≤◌, [], IfSome, O
 ghost use Rattle.kabi_types.specs.declared.scripts.Script.{Script};
 ghost use Rattle.kheap_slabs.specs.Objects.{InUse};
 ghost use Rattle.kheap_slabs.specs.Heap.{IsWellFormed};
-ghost use Rattle.kheap_slabs.specs.Paid.{TakesNothing};
+ghost use Rattle.kheap_slabs.specs.Paid.{CanPay, IsPaid, TakesNothing};
 ghost use Rattle.open_laws.specs.Owned.{HasItsOwners};
 ghost use Rattle.open_laws.specs.Placed.{Numbers};
 ghost use Rattle.posix_defs.specs.Calls.OnDescriptors.{dup, duplicated};
@@ -21,18 +21,26 @@ ghost use Rattle.proc_numbers.specs.Answering.{Answers, value_of};
 use crate::opening::{descriptor_of, open_one, places_of};
 use desc_table::{Descs, share_desc};
 use kabi_types::{Errno, MOST_DESCRIPTORS};
-use kheap_slabs::{Descriptor, KHeap};
+use kheap_slabs::{Descriptor, KHeap, Purse};
 use proc_table::{Place, ProcTable};
 
 /// The lowest number of a process that is free names the same description as another. That number.
 ///
-/// EBADF where the other isn't open, EMFILE where no number is free; nothing is changed then.
+/// The purse pays for what a number takes, which is nothing. EBADF where the other isn't open, EMFILE where no number is free;
+/// nothing is changed then.
 ///
 /// <https://pubs.opengroup.org/onlinepubs/9699919799/functions/dup.html>
-pub fn dup_one(heap: &mut KHeap, procs: &ProcTable, place: Place, fd: i64) -> Result<u32, Errno>
+pub fn dup_one(
+    heap: &mut KHeap,
+    purse: &mut Purse,
+    procs: &ProcTable,
+    place: Place,
+    fd: i64,
+) -> Result<u32, Errno>
     requires listed { AreListed heap.old procs.now }
     requires owners { HasItsOwners heap.old [] }
     requires there { IsPlaced procs.now place }
+    requires pays { CanPay heap.old purse.old }
     ensures answers { (numbers : Numbers) (script : Script) (plain : Plain) → HaveOpen numbers heap.old procs.now plain.files
         → Answers numbers heap.new procs.now script plain place.pid (dup script plain place.pid fd) (value_of result) }
     ensures nodes { OpensNoNode heap.old.descs → OpensNoNode heap.new.descs }
@@ -42,17 +50,20 @@ pub fn dup_one(heap: &mut KHeap, procs: &ProcTable, place: Place, fd: i64) -> Re
     ensures beside { heap.new ≡ record heap.old { procs = heap.new.procs; descs = heap.new.descs } }
     ensures unchanged { OnErr result (heap.new ≡ heap.old) }
     ensures takes { TakesNothing heap.old heap.new }
+    ensures paid { IsPaid heap.old purse.old heap.new purse.new }
+    ensures spent { purse.new ≡ purse.old }
 {
     let Some(held) = descriptor_of(heap, procs, place, fd) else {
         return Err(Errno::EBADF);
     };
-    share_lowest(heap, procs, place, held.desc, 0)
+    share_lowest(heap, purse, procs, place, held.desc, 0)
 }
 
 // The lowest number at or above one that is free names a description from now on that another number names. EMFILE where all
 // from there on are open.
 pub(crate) fn share_lowest(
     heap: &mut KHeap,
+    purse: &mut Purse,
     procs: &ProcTable,
     place: Place,
     desc: u32,
@@ -61,6 +72,7 @@ pub(crate) fn share_lowest(
     requires listed { AreListed heap.old procs.now }
     requires owners { HasItsOwners heap.old [] }
     requires there { IsPlaced procs.now place }
+    requires pays { CanPay heap.old purse.old }
     requires used { InUse heap.old.descs desc }
     ensures answers { (numbers : Numbers) (script : Script) (plain : Plain) (is : Description)
         → HaveOpen numbers heap.old procs.now plain.files
@@ -74,11 +86,13 @@ pub(crate) fn share_lowest(
     ensures beside { heap.new ≡ record heap.old { procs = heap.new.procs; descs = heap.new.descs } }
     ensures unchanged { OnErr result (heap.new ≡ heap.old) }
     ensures takes { TakesNothing heap.old heap.new }
+    ensures paid { IsPaid heap.old purse.old heap.new purse.new }
+    ensures spent { purse.new ≡ purse.old }
 {
     let Some(fd) = lowest_from(heap, procs, place, from) else {
         return Err(Errno::EMFILE);
     };
-    share_at(heap, procs, place, fd, desc);
+    share_at(heap, purse, procs, place, fd, desc);
     Ok(fd)
 }
 
@@ -107,10 +121,18 @@ fn first_from(from: u64) -> u32
 }
 
 /// A number of a process that is free names a description from now on that is open.
-pub fn share_at(heap: &mut KHeap, procs: &ProcTable, place: Place, fd: u32, desc: u32)
+pub fn share_at(
+    heap: &mut KHeap,
+    purse: &mut Purse,
+    procs: &ProcTable,
+    place: Place,
+    fd: u32,
+    desc: u32,
+)
     requires listed { AreListed heap.old procs.now }
     requires owners { HasItsOwners heap.old [] }
     requires there { IsPlaced procs.now place }
+    requires pays { CanPay heap.old purse.old }
     requires used { InUse heap.old.descs desc }
     requires number { fd < most_descriptors }
     requires free { named_at heap.old procs.now place.pid fd ≡ None }
@@ -123,11 +145,14 @@ pub fn share_at(heap: &mut KHeap, procs: &ProcTable, place: Place, fd: u32, desc
     ensures changes { ChangesNumbers heap.old heap.new procs.now place.pid }
     ensures beside { heap.new ≡ record heap.old { procs = heap.new.procs; descs = heap.new.descs } }
     ensures takes { TakesNothing heap.old heap.new }
+    ensures paid { IsPaid heap.old purse.old heap.new purse.new }
+    ensures spent { purse.new ≡ purse.old }
 {
     is_well_formed(heap);
     share_desc(heap, desc);
     open_one(
         heap,
+        purse,
         procs,
         place,
         fd,

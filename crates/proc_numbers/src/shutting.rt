@@ -25,7 +25,12 @@ use usock_core::{listen, shutdown};
 /// EDESTADDRREQ where it has no name; nothing is changed then.
 ///
 /// <https://pubs.opengroup.org/onlinepubs/9699919799/functions/listen.html>
-pub fn listen_number(heap: &mut KHeap, procs: &ProcTable, place: Place, fd: i64) -> Result<(), Errno>
+pub fn listen_number(
+    heap: &mut KHeap,
+    procs: &ProcTable,
+    place: Place,
+    fd: i64,
+) -> Result<(), Errno>
     requires listed { AreListed heap.old procs.now }
     requires owners { HasItsOwners heap.old [] }
     requires there { IsPlaced procs.now place }

@@ -41,7 +41,10 @@ pub fn fork(script: &Script, objects: &mut Objects, purse: &mut Purse, caller: &
 {
     objects.heap_is_well_formed();
     let directory = directory_of(objects, caller.place);
-    match objects.procs.fork(&mut objects.heap, purse, caller.place.pid) {
+    match objects
+        .procs
+        .fork(&mut objects.heap, purse, caller.place.pid)
+    {
         Ok(child) => {
             let key = objects.key_there(child);
             let place = Place { pid: child, key };
@@ -80,11 +83,16 @@ pub fn wait(
     ensures takes { TakesNothing objects.old.heap objects.new.heap }
     ensures does { Performs script.now objects.old caller.now.place.pid (Call.Waitpid which options) (λ plain. waitpid script.now plain caller.now.place.pid which options) result objects.new }
 {
-    match objects.procs.wait(&mut objects.heap, caller.place.pid, which) {
+    match objects
+        .procs
+        .wait(&mut objects.heap, caller.place.pid, which)
+    {
         Reaped::Took { pid: child, status } => {
             go_on_anew(script, objects, caller, Reply::Waited(child, status))
         }
-        Reaped::Nobody if is_nohang(options) => { go_on_anew(script, objects, caller, Reply::Val(0)) }
+        Reaped::Nobody if is_nohang(options) => {
+            go_on_anew(script, objects, caller, Reply::Val(0))
+        }
         Reaped::Nobody => Turned::Sleep,
         Reaped::NoChild => go_on_anew(script, objects, caller, Reply::Fail(Errno::ECHILD)),
     }

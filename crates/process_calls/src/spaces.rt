@@ -41,7 +41,12 @@ fn space_of(objects: &Objects, place: Place) -> Space
 }
 
 /// Maps the lowest run of pages that has room for so many bytes, and answers its address; EMFILE where none has.
-pub fn map(objects: &mut Objects, purse: &mut Purse, place: Place, length: u64) -> Result<u32, Errno>
+pub fn map(
+    objects: &mut Objects,
+    purse: &mut Purse,
+    place: Place,
+    length: u64,
+) -> Result<u32, Errno>
     requires kept { (script : Script) × AreKept script objects.old }
     requires alive { IsAlive (procs_of objects.old) place.pid }
     requires there { IsPlaced objects.old.procs place }

@@ -34,7 +34,13 @@ pub fn poll(
     ensures takes { TakesNothing objects.old.heap objects.new.heap }
     ensures does { Performs script.now objects.old caller.now.place.pid (Call.Poll timeout entries.now) (λ plain. poll script.now plain caller.now.place.pid timeout entries.now) result objects.new }
 {
-    let told = proc_numbers::poll(&objects.heap, &objects.procs, caller.place, timeout, entries);
+    let told = proc_numbers::poll(
+        &objects.heap,
+        &objects.procs,
+        caller.place,
+        timeout,
+        entries,
+    );
     go_on_done(script, objects, caller, told)
 }
 

@@ -73,7 +73,14 @@ pub fn write(
 }
 
 /// Whether a `write` of a live process would sleep, of which so many bytes were moved before, whatever its operands are and its number is open on.
-pub fn write_would_block(objects: &Objects, place: Place, fd: i64, addr: i64, n: i64, done: u32) -> bool
+pub fn write_would_block(
+    objects: &Objects,
+    place: Place,
+    fd: i64,
+    addr: i64,
+    n: i64,
+    done: u32,
+) -> bool
     requires stands { (script : Script) × (world : World) × StandsFor script objects.now world × (is_alive world.plain.table place.pid ≡ true) }
     requires there { IsPlaced objects.now.procs place }
     ensures { (script : Script) (world : World) → StandsFor script objects.now world

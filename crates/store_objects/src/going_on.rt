@@ -46,12 +46,7 @@ pub fn go_on(script: &Script, objects: &mut Objects, caller: &Caller, reply: Rep
 }
 
 /// The same behind a call with which others were made or are gone: where the caller stands in the heap is found anew.
-pub fn go_on_anew(
-    script: &Script,
-    objects: &mut Objects,
-    caller: &Caller,
-    reply: Reply,
-) -> Turned
+pub fn go_on_anew(script: &Script, objects: &mut Objects, caller: &Caller, reply: Reply) -> Turned
     requires kept { AreKept script.now objects.old }
     requires runs { Runs objects.old caller.now.place.pid caller.now.control }
     ensures kept { AreKept script.now objects.new }
