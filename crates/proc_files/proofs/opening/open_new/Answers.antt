@@ -1,7 +1,7 @@
 use Rattle.std.proofs.Common.{◌≡◌, ◌∙◌, [], length, Some, ap, refl, sym, subst, w64}
 use Rattle.std.proofs.lemmas.Int.{to_z-of_z}
 use Rattle.kheap_slabs.specs.Heap.{Heap}
-use Rattle.kheap_laws.proofs.PaidLemmas.{IsPaid-nothing, IsPaid-trans}
+use Rattle.kheap_laws.proofs.PaidLemmas.{IsPaid-trans, CanPay-kept}
 use Rattle.posix_defs.specs.Calls.OnFiles.{description_for}
 use Rattle.posix_defs.specs.Files.Descriptions.{has_flag, o_cloexec}
 use Rattle.posix_defs.specs.Files.State.{with_open}
@@ -75,8 +75,7 @@ returns-clause-queues c =
 
 pub returns-clause-paid : goal.returns-clause-paid
 returns-clause-paid c =
-    IsPaid-trans c.args.heap.now c.args.purse.now c.describe-desc.new.heap c.describe-desc.new.purse c.open_one.new.heap c.describe-desc.new.purse c.describe-desc.ensures.paid
-    (IsPaid-nothing c.describe-desc.new.heap c.open_one.new.heap c.describe-desc.new.purse c.describe-desc.new.purse c.open_one.ensures.takes refl refl)
+    IsPaid-trans c.args.heap.now c.args.purse.now c.describe-desc.new.heap c.describe-desc.new.purse c.open_one.new.heap c.open_one.new._purse c.describe-desc.ensures.paid c.open_one.ensures.paid
 
 pub returns-clause-fills : goal.returns-clause-fills
 returns-clause-fills c =
@@ -89,3 +88,6 @@ returns-clause-fills c =
 
 pub returns-clause-socks : goal.returns-clause-socks
 returns-clause-socks c = ap (λ (h : Heap). h.socks) c.open_one.ensures.names.after ∙ ap (λ (h : Heap). h.socks) c.describe-desc.ensures.makes.kept
+
+pub open_one-requires-clause-pays : goal.open_one-requires-clause-pays
+open_one-requires-clause-pays c = CanPay-kept c.args.heap.now c.describe-desc.new.heap c.args.purse.now c.describe-desc.new.purse c.describe-desc.ensures.paid c.requires.pays

@@ -17,7 +17,7 @@ use Rattle.proc_numbers.proofs.NumberNames.{desc_named, desc_named_by, within_mo
 use Rattle.proc_numbers.proofs.Answered.{dup2_beyond, dup2_other, dup2_same, on_nothing}
 use Rattle.proc_numbers.proofs.Changes.{changes_nothing, closed_names_nothing, named_count, others_stay}
 use Rattle.proc_files.proofs.Changing.{holding_closed, holding_of, holding_then}
-use Rattle.proc_files.proofs.Shares.{hold_named}
+use Rattle.proc_files.proofs.Shares.{hold_named, can_pay_beside}
 use Rattle.proc_files.proofs.sharing.dup_number.Goals as goal
 use Rattle.proc_table.proofs.NumberLemmas.{numbers_all}
 
@@ -211,7 +211,7 @@ returns-clause-queues c =
 
 pub returns-clause-paid : goal.returns-clause-paid
 returns-clause-paid c =
-    IsPaid-trans c.args.heap.now c.args.purse.now c.close_open.new.heap c.close_open.new.purse c.share_at.new.heap c.close_open.new.purse c.close_open.ensures.paid
+    IsPaid-trans c.args.heap.now c.args.back.now c.close_open.new.heap c.close_open.new.purse c.share_at.new.heap c.close_open.new.purse c.close_open.ensures.paid
     (IsPaid-nothing c.close_open.new.heap c.share_at.new.heap c.close_open.new.purse c.close_open.new.purse c.share_at.ensures.takes refl refl)
 
 pub returns-clause-stays : goal.returns-clause-stays
@@ -225,3 +225,6 @@ returns-clause-stays c = λ none.
     ∙ sym (ap (λ b. cond b None (node_closed c.args.heap.now.descs (named_at c.args.heap.now c.args.procs.now c.args.place.pid (count_of c.args.to))))
     (ne_eqb (count_of c.args.fd) (count_of c.args.to) (λ same. c.if-from-number.false (from_is ∙ same ∙ sym number_is))))
     ∙ none)
+
+pub share_at-requires-clause-pays : goal.share_at-requires-clause-pays
+share_at-requires-clause-pays c = can_pay_beside c.args.heap.now c.close_open.new.heap c.args.back.now c.close_open.new.purse c.args.purse.now c.close_open.ensures.paid c.close_open.ensures.same c.requires.pays

@@ -1,4 +1,4 @@
-use Rattle.std.proofs.Common.{◌≡◌, ◌∙◌, [], ap, is_some, pos, subst, sym, w64, arith}
+use Rattle.std.proofs.Common.{◌≡◌, ◌∙◌, [], ap, is_some, pos, subst, sym, w64, arith, refl}
 use Rattle.std.proofs.lemmas.Int.{to_z-of_z}
 use Rattle.kabi_types.specs.Arguments.{count_of}
 use Rattle.kabi_types.specs.declared.errnos.Errno.TheVariants.{EBADF, EINVAL}
@@ -17,6 +17,7 @@ use Rattle.proc_numbers.proofs.NumberNames.{desc_named_by}
 use Rattle.proc_numbers.specs.Answering.{with_flags}
 use Rattle.proc_numbers.proofs.Answered.{answers_as, cloexec_is, fcntl_is, fcntl_unknown, on_nothing, refused}
 use Rattle.proc_numbers.proofs.Changes.{changes_after, changes_nothing}
+use Rattle.kheap_laws.proofs.PaidLemmas.{IsPaid-nothing, IsPaid-refl}
 use Rattle.proc_numbers.proofs.controlling.control.Goals as goal
 
 -- ---- it isn't open
@@ -176,3 +177,21 @@ returns-in_default-count_of-clause-answers c = λ numbers script plain have.
 
 pub returns-in_default-count_of-clause-changes : goal.returns-in_default-count_of-clause-changes
 returns-in_default-count_of-clause-changes c = changes_nothing c.args.heap.now c.args.procs.now c.args.place.pid c.requires.listed (ap is_some c.requires.there)
+
+pub returns-in_default-clause-paid : goal.returns-in_default-clause-paid
+returns-in_default-clause-paid c = IsPaid-refl c.args.heap.now c.args.purse.now
+
+pub returns-in-1-clause-paid : goal.returns-in-1-clause-paid
+returns-in-1-clause-paid c = IsPaid-refl c.args.heap.now c.args.purse.now
+
+pub returns-in-3-clause-paid : goal.returns-in-3-clause-paid
+returns-in-3-clause-paid c = IsPaid-refl c.args.heap.now c.args.purse.now
+
+pub returns-in_default-count_of-clause-paid : goal.returns-in_default-count_of-clause-paid
+returns-in_default-count_of-clause-paid c = IsPaid-refl c.args.heap.now c.args.purse.now
+
+pub returns-in-2-clause-paid : goal.returns-in-2-clause-paid
+returns-in-2-clause-paid c = IsPaid-nothing c.args.heap.now c.mark_one.new.heap c.args.purse.now c.args.purse.now c.mark_one.ensures.takes refl refl
+
+pub returns-in-4-clause-paid : goal.returns-in-4-clause-paid
+returns-in-4-clause-paid c = IsPaid-nothing c.args.heap.now c.set_flags.new.heap c.args.purse.now c.args.purse.now c.set_flags.ensures.takes refl refl

@@ -1,6 +1,6 @@
 use Rattle.std.proofs.Common.{◌≡◌, ◌∙◌, false, [], ◌∷◌, ap, refl, subst, sym}
 use Rattle.kheap_slabs.specs.Heap.{Heap}
-use Rattle.kheap_laws.proofs.PaidLemmas.{CanPay-kept, IsPaid-nothing, IsPaid-trans}
+use Rattle.kheap_laws.proofs.PaidLemmas.{CanPay-kept, IsPaid-trans}
 use Rattle.proc_numbers.specs.Having.{HaveOpen, OpensNoNode}
 use Rattle.proc_numbers.specs.Naming.{named_at}
 use Rattle.proc_numbers.proofs.Fronts.{queues_same, queues_then}
@@ -52,14 +52,16 @@ returns-clause-queues c =
 
 pub returns-clause-paid : goal.returns-clause-paid
 returns-clause-paid c =
-    IsPaid-trans c.args.heap.now c.args.purse.now c.describe-desc.new.heap c.describe-desc.new.purse c.open_one.new.heap c.describe-desc.new.purse c.describe-desc.ensures.paid
-    (IsPaid-nothing c.describe-desc.new.heap c.open_one.new.heap c.describe-desc.new.purse c.describe-desc.new.purse c.open_one.ensures.takes refl refl)
+    IsPaid-trans c.args.heap.now c.args.purse.now c.describe-desc.new.heap c.describe-desc.new.purse c.open_one.new.heap c.open_one.new._purse c.describe-desc.ensures.paid c.open_one.ensures.paid
 
 pub returns-clause-pays : goal.returns-clause-pays
-returns-clause-pays c =
-    CanPay-kept c.describe-desc.new.heap c.open_one.new.heap c.describe-desc.new.purse c.describe-desc.new.purse
-    (IsPaid-nothing c.describe-desc.new.heap c.open_one.new.heap c.describe-desc.new.purse c.describe-desc.new.purse c.open_one.ensures.takes refl refl)
-    c.describe-desc.ensures.pays
+returns-clause-pays c = CanPay-kept c.describe-desc.new.heap c.open_one.new.heap c.describe-desc.new.purse c.open_one.new._purse c.open_one.ensures.paid c.describe-desc.ensures.pays
 
 pub returns-clause-socks : goal.returns-clause-socks
 returns-clause-socks c = ap (λ (h : Heap). h.socks) c.open_one.ensures.names.after ∙ ap (λ (h : Heap). h.socks) c.describe-desc.ensures.kept
+
+pub returns-clause-spent : goal.returns-clause-spent
+returns-clause-spent c = c.open_one.ensures.spent ∙ c.describe-desc.ensures.spent
+
+pub open_one-requires-clause-pays : goal.open_one-requires-clause-pays
+open_one-requires-clause-pays c = c.describe-desc.ensures.pays

@@ -3,7 +3,7 @@ use Rattle.std.specs.Prelude.{IfSome}
 use Rattle.kabi_types.specs.declared.replies.Reply.TheVariants.{Pair}
 use Rattle.kabi_types.specs.declared.errnos.Errno.TheVariants.{EMFILE}
 use Rattle.kheap_slabs.specs.Heap.{Heap}
-use Rattle.kheap_laws.proofs.PaidLemmas.{CanPay-kept, IsPaid-nothing, IsPaid-trans, TakesNothing-trans}
+use Rattle.kheap_laws.proofs.PaidLemmas.{CanPay-kept, IsPaid-trans}
 use Rattle.posix_defs.specs.Answer.{replied}
 use Rattle.posix_defs.specs.Calls.OnSockets.{socketpair}
 use Rattle.posix_defs.specs.Files.State.{descriptors_of, with_open}
@@ -118,16 +118,13 @@ returns-clause-changes c =
 
 pub returns-clause-paid : goal.returns-clause-paid
 returns-clause-paid c =
-    IsPaid-trans c.args.heap.now c.args.purse.now c.open_both-ends.new.heap c.open_both-ends.new.purse c.open_one-2.new.heap c.open_both-ends.new.purse c.open_both-ends.ensures.paid
-    (IsPaid-nothing c.open_both-ends.new.heap c.open_one-2.new.heap c.open_both-ends.new.purse c.open_both-ends.new.purse
-    (TakesNothing-trans c.open_both-ends.new.heap c.open_one.new.heap c.open_one-2.new.heap c.open_one.ensures.takes c.open_one-2.ensures.takes) refl refl)
+    IsPaid-trans c.args.heap.now c.args.purse.now c.open_both-ends.new.heap c.open_both-ends.new.purse c.open_one-2.new.heap c.open_one-2.new._purse c.open_both-ends.ensures.paid
+    (IsPaid-trans c.open_both-ends.new.heap c.open_both-ends.new.purse c.open_one.new.heap c.open_one.new._purse c.open_one-2.new.heap c.open_one-2.new._purse c.open_one.ensures.paid c.open_one-2.ensures.paid)
 
 pub returns-clause-pays : goal.returns-clause-pays
 returns-clause-pays c =
-    CanPay-kept c.open_both-ends.new.heap c.open_one-2.new.heap c.open_both-ends.new.purse c.open_both-ends.new.purse
-    (IsPaid-nothing c.open_both-ends.new.heap c.open_one-2.new.heap c.open_both-ends.new.purse c.open_both-ends.new.purse
-    (TakesNothing-trans c.open_both-ends.new.heap c.open_one.new.heap c.open_one-2.new.heap c.open_one.ensures.takes c.open_one-2.ensures.takes) refl refl)
-    c.open_both-ends.ensures.pays
+    CanPay-kept c.open_one.new.heap c.open_one-2.new.heap c.open_one.new._purse c.open_one-2.new._purse c.open_one-2.ensures.paid
+    (CanPay-kept c.open_both-ends.new.heap c.open_one.new.heap c.open_both-ends.new.purse c.open_one.new._purse c.open_one.ensures.paid c.open_both-ends.ensures.pays)
 
 pub returns-clause-queues : goal.returns-clause-queues
 returns-clause-queues c =
@@ -139,3 +136,12 @@ returns-clause-queues c =
 pub returns-clause-still : goal.returns-clause-still
 returns-clause-still c =
     still_on c.args.heap.now c.open_both-ends.new.heap c.open_one-2.new.heap (ap (λ (h : Heap). h.socks) c.open_one-2.ensures.names.after ∙ ap (λ (h : Heap). h.socks) c.open_one.ensures.names.after) c.open_both-ends.ensures.still
+
+pub open_one-requires-clause-pays : goal.open_one-requires-clause-pays
+open_one-requires-clause-pays c = c.open_both-ends.ensures.pays
+
+pub open_one-requires-2-clause-pays : goal.open_one-requires-2-clause-pays
+open_one-requires-2-clause-pays c = CanPay-kept c.open_both-ends.new.heap c.open_one.new.heap c.open_both-ends.new.purse c.open_one.new._purse c.open_one.ensures.paid c.open_both-ends.ensures.pays
+
+pub returns-clause-spent : goal.returns-clause-spent
+returns-clause-spent c = c.open_one-2.ensures.spent ∙ c.open_one.ensures.spent ∙ c.open_both-ends.ensures.spent

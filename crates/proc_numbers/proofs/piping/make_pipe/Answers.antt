@@ -4,7 +4,7 @@ use Rattle.kabi_types.specs.declared.errnos.Errno.TheVariants.{EMFILE}
 use Rattle.kabi_types.specs.declared.replies.Reply.TheVariants.{Pair}
 use Rattle.kheap_slabs.specs.declared.objects.Proc.{Proc}
 use Rattle.kheap_slabs.specs.Heap.{Heap}
-use Rattle.kheap_laws.proofs.PaidLemmas.{CanPay-kept, IsPaid-nothing, IsPaid-trans, TakesNothing-trans}
+use Rattle.kheap_laws.proofs.PaidLemmas.{CanPay-kept, IsPaid-trans}
 use Rattle.posix_defs.specs.Answer.{replied}
 use Rattle.posix_defs.specs.Calls.OnPipes.{pipe}
 use Rattle.posix_defs.specs.Files.State.{descriptors_of}
@@ -121,16 +121,13 @@ returns-clause-changes c =
 
 pub returns-clause-paid : goal.returns-clause-paid
 returns-clause-paid c =
-    IsPaid-trans c.args.heap.now c.args.purse.now c.open_ends-ends.new.heap c.open_ends-ends.new.purse c.open_one-2.new.heap c.open_ends-ends.new.purse c.open_ends-ends.ensures.paid
-    (IsPaid-nothing c.open_ends-ends.new.heap c.open_one-2.new.heap c.open_ends-ends.new.purse c.open_ends-ends.new.purse
-    (TakesNothing-trans c.open_ends-ends.new.heap c.open_one.new.heap c.open_one-2.new.heap c.open_one.ensures.takes c.open_one-2.ensures.takes) refl refl)
+    IsPaid-trans c.args.heap.now c.args.purse.now c.open_ends-ends.new.heap c.open_ends-ends.new.purse c.open_one-2.new.heap c.open_one-2.new._purse c.open_ends-ends.ensures.paid
+    (IsPaid-trans c.open_ends-ends.new.heap c.open_ends-ends.new.purse c.open_one.new.heap c.open_one.new._purse c.open_one-2.new.heap c.open_one-2.new._purse c.open_one.ensures.paid c.open_one-2.ensures.paid)
 
 pub returns-clause-pays : goal.returns-clause-pays
 returns-clause-pays c =
-    CanPay-kept c.open_ends-ends.new.heap c.open_one-2.new.heap c.open_ends-ends.new.purse c.open_ends-ends.new.purse
-    (IsPaid-nothing c.open_ends-ends.new.heap c.open_one-2.new.heap c.open_ends-ends.new.purse c.open_ends-ends.new.purse
-    (TakesNothing-trans c.open_ends-ends.new.heap c.open_one.new.heap c.open_one-2.new.heap c.open_one.ensures.takes c.open_one-2.ensures.takes) refl refl)
-    c.open_ends-ends.ensures.pays
+    CanPay-kept c.open_one.new.heap c.open_one-2.new.heap c.open_one.new._purse c.open_one-2.new._purse c.open_one-2.ensures.paid
+    (CanPay-kept c.open_ends-ends.new.heap c.open_one.new.heap c.open_ends-ends.new.purse c.open_one.new._purse c.open_one.ensures.paid c.open_ends-ends.ensures.pays)
 
 pub returns-in_default-clause-queues : goal.returns-in_default-clause-queues
 returns-in_default-clause-queues c = queues_same c.args.heap.now c.args.heap.now refl refl
@@ -149,3 +146,12 @@ pub returns-clause-sockets : goal.returns-clause-sockets
 returns-clause-sockets c =
     ap (λ (h : Heap). h.socks) c.open_one-2.ensures.names.after ∙ ap (λ (h : Heap). h.socks) c.open_one.ensures.names.after
     ∙ ap (λ (h : Heap). h.socks) c.open_ends-ends.ensures.opens.beside
+
+pub open_one-requires-clause-pays : goal.open_one-requires-clause-pays
+open_one-requires-clause-pays c = c.open_ends-ends.ensures.pays
+
+pub open_one-requires-2-clause-pays : goal.open_one-requires-2-clause-pays
+open_one-requires-2-clause-pays c = CanPay-kept c.open_ends-ends.new.heap c.open_one.new.heap c.open_ends-ends.new.purse c.open_one.new._purse c.open_one.ensures.paid c.open_ends-ends.ensures.pays
+
+pub returns-clause-spent : goal.returns-clause-spent
+returns-clause-spent c = c.open_one-2.ensures.spent ∙ c.open_one.ensures.spent ∙ c.open_ends-ends.ensures.spent

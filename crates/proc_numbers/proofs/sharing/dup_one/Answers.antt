@@ -8,6 +8,7 @@ use Rattle.proc_numbers.proofs.NumberCloses.{no_some}
 use Rattle.proc_numbers.proofs.NumberNames.{desc_named_by}
 use Rattle.proc_numbers.proofs.Answered.{answers_as, on_it, on_nothing, refused}
 use Rattle.proc_numbers.proofs.Changes.{changes_nothing}
+use Rattle.kheap_laws.proofs.PaidLemmas.{IsPaid-refl}
 use Rattle.proc_numbers.proofs.sharing.dup_one.Goals as goal
 
 -- ---- it isn't open
@@ -44,3 +45,6 @@ returns-clause-answers c = λ numbers script plain have.
     answers_as numbers c.share_lowest.new.heap c.args.procs.now script plain c.args.place.pid (dup script plain c.args.place.pid c.args.fd) _ _
     (on_it numbers c.args.heap.now c.args.procs.now script plain c.args.place.pid have c.args.fd c.in-Some.held desc.0 is desc.1 _)
     (c.share_lowest.ensures.answers numbers script plain (counted_in numbers desc.0).is have)
+
+pub returns-in_default-clause-paid : goal.returns-in_default-clause-paid
+returns-in_default-clause-paid c = IsPaid-refl c.args.heap.now c.args.purse.now

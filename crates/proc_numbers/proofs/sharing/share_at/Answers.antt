@@ -1,7 +1,7 @@
 use Rattle.std.proofs.Common.{◌≡◌, ◌+◌, ◌∙◌, [], ap, refl, subst, sym, arith}
 use Rattle.kheap_slabs.proofs.ObjectLemmas.{object_of}
 use Rattle.kheap_slabs.specs.Heap.{Heap}
-use Rattle.kheap_laws.proofs.PaidLemmas.{TakesNothing-trans}
+use Rattle.kheap_laws.proofs.PaidLemmas.{TakesNothing-trans, CanPay-kept, IsPaid-nothing, IsPaid-trans}
 use Rattle.open_laws.specs.Described.{after_share, counting}
 use Rattle.proc_table.specs.Procs.{numbers_in}
 use Rattle.proc_table.specs.Table.{processes}
@@ -70,3 +70,10 @@ returns-clause-beside c =
 
 pub returns-clause-takes : goal.returns-clause-takes
 returns-clause-takes c = TakesNothing-trans c.args.heap.now c.share_desc.new.heap c.open_one.new.heap c.share_desc.ensures.takes c.open_one.ensures.takes
+
+pub open_one-requires-clause-pays : goal.open_one-requires-clause-pays
+open_one-requires-clause-pays c = CanPay-kept c.args.heap.now c.share_desc.new.heap c.args.purse.now c.args.purse.now (IsPaid-nothing c.args.heap.now c.share_desc.new.heap c.args.purse.now c.args.purse.now c.share_desc.ensures.takes refl refl) c.requires.pays
+
+pub returns-clause-paid : goal.returns-clause-paid
+returns-clause-paid c =
+    IsPaid-trans c.args.heap.now c.args.purse.now c.share_desc.new.heap c.args.purse.now c.open_one.new.heap c.open_one.new._purse (IsPaid-nothing c.args.heap.now c.share_desc.new.heap c.args.purse.now c.args.purse.now c.share_desc.ensures.takes refl refl) c.open_one.ensures.paid

@@ -7,6 +7,7 @@ use Rattle.proc_numbers.proofs.NumberCloses.{no_some}
 use Rattle.proc_numbers.proofs.Answered.{refused}
 use Rattle.proc_numbers.proofs.Changes.{changes_nothing}
 use Rattle.proc_numbers.proofs.Lowest.{IsLowest}
+use Rattle.kheap_laws.proofs.PaidLemmas.{IsPaid-refl}
 use Rattle.proc_numbers.proofs.sharing.share_lowest.Goals as goal
 
 pub returns-in_default-clause-answers : goal.returns-in_default-clause-answers
@@ -33,3 +34,6 @@ returns-clause-answers c = λ numbers script plain is have.
       replies = ap (duplicated script plain c.args.place.pid (record { place = numbers.descs c.args.desc; is = is })) (c.lowest_from.ensures.lowest numbers plain.files have ∙ c.in-Some.is);
       stands = c.share_at.ensures.opened numbers plain.files have;
     }
+
+pub returns-in_default-clause-paid : goal.returns-in_default-clause-paid
+returns-in_default-clause-paid c = IsPaid-refl c.args.heap.now c.args.purse.now
