@@ -86,8 +86,8 @@ fn revents_of(heap: &KHeap, procs: &ProcTable, place: Place, entries: &[PollEntr
     // These are many, so they are taken once and not for each entry.
     let descs = descs_of(heap, procs, place);
     let mut events = [0; 8];
-    for place in 0..entries.len() {
-        events[place] = descs.polled(heap, &entries[place]);
+    for index in 0..entries.len() {
+        events[index] = descs.polled(heap, &entries[index]);
     }
     let Some(revents) = Revents::of(&events[..entries.len()]) else {
         unreachable!();

@@ -6,7 +6,6 @@ use Rattle.kabi_types.specs.declared.replies.Reply.TheVariants.{Fail, Val}
 use Rattle.posix_defs.specs.Calls.Reading.{put}
 use Rattle.posix_defs.specs.Needs.{pages_touched}
 use Rattle.posix_defs.specs.PathCalls.{read_node}
-use Rattle.proc_numbers.proofs.MayMove.{alive_listed}
 use Rattle.proc_numbers.proofs.RightBytes.{touched_at}
 use Rattle.proc_files.specs.Holders.{holders}
 use Rattle.proc_files.proofs.Holding.{as_found, held_some, hold_on, no_node, on_node}
@@ -20,9 +19,6 @@ use Rattle.proc_files.proofs.Saves.{keeps_read, saves_read, saves_used}
 use Rattle.proc_numbers.specs.Found.{IsNamed}
 use Rattle.kheap_slabs.specs.declared.objects.Desc.{Desc}
 use Rattle.proc_files.proofs.reading.pread_file.Goals as goal
-
-pub opened-requires-clause-there : goal.opened-requires-clause-there
-opened-requires-clause-there c = alive_listed c.args.heap.now c.args.procs.now c.args.place.pid c.requires.kept.holds.stored c.requires.alive
 
 pub returns-in_default-clause-leads : goal.returns-in_default-clause-leads
 returns-in_default-clause-leads c = λ script numbers others plain account stands hold.

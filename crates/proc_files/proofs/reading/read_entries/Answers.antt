@@ -11,7 +11,6 @@ use Rattle.posix_defs.specs.Calls.Reading.{list_directory, put}
 use Rattle.posix_defs.specs.Needs.{pages_touched}
 use Rattle.posix_defs.specs.PathCalls.{list_node}
 use Rattle.proc_numbers.specs.Found.{IsNamed, opened_in}
-use Rattle.proc_numbers.proofs.MayMove.{alive_listed}
 use Rattle.proc_numbers.proofs.RightBytes.{touched_at}
 use Rattle.proc_files.specs.Holders.{holders}
 use Rattle.proc_files.proofs.Holding.{as_found, held_some, hold_on, no_node, on_node, open_node}
@@ -25,9 +24,6 @@ use Rattle.proc_files.proofs.ReadAnswers.{readdir_closed, readdir_file, readdir_
 use Rattle.kabi_types.specs.declared.calls.Call.TheVariants as call
 use Rattle.proc_files.proofs.Saves.{keeps_read, saves_read, saves_used}
 use Rattle.proc_files.proofs.reading.read_entries.Goals as goal
-
-pub opened-requires-clause-there : goal.opened-requires-clause-there
-opened-requires-clause-there c = alive_listed c.args.heap.now c.args.procs.now c.args.place.pid c.requires.kept.holds.stored c.requires.alive
 
 pub returns-in_default-clause-leads : goal.returns-in_default-clause-leads
 returns-in_default-clause-leads c = λ script numbers others plain account stands hold.

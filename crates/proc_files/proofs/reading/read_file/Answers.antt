@@ -11,7 +11,6 @@ use Rattle.posix_defs.specs.Calls.Reading.{put, read_file}
 use Rattle.posix_defs.specs.Needs.{pages_touched}
 use Rattle.posix_defs.specs.PathCalls.{read_node}
 use Rattle.proc_numbers.specs.Found.{IsNamed, opened_in}
-use Rattle.proc_numbers.proofs.MayMove.{alive_listed}
 use Rattle.proc_numbers.proofs.RightBytes.{touched_at}
 use Rattle.proc_files.specs.Holders.{holders}
 use Rattle.proc_files.proofs.Holding.{as_found, held_some, hold_on, on_node, only_node}
@@ -26,9 +25,6 @@ use Rattle.kabi_types.specs.declared.calls.Call.TheVariants as call
 use Rattle.proc_files.proofs.Saves.{keeps_read, saves_read, saves_used}
 use Rattle.proc_files.proofs.reading.read_file.Goals as goal
 
-pub opened-requires-clause-there : goal.opened-requires-clause-there
-opened-requires-clause-there c = alive_listed c.args.heap.now c.args.procs.now c.args.place.pid c.requires.kept.holds.stored c.requires.alive
-
 pub returns-in_default-clause-leads : goal.returns-in_default-clause-leads
 returns-in_default-clause-leads c = λ script numbers others plain account stands hold.
     leads_nowhere script numbers others c.args.heap.now c.args.procs.now c.args.tree.now plain account c.args.place.pid (call.Read c.args.fd c.args.addr c.args.n) c.requires.kept stands hold _ (Fail EBADF)
@@ -41,7 +37,7 @@ returns-then-not-may_read-clause-leads c = λ script numbers others plain accoun
 
 pub unreachable-requires : goal.unreachable-requires
 unreachable-requires c =
-    only_node c.args.heap.now c.args.procs.now c.args.place.pid c.args.fd c.in-Some.found c.requires.kept.listed c.requires.kept.owners (alive_listed c.args.heap.now c.args.procs.now c.args.place.pid c.requires.kept.holds.stored c.requires.alive)
+    only_node c.args.heap.now c.args.procs.now c.args.place.pid c.args.fd c.in-Some.found c.requires.kept.listed c.requires.kept.owners (ap is_some c.requires.there)
     c.requires.hold c.requires.on c.in-Some.ensures.there
     (λ numbers files have. (as_found numbers files c.args.place.pid _ c.args.fd _ (Some c.in-Some.found) (to_z-of_z w64 c.args.fd c.ranges.fd) (c.opened.ensures.found numbers files have) c.in-Some.is)) c.in_default-target.not-Inode
 

@@ -6,7 +6,6 @@ use Rattle.kabi_types.specs.declared.replies.Reply.TheVariants.{Fail, Val}
 use Rattle.posix_defs.specs.Calls.Writing.{wrote_at}
 use Rattle.posix_defs.specs.Memory.{loaded}
 use Rattle.posix_defs.specs.Process.{memory_of}
-use Rattle.proc_numbers.proofs.MayMove.{alive_listed}
 use Rattle.proc_files.specs.Holders.{holders}
 use Rattle.proc_files.proofs.Beside.{kept_beside}
 use Rattle.proc_files.proofs.Holding.{as_found, held_some, hold_on, no_node, on_node}
@@ -18,9 +17,6 @@ use Rattle.proc_files.proofs.WriteLeads.{pwrites}
 use Rattle.posix_defs.specs.TreeChanges.{write as tree_write}
 use Rattle.kabi_types.specs.declared.calls.Call.TheVariants as call
 use Rattle.proc_files.proofs.writing.pwrite_file.Goals as goal
-
-pub opened-requires-clause-there : goal.opened-requires-clause-there
-opened-requires-clause-there c = alive_listed c.args.heap.now c.args.procs.now c.args.place.pid c.requires.kept.holds.stored c.requires.alive
 
 pub returns-in_default-clause-leads : goal.returns-in_default-clause-leads
 returns-in_default-clause-leads c = λ script numbers others plain account stands hold.

@@ -13,7 +13,6 @@ use Rattle.posix_defs.specs.Process.{memory_of}
 use Rattle.proc_table.specs.Procs.{memory_at}
 use Rattle.proc_table.proofs.MemoryLemmas.{memory_at-stands}
 use Rattle.proc_numbers.specs.Found.{opened_in}
-use Rattle.proc_numbers.proofs.MayMove.{alive_listed}
 use Rattle.proc_files.specs.Holders.{holders}
 use Rattle.proc_files.specs.Seeking.{MovesDesc}
 use Rattle.proc_files.proofs.Beside.{kept_beside, same_descs}
@@ -28,9 +27,6 @@ use Rattle.posix_defs.specs.TreeChanges.{write as tree_write}
 use Rattle.kabi_types.specs.declared.calls.Call.TheVariants as call
 use Rattle.proc_files.proofs.writing.write_file.Goals as goal
 
-pub opened-requires-clause-there : goal.opened-requires-clause-there
-opened-requires-clause-there c = alive_listed c.args.heap.now c.args.procs.now c.args.place.pid c.requires.kept.holds.stored c.requires.alive
-
 pub returns-in_default-clause-leads : goal.returns-in_default-clause-leads
 returns-in_default-clause-leads c = λ script numbers others plain account stands hold.
     leads_nowhere script numbers others c.args.heap.now c.args.procs.now c.args.tree.now plain account c.args.place.pid (call.Write c.args.fd c.args.addr c.args.n 0) c.requires.kept stands hold _ (Fail EBADF)
@@ -43,7 +39,7 @@ returns-then-not-may_write-clause-leads c = λ script numbers others plain accou
 
 pub unreachable-requires : goal.unreachable-requires
 unreachable-requires c =
-    only_node c.args.heap.now c.args.procs.now c.args.place.pid c.args.fd c.in-Some.found c.requires.kept.listed c.requires.kept.owners (alive_listed c.args.heap.now c.args.procs.now c.args.place.pid c.requires.kept.holds.stored c.requires.alive)
+    only_node c.args.heap.now c.args.procs.now c.args.place.pid c.args.fd c.in-Some.found c.requires.kept.listed c.requires.kept.owners (ap is_some c.requires.there)
     c.requires.hold c.requires.on c.in-Some.ensures.there
     (λ numbers files have. (as_found numbers files c.args.place.pid _ c.args.fd _ (Some c.in-Some.found) (to_z-of_z w64 c.args.fd c.ranges.fd) (c.opened.ensures.found numbers files have) c.in-Some.is)) c.in_default-target.not-Inode
 

@@ -8,15 +8,10 @@ use Rattle.kabi_types.specs.declared.replies.Reply.TheVariants.{Fail, Val}
 use Rattle.proc_numbers.specs.Found.{IsNamed}
 use Rattle.proc_numbers.proofs.EndLemmas.{end_in, kept_taken, only_queue, open_end}
 use Rattle.proc_numbers.proofs.Leading.{leads_over}
-use Rattle.proc_numbers.proofs.MayMove.{alive_listed}
 use Rattle.proc_numbers.proofs.ReadCall.{asks_with, of_opened, read_asks, read_leads, read_nothing, read_unmapped}
 use Rattle.proc_numbers.proofs.Remembering.{mapped_so}
 use Rattle.proc_numbers.proofs.RightBytes.{moved_bytes}
 use Rattle.proc_numbers.proofs.reading.read.Goals as goal
-
-pub readable-requires-clause-there : goal.readable-requires-clause-there
-readable-requires-clause-there c =
-    alive_listed c.args.heap.now c.args.procs.now c.args.place.pid c.requires.kept.holds.stored c.requires.alive
 
 pub returns-in_default-clause-leads : goal.returns-in_default-clause-leads
 returns-in_default-clause-leads c = λ script numbers plain account stands.

@@ -13,15 +13,10 @@ use Rattle.proc_numbers.specs.PipeMoving.{moved_in}
 use Rattle.proc_numbers.specs.QueueEnds.{PutsIn, write_of}
 use Rattle.proc_numbers.proofs.EndLemmas.{beside_put, end_in, kept_put, only_queue, open_end}
 use Rattle.proc_numbers.proofs.Leading.{leads_over}
-use Rattle.proc_numbers.proofs.MayMove.{alive_listed}
 use Rattle.proc_numbers.proofs.WriteCall.{asks_with, of_opened, write_asks, write_leads, write_nothing, write_unlinked, write_unmapped}
 use Rattle.proc_numbers.proofs.Remembering.{mapped_so, memory_is}
 use Rattle.proc_numbers.proofs.RightBytes.{moved_bytes}
 use Rattle.proc_numbers.proofs.writing.write.Goals as goal
-
-pub writable-requires-clause-there : goal.writable-requires-clause-there
-writable-requires-clause-there c =
-    alive_listed c.args.heap.now c.args.procs.now c.args.place.pid c.requires.kept.holds.stored c.requires.alive
 
 pub returns-in_default-clause-leads : goal.returns-in_default-clause-leads
 returns-in_default-clause-leads c = λ script numbers plain account stands.

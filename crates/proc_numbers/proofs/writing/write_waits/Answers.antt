@@ -8,15 +8,10 @@ use Rattle.kabi_types.specs.declared.calls.Call.TheVariants as call
 use Rattle.posix_defs.specs.Machine.{blocks}
 use Rattle.proc_numbers.specs.QueueEnds.{write_of}
 use Rattle.proc_numbers.proofs.EndLemmas.{end_in, open_end}
-use Rattle.proc_numbers.proofs.MayMove.{alive_listed}
 use Rattle.proc_numbers.proofs.WriteCall.{asks_with, of_opened, write_asks, write_flows, write_nothing, write_sleeps, write_unmapped, node_flows}
 use Rattle.proc_numbers.proofs.Remembering.{mapped_so}
 use Rattle.proc_numbers.proofs.RightBytes.{moved_bytes}
 use Rattle.proc_numbers.proofs.writing.write_waits.Goals as goal
-
-pub writable-requires-clause-there : goal.writable-requires-clause-there
-writable-requires-clause-there c =
-    alive_listed c.args.heap.now c.args.procs.now c.args.place.pid c.requires.kept.holds.stored c.requires.alive
 
 pub returns-in_default : goal.returns-in_default
 returns-in_default c = λ script numbers plain account stands.
