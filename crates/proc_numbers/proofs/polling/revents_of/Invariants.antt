@@ -10,5 +10,5 @@ abbrev pub invariant-loop-index : goal.invariant-loop-index
 invariant-loop-index l = record {
   long : length l.events ≡ 8;
   told : (numbers : Numbers) (files : Files) → HaveOpen numbers l.heap l.procs files
-      → take l.index l.events ≡ map (λ entry. polled_at files l.place.pid entry.fd entry.events) (take l.index l.entries);
+      → take l.index l.events ≡ map (λ entry. polled_at files l.fn.place.pid entry.fd entry.events) (take l.index l.entries);
 }
