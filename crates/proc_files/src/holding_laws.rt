@@ -15,7 +15,3 @@ pub fn a_table_of_names_goes_on()
 pub fn descriptions_tell_their_nodes()
     ensures { (one : Files) (other : Files) (descriptions : Descriptions) → nodes_among one descriptions ≡ nodes_among other descriptions }
 {}
-
-pub fn descriptions_tell_their_nodes()
-    ensures { (one : Files) (other : Files) (descriptions : Descriptions) → nodes_among one descriptions ≡ nodes_among other descriptions }
-{}
