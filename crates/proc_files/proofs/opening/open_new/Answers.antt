@@ -80,11 +80,11 @@ returns-clause-paid c =
 pub returns-clause-fills : goal.returns-clause-fills
 returns-clause-fills c =
     let makes = c.describe-desc.ensures.makes in let names = c.open_one.ensures.names in
-    spent_fills c.args.heap.now c.open_one.new.heap c.args.purse.now c.describe-desc.new.purse
+    spent_fills c.args.heap.now c.open_one.new.heap c.args.purse.now c.open_one.new._purse
     (ap (λ (h : Heap). h.vnodes) names.after ∙ ap (λ (h : Heap). h.vnodes) makes.kept)
     (ap (λ (h : Heap). h.names) names.after ∙ ap (λ (h : Heap). h.names) makes.kept)
     (ap (λ (h : Heap). h.blocks) names.after ∙ ap (λ (h : Heap). h.blocks) makes.kept)
-    c.describe-desc.ensures.spent c.requires.fills
+    (c.open_one.ensures.spent ∙ c.describe-desc.ensures.spent) c.requires.fills
 
 pub returns-clause-socks : goal.returns-clause-socks
 returns-clause-socks c = ap (λ (h : Heap). h.socks) c.open_one.ensures.names.after ∙ ap (λ (h : Heap). h.socks) c.describe-desc.ensures.makes.kept
