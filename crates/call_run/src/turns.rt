@@ -174,10 +174,8 @@ fn end_other(objects: &mut Objects, pid: u32)
     if pid == INIT || !objects.runs(pid) {
         return;
     }
-    let place = Place {
-        pid,
-        key: objects.key_there(pid),
-    };
+    let key = objects.key_there(pid);
+    let place = Place { pid, key };
     end(objects, place, SIGKILL);
     objects.heap_is_well_formed();
 }

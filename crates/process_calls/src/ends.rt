@@ -40,10 +40,8 @@ fn strike(
     ensures uses { UsesAtMost objects.old.heap objects.new.heap 0 reserve }
     ensures does { (named sent : ℤ) → Serves script.now objects.old caller.now.place.pid (Call.Kill named sent) (λ plain. struck script.now plain caller.now.place.pid target signal) result objects.new }
 {
-    let place = Place {
-        pid: target,
-        key: objects.key_there(target),
-    };
+    let key = objects.key_there(target);
+    let place = Place { pid: target, key };
     end(objects, place, signal);
     if target == caller.place.pid {
         return Turned::Ended(signal);

@@ -4,11 +4,11 @@ use Rattle.store_objects.proofs.Paying.{uses_nothing, uses_then}
 use Rattle.process_calls.proofs.Striking.{does_another, does_itself}
 use Rattle.process_calls.proofs.ends.strike.Goals as goal
 
-pub key_there-requires-clause-stored : goal.key_there-requires-clause-stored
-key_there-requires-clause-stored c = c.requires.stands.1.kept.holds.stored
+pub key_there-key-requires-clause-stored : goal.key_there-key-requires-clause-stored
+key_there-key-requires-clause-stored c = c.requires.stands.1.kept.holds.stored
 
-pub key_there-requires-clause-there : goal.key_there-requires-clause-there
-key_there-requires-clause-there c = ap is_some c.requires.there.there
+pub key_there-key-requires-clause-there : goal.key_there-key-requires-clause-there
+key_there-key-requires-clause-there c = ap is_some c.requires.there.there
 
 pub end-requires-clause-stands : goal.end-requires-clause-stands
 end-requires-clause-stands c = let some = c.requires.stands in (c.args.script.now, some.0, some.1, some.2)

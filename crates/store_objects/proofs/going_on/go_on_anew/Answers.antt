@@ -10,11 +10,11 @@ behind-requires-clause-stands c = let at = at_its_call c.args.script.now c.args.
 pub behind-requires-clause-rests : goal.behind-requires-clause-rests
 behind-requires-clause-rests c = let at = at_its_call c.args.script.now c.args.objects.now c.args.caller.now.place.pid c.args.caller.now.control c.requires.kept c.requires.runs in at.1
 
-pub key_there-requires-clause-stored : goal.key_there-requires-clause-stored
-key_there-requires-clause-stored c = c.requires.kept.holds.stored
+pub key_there-key-requires-clause-stored : goal.key_there-key-requires-clause-stored
+key_there-key-requires-clause-stored c = c.requires.kept.holds.stored
 
-pub key_there-requires-clause-there : goal.key_there-requires-clause-there
-key_there-requires-clause-there c = ap is_some c.requires.runs.found
+pub key_there-key-requires-clause-there : goal.key_there-key-requires-clause-there
+key_there-key-requires-clause-there c = ap is_some c.requires.runs.found
 
 pub move_on-requires-clause-stored : goal.move_on-requires-clause-stored
 move_on-requires-clause-stored c = c.requires.kept.holds.stored
