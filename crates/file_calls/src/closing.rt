@@ -1,10 +1,11 @@
 //! The calls with which descriptions go: `close` and `dup2`.
 
-ghost use Rattle.std.specs.Prelude.{◌≡◌, ◌≤◌, ◌+◌};
+ghost use Rattle.std.specs.Prelude.{◌≤◌, ◌+◌};
 ghost use Rattle.kabi_types.specs.declared.calls.Call.{Call};
 ghost use Rattle.kheap_slabs.specs.Heap.{live_bytes};
+ghost use Rattle.kheap_slabs.specs.Paid.{CanPay};
 ghost use Rattle.posix_defs.specs.Calls.OnDescriptors.{close, dup2};
-ghost use Rattle.posix_defs.specs.Needs.{bound, need_of};
+ghost use Rattle.posix_defs.specs.Needs.{bound};
 ghost use Rattle.posix_defs.specs.Sizes.{reserve};
 ghost use Rattle.posix_defs.specs.World.{World};
 ghost use Rattle.proc_table.specs.Table.{IsPlaced};
@@ -68,7 +69,7 @@ pub fn dup2(
     requires stands { (world : World) × StandsFor script.now objects.old world × IsSound world.plain }
     requires runs { Runs objects.old caller.now.place.pid caller.now.control }
     requires placed { IsPlaced objects.old.procs caller.now.place }
-    requires needed { purse.old.left ≡ need_of (Call.Dup2 fd to) }
+    requires pays { CanPay objects.old.heap purse.old }
     requires room { live_bytes objects.old.heap + bound (Call.Dup2 fd to) + reserve ≤ objects.old.heap.heap }
     ensures kept { AreKept script.now objects.new }
     ensures uses { UsesAtMost objects.old.heap objects.new.heap (bound (Call.Dup2 fd to)) reserve }

@@ -450,11 +450,17 @@ dup-requires-clause-runs c = caller_runs c.args.objects.now c.args.caller.now.pl
 pub dup-requires-clause-placed : goal.dup-requires-clause-placed
 dup-requires-clause-placed c = c.requires.caller.placed
 
+pub dup-requires-clause-room : goal.dup-requires-clause-room
+dup-requires-clause-room c =
+    can_pay c.args.objects.now.heap c.purse_for-paid.result c.args.call.now (c.purse_for-paid.ensures.within c.args.call.now c.requires.needed) (room_less c.args.objects.now.heap c.args.call.now c.requires.room)
+
 pub dup-requires-clause-kept : goal.dup-requires-clause-kept
 dup-requires-clause-kept c = c.requires.stands.1.kept
 
 pub returns-in-Dup-clause-uses : goal.returns-in-Dup-clause-uses
-returns-in-Dup-clause-uses c = uses_nothing c.args.objects.now.heap c.dup.new.objects.heap _ _ c.dup.ensures.takes
+returns-in-Dup-clause-uses c =
+    uses_paid c.args.objects.now.heap c.dup.new.objects.heap c.purse_for-paid.result c.dup.new.purse (bound c.args.call.now) _ c.dup.ensures.paid
+    (c.purse_for-paid.ensures.within c.args.call.now c.requires.needed)
 
 pub returns-in-Dup-clause-does : goal.returns-in-Dup-clause-does
 returns-in-Dup-clause-does c =
@@ -473,14 +479,20 @@ dup2-requires-clause-runs c = caller_runs c.args.objects.now c.args.caller.now.p
 pub dup2-requires-clause-placed : goal.dup2-requires-clause-placed
 dup2-requires-clause-placed c = c.requires.caller.placed
 
+pub dup2-requires-clause-pays : goal.dup2-requires-clause-pays
+dup2-requires-clause-pays c =
+    can_pay c.args.objects.now.heap c.purse_for-paid.result c.args.call.now (c.purse_for-paid.ensures.within c.args.call.now c.requires.needed) (room_less c.args.objects.now.heap c.args.call.now c.requires.room)
+
 pub dup2-requires-clause-stands : goal.dup2-requires-clause-stands
 dup2-requires-clause-stands c = (c.requires.stands.0, c.requires.stands.1, c.requires.stands.2)
 
 pub dup2-requires-clause-room : goal.dup2-requires-clause-room
-dup2-requires-clause-room c = room_kept c.args.objects.now.heap c.args.call.now c.requires.room
+dup2-requires-clause-room c =
+    subst (λ w. live_bytes c.args.objects.now.heap + bound w + reserve ≤ c.args.objects.now.heap.heap) (spelt_two c.args.call.now call.Dup2 c.in-Dup2.fd c.in-Dup2.to c.in-Dup2.is (search (rules, to_z-of_z)) (search (rules, to_z-of_z))) c.requires.room
 
 pub returns-in-Dup2-clause-uses : goal.returns-in-Dup2-clause-uses
-returns-in-Dup2-clause-uses c = uses_more c.args.objects.now.heap c.dup2.new.objects.heap _ _ (subst (λ which. UsesAtMost c.args.objects.now.heap c.dup2.new.objects.heap 0 (slack which)) (sym c.in-Dup2.is) c.dup2.ensures.uses)
+returns-in-Dup2-clause-uses c =
+    subst (λ w. UsesAtMost c.args.objects.now.heap c.dup2.new.objects.heap (bound w) (slack w)) (sym (spelt_two c.args.call.now call.Dup2 c.in-Dup2.fd c.in-Dup2.to c.in-Dup2.is (search (rules, to_z-of_z)) (search (rules, to_z-of_z)))) c.dup2.ensures.uses
 
 pub returns-in-Dup2-clause-does : goal.returns-in-Dup2-clause-does
 returns-in-Dup2-clause-does c =
@@ -498,11 +510,17 @@ fcntl-requires-clause-runs c = caller_runs c.args.objects.now c.args.caller.now.
 pub fcntl-requires-clause-placed : goal.fcntl-requires-clause-placed
 fcntl-requires-clause-placed c = c.requires.caller.placed
 
+pub fcntl-requires-clause-room : goal.fcntl-requires-clause-room
+fcntl-requires-clause-room c =
+    can_pay c.args.objects.now.heap c.purse_for-paid.result c.args.call.now (c.purse_for-paid.ensures.within c.args.call.now c.requires.needed) (room_less c.args.objects.now.heap c.args.call.now c.requires.room)
+
 pub fcntl-requires-clause-kept : goal.fcntl-requires-clause-kept
 fcntl-requires-clause-kept c = c.requires.stands.1.kept
 
 pub returns-in-Fcntl-clause-uses : goal.returns-in-Fcntl-clause-uses
-returns-in-Fcntl-clause-uses c = uses_nothing c.args.objects.now.heap c.fcntl.new.objects.heap _ _ c.fcntl.ensures.takes
+returns-in-Fcntl-clause-uses c =
+    uses_paid c.args.objects.now.heap c.fcntl.new.objects.heap c.purse_for-paid.result c.fcntl.new.purse (bound c.args.call.now) _ c.fcntl.ensures.paid
+    (c.purse_for-paid.ensures.within c.args.call.now c.requires.needed)
 
 pub returns-in-Fcntl-clause-does : goal.returns-in-Fcntl-clause-does
 returns-in-Fcntl-clause-does c =

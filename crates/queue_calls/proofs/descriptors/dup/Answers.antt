@@ -1,7 +1,7 @@
 use Rattle.std.proofs.Common.{ap, refl, subst, sym, w64}
 use Rattle.std.proofs.lemmas.Int.{to_z-of_z}
 use Rattle.kabi_types.specs.declared.calls.Call.TheVariants as call
-use Rattle.kheap_laws.proofs.PaidLemmas.{TakesNothing-trans}
+use Rattle.kheap_laws.proofs.PaidLemmas.{TakesNothing-trans, IsPaid-nothing, IsPaid-trans}
 use Rattle.kheap_slabs.specs.Heap.{Heap}
 use Rattle.posix_defs.specs.Calls.OnDescriptors.{dup}
 use Rattle.proc_numbers.proofs.Fronts.{queues_same}
@@ -49,3 +49,8 @@ returns-clause-does c =
     subst (Answers numbers heap old.procs script plain pid (dup script plain pid c.args.fd)) (sym c.value-reply.ensures)
     (subst (λ z. Answers numbers heap old.procs script plain pid (dup script plain pid z) (value_of c.dup_one.result)) (to_z-of_z w64 c.args.fd c.ranges.fd)
     (done.answers numbers script plain have)))
+
+pub returns-clause-paid : goal.returns-clause-paid
+returns-clause-paid c =
+    IsPaid-trans c.args.objects.now.heap c.args.purse.now c.dup_one.new.heap c.dup_one.new.purse c.go_on.new.objects.heap c.dup_one.new.purse c.dup_one.ensures.paid
+    (IsPaid-nothing c.dup_one.new.heap c.go_on.new.objects.heap c.dup_one.new.purse c.dup_one.new.purse c.go_on.ensures.takes refl refl)

@@ -1,7 +1,7 @@
 use Rattle.std.proofs.Common.{ap, of_z, refl, subst, sym, to_z, w64}
 use Rattle.std.proofs.lemmas.Int.{to_z-of_z}
 use Rattle.kabi_types.specs.declared.calls.Call.TheVariants as call
-use Rattle.kheap_laws.proofs.PaidLemmas.{TakesNothing-trans}
+use Rattle.kheap_laws.proofs.PaidLemmas.{TakesNothing-trans, IsPaid-nothing, IsPaid-trans}
 use Rattle.kheap_slabs.specs.Heap.{Heap}
 use Rattle.posix_defs.specs.Calls.OnDescriptors.{fcntl}
 use Rattle.proc_numbers.proofs.Fronts.{queues_same}
@@ -51,3 +51,8 @@ returns-clause-does c =
     (subst (λ z. Answers numbers heap old.procs script plain pid (fcntl script plain pid (to_z w64 (of_z w64 c.args.fd)) z c.args.arg) (value_of c.control.result)) (to_z-of_z w64 c.args.cmd c.ranges.cmd)
     (subst (λ z. Answers numbers heap old.procs script plain pid (fcntl script plain pid (to_z w64 (of_z w64 c.args.fd)) (to_z w64 (of_z w64 c.args.cmd)) z) (value_of c.control.result)) (to_z-of_z w64 c.args.arg c.ranges.arg)
     (done.answers numbers script plain have)))))
+
+pub returns-clause-paid : goal.returns-clause-paid
+returns-clause-paid c =
+    IsPaid-trans c.args.objects.now.heap c.args.purse.now c.control.new.heap c.control.new.purse c.go_on.new.objects.heap c.control.new.purse c.control.ensures.paid
+    (IsPaid-nothing c.control.new.heap c.go_on.new.objects.heap c.control.new.purse c.control.new.purse c.go_on.ensures.takes refl refl)
