@@ -21,6 +21,7 @@ ghost use Rattle.posix_defs.specs.declared.turner.Turned.TheVariants as turned;
 ghost use Rattle.proc_numbers.specs.Found.{IsOffNodes, IsOnNode};
 ghost use Rattle.proc_table.specs.Procs.{IsAlive};
 ghost use Rattle.prog_ctl.specs.Waits.{wait_of};
+ghost use Rattle.proc_table.specs.Table.{IsPlaced};
 ghost use Rattle.store_objects.specs.Objects.{AreKept, IsCaller, Runs, procs_of};
 ghost use Rattle.store_objects.specs.Standing.{IsSound, StandsFor, answered_in};
 ghost use Rattle.store_objects.specs.Uses.{UsesAtMost};
@@ -36,6 +37,7 @@ use kabi_types::{Call, Errno, Memory, Need, Reply, Script, may_wait};
 use path_calls::{chdir, link, mkdir, rename, rmdir, stat, unlink};
 use posix_defs::Turned;
 use proc_files::{FileBuffer, MOST_MOVED, is_on_node};
+use proc_table::Place;
 use process_calls::{exit, fork, load, mmap, munmap, signal_process, store, wait, would_sleep};
 use prog_ctl::Awaited;
 use queue_calls::{
@@ -65,31 +67,33 @@ impl Buffers {
 
 /// What a live process's call moves bytes of: a queue where it reads or writes a number that isn't open on a node, and else a file, or
 /// nothing. Of a file nobody has written a part, so that a write to one begins anew.
-fn target_of(objects: &Objects, pid: u32, call: &Call) -> Target
+fn target_of(objects: &Objects, place: Place, call: &Call) -> Target
     requires kept { (script : Script) × AreKept script objects.now }
-    requires alive { IsAlive (procs_of objects.now) pid }
+    requires alive { IsAlive (procs_of objects.now) place.pid }
+    requires placed { IsPlaced objects.now.procs place }
     ensures other { is_moving (kind_of call.now) ≡ false → result ≡ File }
-    ensures on { result ≡ File → IsOnFile objects.now.heap objects.now.procs pid call.now }
-    ensures off { result ≡ Queue → IsOffFiles objects.now.heap objects.now.procs pid call.now }
-    ensures fresh { result ≡ File → (script : Script) (world : World) → StandsFor script objects.now world → HasHalf world.plain.files pid call.now → IsFresh call.now }
+    ensures on { result ≡ File → IsOnFile objects.now.heap objects.now.procs place.pid call.now }
+    ensures off { result ≡ Queue → IsOffFiles objects.now.heap objects.now.procs place.pid call.now }
+    ensures fresh { result ≡ File → (script : Script) (world : World) → StandsFor script objects.now world → HasHalf world.plain.files place.pid call.now → IsFresh call.now }
 {
     match call {
-        Call::Read { fd, .. } => moved_by(objects, pid, *fd),
-        Call::Write { fd, .. } => moved_by(objects, pid, *fd),
+        Call::Read { fd, .. } => moved_by(objects, place, *fd),
+        Call::Write { fd, .. } => moved_by(objects, place, *fd),
         _ => Target::File,
     }
 }
 
 /// What is moved through a number.
-fn moved_by(objects: &Objects, pid: u32, fd: i64) -> Target
+fn moved_by(objects: &Objects, place: Place, fd: i64) -> Target
     requires kept { (script : Script) × AreKept script objects.now }
-    requires alive { IsAlive (procs_of objects.now) pid }
-    ensures on { result ≡ File → IsOnNode objects.now.heap objects.now.procs pid fd }
-    ensures off { result ≡ Queue → IsOffNodes objects.now.heap objects.now.procs pid fd }
+    requires alive { IsAlive (procs_of objects.now) place.pid }
+    requires placed { IsPlaced objects.now.procs place }
+    ensures on { result ≡ File → IsOnNode objects.now.heap objects.now.procs place.pid fd }
+    ensures off { result ≡ Queue → IsOffNodes objects.now.heap objects.now.procs place.pid fd }
     ensures tells { result ≡ File → (script : Script) (world : World) → StandsFor script objects.now world
-        → plain_on_node world.plain.files (opened_at world.plain.files pid fd) ≡ true }
+        → plain_on_node world.plain.files (opened_at world.plain.files place.pid fd) ≡ true }
 {
-    if is_on_node(&objects.heap, &objects.procs, pid, fd) {
+    if is_on_node(&objects.heap, &objects.procs, place, fd) {
         Target::File
     } else {
         Target::Queue
@@ -99,12 +103,13 @@ fn moved_by(objects: &Objects, pid: u32, fd: i64) -> Target
 /// Tells the caller a number.
 fn tell(script: &Script, objects: &mut Objects, caller: &Caller, value: u32) -> Turned
     requires kept { AreKept script.now objects.old }
-    requires runs { Runs objects.old caller.now.pid caller.now.control }
+    requires runs { Runs objects.old caller.now.place.pid caller.now.control }
+    requires placed { IsPlaced objects.old.procs caller.now.place }
     ensures kept { AreKept script.now objects.new }
     ensures told { result ≡ turned.Done (Val (pos value)) }
     ensures takes { TakesNothing objects.old.heap objects.new.heap }
     ensures goes { (world : World) → StandsFor script.now objects.old world
-        → StandsFor script.now objects.new (answered_in script.now world caller.now.pid (Val (pos value))) }
+        → StandsFor script.now objects.new (answered_in script.now world caller.now.place.pid (Val (pos value))) }
 {
     go_on(script, objects, caller, Reply::Val(i64::from(value)))
 }
@@ -119,8 +124,8 @@ fn run_right(
     call: &Call,
     need: Need,
 ) -> Turned
-    requires stands { (world : World) × StandsFor script.now objects.old world × IsSound world.plain × HasHalf world.plain.files caller.now.pid call.now }
-    requires caller { IsCaller objects.old caller.now.pid caller.now }
+    requires stands { (world : World) × StandsFor script.now objects.old world × IsSound world.plain × HasHalf world.plain.files caller.now.place.pid call.now }
+    requires caller { IsCaller objects.old caller.now.place.pid caller.now }
     requires right { argument_fault call.now ≡ None }
     requires paths { HasPaths call.now }
     requires so_far { HasDone call.now caller.now.control.done }
@@ -128,20 +133,20 @@ fn run_right(
     requires room { live_bytes objects.old.heap + bound call.now + reserve ≤ objects.old.heap.heap }
     ensures kept { AreKept script.now objects.new }
     ensures uses { UsesAtMost objects.old.heap objects.new.heap (bound call.now) (slack call.now) }
-    ensures does { Serves script.now objects.old caller.now.pid call.now (λ plain. answer_to script.now plain caller.now.pid call.now) result objects.new }
-    ensures cached { ReadsCached objects.old caller.now.pid call.now result objects.new }
+    ensures does { Serves script.now objects.old caller.now.place.pid call.now (λ plain. answer_to script.now plain caller.now.place.pid call.now) result objects.new }
+    ensures cached { ReadsCached objects.old caller.now.place.pid call.now result objects.new }
 {
-    let target = target_of(objects, caller.pid, call);
+    let target = target_of(objects, caller.place, call);
     let mut paid = purse_for(need, target);
     let purse = &mut paid;
     let file = &mut buffers.file;
     match call {
-        Call::Getpid => tell(script, objects, caller, caller.pid),
+        Call::Getpid => tell(script, objects, caller, caller.place.pid),
         Call::Getppid => tell(script, objects, caller, caller.parent),
         Call::SchedYield => tell(script, objects, caller, 0),
         Call::Fork => fork(script, objects, purse, caller),
         Call::Exec { path } => exec(script, objects, purse, caller, path.items()),
-        Call::Exit { status } => exit(objects, caller.pid, *status),
+        Call::Exit { status } => exit(objects, caller.place, *status),
         Call::Waitpid { pid, options } => wait(script, objects, caller, *pid, *options),
         Call::Kill { pid, signal } => signal_process(script, objects, caller, *pid, *signal),
         Call::Mmap { length } => mmap(script, objects, purse, caller, *length),
@@ -157,9 +162,9 @@ fn run_right(
             *flags,
         ),
         Call::Close { fd } => close(script, objects, caller, *fd),
-        Call::Dup { fd } => dup(script, objects, caller, *fd),
-        Call::Dup2 { fd, to } => dup2(script, objects, caller, *fd, *to),
-        Call::Fcntl { fd, cmd, arg } => fcntl(script, objects, caller, *fd, *cmd, *arg),
+        Call::Dup { fd } => dup(script, objects, purse, caller, *fd),
+        Call::Dup2 { fd, to } => dup2(script, objects, purse, caller, *fd, *to),
+        Call::Fcntl { fd, cmd, arg } => fcntl(script, objects, purse, caller, *fd, *cmd, *arg),
         Call::Read { fd, addr, n } => match target {
             Target::File => read_file(script, objects, purse, file, caller, *fd, *addr, *n),
             Target::Queue => {
@@ -233,16 +238,16 @@ pub fn run(
     call: &Call,
     need: Need,
 ) -> Turned
-    requires stands { (world : World) × StandsFor script.now objects.old world × IsSound world.plain × HasHalf world.plain.files caller.now.pid call.now }
-    requires caller { IsCaller objects.old caller.now.pid caller.now }
+    requires stands { (world : World) × StandsFor script.now objects.old world × IsSound world.plain × HasHalf world.plain.files caller.now.place.pid call.now }
+    requires caller { IsCaller objects.old caller.now.place.pid caller.now }
     requires paths { HasPaths call.now }
     requires so_far { HasDone call.now caller.now.control.done }
     requires needed { need ≡ need_of call.now }
     requires room { live_bytes objects.old.heap + bound call.now + reserve ≤ objects.old.heap.heap }
     ensures kept { AreKept script.now objects.new }
     ensures uses { UsesAtMost objects.old.heap objects.new.heap (bound call.now) (slack call.now) }
-    ensures does { Serves script.now objects.old caller.now.pid call.now (λ plain. machine script.now plain caller.now.pid call.now) result objects.new }
-    ensures cached { ReadsCached objects.old caller.now.pid call.now result objects.new }
+    ensures does { Serves script.now objects.old caller.now.place.pid call.now (λ plain. machine script.now plain caller.now.place.pid call.now) result objects.new }
+    ensures cached { ReadsCached objects.old caller.now.place.pid call.now result objects.new }
 {
     match checked(call, &need) {
         Ok(()) => run_right(script, objects, buffers, caller, call, need),
@@ -257,21 +262,23 @@ pub fn would_block(objects: &Objects, pid: u32, wait: Option<Awaited>) -> bool
     ensures { (script : Script) (world : World) → StandsFor script objects.now world
         → (call : Call) → wait ≡ wait_of call → result ≡ blocks (machine script world.plain pid call) }
 {
+    let Some(wait) = wait else {
+        return false;
+    };
+    let key = objects.key_there(pid);
+    let place = Place { pid, key };
     match wait {
-        Some(
-            Awaited::Child {
-                pid: child,
-                options,
-            },
-        ) => may_wait(child, options) && would_sleep(objects, pid, child, options),
-        Some(Awaited::Bytes { fd, addr, n }) => read_would_block(objects, pid, fd, addr, n),
-        Some(Awaited::Room { fd, addr, n, done }) => {
-            write_would_block(objects, pid, fd, addr, n, done)
+        Awaited::Child {
+            pid: child,
+            options,
+        } => may_wait(child, options) && would_sleep(objects, pid, child, options),
+        Awaited::Bytes { fd, addr, n } => read_would_block(objects, place, fd, addr, n),
+        Awaited::Room { fd, addr, n, done } => {
+            write_would_block(objects, place, fd, addr, n, done)
         }
-        Some(Awaited::Peer { fd }) => accept_would_block(objects, pid, fd),
-        Some(Awaited::Events { timeout, entries }) => {
-            poll_would_block(objects, pid, timeout, &entries)
+        Awaited::Peer { fd } => accept_would_block(objects, place, fd),
+        Awaited::Events { timeout, entries } => {
+            poll_would_block(objects, place, timeout, &entries)
         }
-        None => false,
     }
 }

@@ -3,9 +3,12 @@
 ghost use Rattle.std.specs.Prelude.{◌≤◌, ◌+◌};
 ghost use Rattle.kabi_types.specs.declared.calls.Call.{Call};
 ghost use Rattle.kheap_slabs.specs.Heap.{live_bytes};
+ghost use Rattle.kheap_slabs.specs.Paid.{CanPay};
 ghost use Rattle.posix_defs.specs.Calls.OnDescriptors.{close, dup2};
+ghost use Rattle.posix_defs.specs.Needs.{bound};
 ghost use Rattle.posix_defs.specs.Sizes.{reserve};
 ghost use Rattle.posix_defs.specs.World.{World};
+ghost use Rattle.proc_table.specs.Table.{IsPlaced};
 ghost use Rattle.store_objects.specs.Objects.{AreKept, Runs};
 ghost use Rattle.store_objects.specs.Standing.{IsSound, StandsFor};
 ghost use Rattle.store_objects.specs.Uses.{UsesAtMost};
@@ -13,6 +16,7 @@ ghost use Rattle.store_objects.specs.Walking.{Serves};
 
 use crate::replies::{value, zero};
 use kabi_types::Script;
+use kheap_slabs::Purse;
 use posix_defs::Turned;
 use proc_files::{close_number, dup_number};
 use store_objects::{Caller, Objects, go_on, kept_back};
@@ -26,11 +30,12 @@ use store_objects::{Caller, Objects, go_on, kept_back};
 #[inline(never)]
 pub fn close(script: &Script, objects: &mut Objects, caller: &Caller, fd: i64) -> Turned
     requires stands { (world : World) × StandsFor script.now objects.old world × IsSound world.plain }
-    requires runs { Runs objects.old caller.now.pid caller.now.control }
+    requires runs { Runs objects.old caller.now.place.pid caller.now.control }
+    requires placed { IsPlaced objects.old.procs caller.now.place }
     requires room { live_bytes objects.old.heap + reserve ≤ objects.old.heap.heap }
     ensures kept { AreKept script.now objects.new }
     ensures uses { UsesAtMost objects.old.heap objects.new.heap 0 reserve }
-    ensures does { Serves script.now objects.old caller.now.pid (Call.Close fd) (λ plain. close script.now plain caller.now.pid fd) result objects.new }
+    ensures does { Serves script.now objects.old caller.now.place.pid (Call.Close fd) (λ plain. close script.now plain caller.now.place.pid fd) result objects.new }
 {
     objects.heap_is_well_formed();
     let mut purse = kept_back();
@@ -40,7 +45,7 @@ pub fn close(script: &Script, objects: &mut Objects, caller: &Caller, fd: i64) -
         &objects.procs,
         &mut objects.tree,
         &mut objects.names,
-        caller.pid,
+        caller.place,
         fd,
     );
     go_on(script, objects, caller, zero(closed))
@@ -53,23 +58,33 @@ pub fn close(script: &Script, objects: &mut Objects, caller: &Caller, fd: i64) -
 ///
 /// <https://pubs.opengroup.org/onlinepubs/9699919799/functions/dup.html>
 #[inline(never)]
-pub fn dup2(script: &Script, objects: &mut Objects, caller: &Caller, fd: i64, to: i64) -> Turned
+pub fn dup2(
+    script: &Script,
+    objects: &mut Objects,
+    purse: &mut Purse,
+    caller: &Caller,
+    fd: i64,
+    to: i64,
+) -> Turned
     requires stands { (world : World) × StandsFor script.now objects.old world × IsSound world.plain }
-    requires runs { Runs objects.old caller.now.pid caller.now.control }
-    requires room { live_bytes objects.old.heap + reserve ≤ objects.old.heap.heap }
+    requires runs { Runs objects.old caller.now.place.pid caller.now.control }
+    requires placed { IsPlaced objects.old.procs caller.now.place }
+    requires pays { CanPay objects.old.heap purse.old }
+    requires room { live_bytes objects.old.heap + bound (Call.Dup2 fd to) + reserve ≤ objects.old.heap.heap }
     ensures kept { AreKept script.now objects.new }
-    ensures uses { UsesAtMost objects.old.heap objects.new.heap 0 reserve }
-    ensures does { Serves script.now objects.old caller.now.pid (Call.Dup2 fd to) (λ plain. dup2 script.now plain caller.now.pid fd to) result objects.new }
+    ensures uses { UsesAtMost objects.old.heap objects.new.heap (bound (Call.Dup2 fd to)) reserve }
+    ensures does { Serves script.now objects.old caller.now.place.pid (Call.Dup2 fd to) (λ plain. dup2 script.now plain caller.now.place.pid fd to) result objects.new }
 {
     objects.heap_is_well_formed();
-    let mut purse = kept_back();
+    let mut back = kept_back();
     let made = dup_number(
         &mut objects.heap,
-        &mut purse,
+        purse,
+        &mut back,
         &objects.procs,
         &mut objects.tree,
         &mut objects.names,
-        caller.pid,
+        caller.place,
         fd,
         to,
     );

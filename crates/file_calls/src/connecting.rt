@@ -8,6 +8,7 @@ ghost use Rattle.memfs_ops.specs.FileTree.{MayWalk};
 ghost use Rattle.posix_defs.specs.Calls.OnSockets.{connect};
 ghost use Rattle.posix_defs.specs.Needs.{need_of};
 ghost use Rattle.posix_defs.specs.World.{World};
+ghost use Rattle.proc_table.specs.Table.{IsPlaced};
 ghost use Rattle.store_objects.specs.Objects.{AreKept, Runs};
 ghost use Rattle.store_objects.specs.Standing.{IsSound, StandsFor};
 ghost use Rattle.store_objects.specs.Walking.{Serves};
@@ -37,13 +38,14 @@ pub fn connect(
     path: &[u8],
 ) -> Turned
     requires stands { (world : World) × StandsFor script.now objects.old world × IsSound world.plain }
-    requires runs { Runs objects.old caller.now.pid caller.now.control }
+    requires runs { Runs objects.old caller.now.place.pid caller.now.control }
+    requires placed { IsPlaced objects.old.procs caller.now.place }
     requires right { argument_fault (Call.Connect fd path.now) ≡ None }
     requires may { MayWalk objects.old.heap purse.old }
     requires needed { purse.old.left ≡ need_of (Call.Connect fd path.now) }
     ensures kept { AreKept script.now objects.new }
     ensures paid { IsPaid objects.old.heap purse.old objects.new.heap purse.new }
-    ensures does { Serves script.now objects.old caller.now.pid (Call.Connect fd path.now) (λ plain. connect script.now plain caller.now.pid fd path.now) result objects.new }
+    ensures does { Serves script.now objects.old caller.now.place.pid (Call.Connect fd path.now) (λ plain. connect script.now plain caller.now.place.pid fd path.now) result objects.new }
 {
     objects.heap_is_well_formed();
     let done = connect_number(
@@ -52,7 +54,7 @@ pub fn connect(
         &objects.procs,
         &mut objects.tree,
         &objects.names,
-        caller.pid,
+        caller.place,
         fd,
         path,
     );

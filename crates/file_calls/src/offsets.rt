@@ -8,6 +8,7 @@ ghost use Rattle.memfs_ops.specs.Fetching.{MayFetch};
 ghost use Rattle.posix_defs.specs.Calls.OnFiles.{ftruncate, lseek};
 ghost use Rattle.posix_defs.specs.Needs.{need_of};
 ghost use Rattle.posix_defs.specs.World.{World};
+ghost use Rattle.proc_table.specs.Table.{IsPlaced};
 ghost use Rattle.store_objects.specs.Objects.{AreKept, Runs};
 ghost use Rattle.store_objects.specs.Purses.{need_for};
 ghost use Rattle.store_objects.specs.Standing.{IsSound, StandsFor};
@@ -38,18 +39,19 @@ pub fn lseek(
     whence: i64,
 ) -> Turned
     requires stands { (world : World) × StandsFor script.now objects.old world × IsSound world.plain }
-    requires runs { Runs objects.old caller.now.pid caller.now.control }
+    requires runs { Runs objects.old caller.now.place.pid caller.now.control }
+    requires placed { IsPlaced objects.old.procs caller.now.place }
     requires right { argument_fault (Call.Lseek fd distance whence) ≡ None }
     ensures kept { AreKept script.now objects.new }
     ensures takes { TakesNothing objects.old.heap objects.new.heap }
-    ensures does { Serves script.now objects.old caller.now.pid (Call.Lseek fd distance whence) (λ plain. lseek script.now plain caller.now.pid fd distance whence) result objects.new }
+    ensures does { Serves script.now objects.old caller.now.place.pid (Call.Lseek fd distance whence) (λ plain. lseek script.now plain caller.now.place.pid fd distance whence) result objects.new }
 {
     objects.heap_is_well_formed();
     let sought = seek_number(
         &mut objects.heap,
         &objects.procs,
         &mut objects.tree,
-        caller.pid,
+        caller.place,
         fd,
         distance,
         whence,
@@ -73,13 +75,14 @@ pub fn ftruncate(
     size: i64,
 ) -> Turned
     requires stands { (world : World) × StandsFor script.now objects.old world × IsSound world.plain }
-    requires runs { Runs objects.old caller.now.pid caller.now.control }
+    requires runs { Runs objects.old caller.now.place.pid caller.now.control }
+    requires placed { IsPlaced objects.old.procs caller.now.place }
     requires right { argument_fault (Call.Ftruncate fd size) ≡ None }
     requires may { MayFetch objects.old.heap purse.old }
     requires needed { purse.old.left ≡ need_for File (need_of (Call.Ftruncate fd size)) }
     ensures kept { AreKept script.now objects.new }
     ensures paid { IsPaid objects.old.heap purse.old objects.new.heap purse.new }
-    ensures does { Serves script.now objects.old caller.now.pid (Call.Ftruncate fd size) (λ plain. ftruncate script.now plain caller.now.pid fd size) result objects.new }
+    ensures does { Serves script.now objects.old caller.now.place.pid (Call.Ftruncate fd size) (λ plain. ftruncate script.now plain caller.now.place.pid fd size) result objects.new }
 {
     objects.heap_is_well_formed();
     let done = size_number(
@@ -87,7 +90,7 @@ pub fn ftruncate(
         purse,
         &objects.procs,
         &mut objects.tree,
-        caller.pid,
+        caller.place,
         fd,
         size,
     );

@@ -9,6 +9,7 @@ ghost use Rattle.memfs_ops.specs.FileTree.{MayWalk};
 ghost use Rattle.posix_defs.specs.Calls.OnFiles.{open_file};
 ghost use Rattle.posix_defs.specs.Needs.{need_of};
 ghost use Rattle.posix_defs.specs.World.{World};
+ghost use Rattle.proc_table.specs.Table.{IsPlaced};
 ghost use Rattle.store_objects.specs.Objects.{AreKept, Runs};
 ghost use Rattle.store_objects.specs.Standing.{IsSound, StandsFor};
 ghost use Rattle.store_objects.specs.Walking.{Serves};
@@ -38,14 +39,15 @@ pub fn open(
     flags: i64,
 ) -> Turned
     requires stands { (world : World) × StandsFor script.now objects.old world × IsSound world.plain }
-    requires runs { Runs objects.old caller.now.pid caller.now.control }
+    requires runs { Runs objects.old caller.now.place.pid caller.now.control }
+    requires placed { IsPlaced objects.old.procs caller.now.place }
     requires right { argument_fault (Call.OpenFile path.now flags) ≡ None }
     requires bytes { All (λ byte. (0 < byte) × (byte < 2 ^ 8)) path.now }
     requires may { MayWalk objects.old.heap purse.old }
     requires needed { purse.old.left ≡ need_of (Call.OpenFile path.now flags) }
     ensures kept { AreKept script.now objects.new }
     ensures paid { IsPaid objects.old.heap purse.old objects.new.heap purse.new }
-    ensures does { Serves script.now objects.old caller.now.pid (Call.OpenFile path.now flags) (λ plain. open_file script.now plain caller.now.pid path.now flags) result objects.new }
+    ensures does { Serves script.now objects.old caller.now.place.pid (Call.OpenFile path.now flags) (λ plain. open_file script.now plain caller.now.place.pid path.now flags) result objects.new }
 {
     objects.heap_is_well_formed();
     let opened = open_path(
@@ -53,7 +55,7 @@ pub fn open(
         purse,
         &objects.procs,
         &mut objects.tree,
-        caller.pid,
+        caller.place,
         path,
         flags,
     );

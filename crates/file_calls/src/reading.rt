@@ -11,6 +11,7 @@ ghost use Rattle.posix_defs.specs.Calls.Reading.{pread, read, readdir};
 ghost use Rattle.posix_defs.specs.Needs.{need_of};
 ghost use Rattle.posix_defs.specs.World.{World};
 ghost use Rattle.proc_numbers.specs.Found.{IsOnNode};
+ghost use Rattle.proc_table.specs.Table.{IsPlaced};
 ghost use Rattle.store_objects.specs.Objects.{AreKept, Runs};
 ghost use Rattle.store_objects.specs.Purses.{need_for};
 ghost use Rattle.store_objects.specs.Standing.{IsSound, StandsFor};
@@ -43,15 +44,16 @@ pub fn read(
     n: i64,
 ) -> Turned
     requires stands { (world : World) × StandsFor script.now objects.old world × IsSound world.plain }
-    requires runs { Runs objects.old caller.now.pid caller.now.control }
-    requires on { IsOnNode objects.old.heap objects.old.procs caller.now.pid fd }
+    requires runs { Runs objects.old caller.now.place.pid caller.now.control }
+    requires placed { IsPlaced objects.old.procs caller.now.place }
+    requires on { IsOnNode objects.old.heap objects.old.procs caller.now.place.pid fd }
     requires right { argument_fault (Call.Read fd addr n) ≡ None }
     requires may { MayFetch objects.old.heap purse.old }
     requires needed { purse.old.left ≡ need_for File (need_of (Call.Read fd addr n)) }
     ensures kept { AreKept script.now objects.new }
     ensures paid { IsPaid objects.old.heap purse.old objects.new.heap purse.new }
-    ensures does { Serves script.now objects.old caller.now.pid (Call.Read fd addr n) (λ plain. read script.now plain caller.now.pid fd addr n) result objects.new }
-    ensures cached { AreBytesCached objects.old caller.now.pid fd (λ (desc : HeldDesc). desc.offset) (told_count result) objects.new }
+    ensures does { Serves script.now objects.old caller.now.place.pid (Call.Read fd addr n) (λ plain. read script.now plain caller.now.place.pid fd addr n) result objects.new }
+    ensures cached { AreBytesCached objects.old caller.now.place.pid fd (λ (desc : HeldDesc). desc.offset) (told_count result) objects.new }
 {
     objects.heap_is_well_formed();
     let moved = read_file(
@@ -60,7 +62,7 @@ pub fn read(
         &objects.procs,
         &mut objects.tree,
         buffer,
-        caller.pid,
+        caller.place,
         fd,
         addr,
         n,
@@ -88,14 +90,15 @@ pub fn pread(
     at: i64,
 ) -> Turned
     requires stands { (world : World) × StandsFor script.now objects.old world × IsSound world.plain }
-    requires runs { Runs objects.old caller.now.pid caller.now.control }
+    requires runs { Runs objects.old caller.now.place.pid caller.now.control }
+    requires placed { IsPlaced objects.old.procs caller.now.place }
     requires right { argument_fault (Call.Pread fd addr n at) ≡ None }
     requires may { MayFetch objects.old.heap purse.old }
     requires needed { purse.old.left ≡ need_for File (need_of (Call.Pread fd addr n at)) }
     ensures kept { AreKept script.now objects.new }
     ensures paid { IsPaid objects.old.heap purse.old objects.new.heap purse.new }
-    ensures does { Serves script.now objects.old caller.now.pid (Call.Pread fd addr n at) (λ plain. pread script.now plain caller.now.pid fd addr n at) result objects.new }
-    ensures cached { AreBytesCached objects.old caller.now.pid fd (λ (desc : HeldDesc). count_of at) (told_count result) objects.new }
+    ensures does { Serves script.now objects.old caller.now.place.pid (Call.Pread fd addr n at) (λ plain. pread script.now plain caller.now.place.pid fd addr n at) result objects.new }
+    ensures cached { AreBytesCached objects.old caller.now.place.pid fd (λ (desc : HeldDesc). count_of at) (told_count result) objects.new }
 {
     objects.heap_is_well_formed();
     let moved = pread_file(
@@ -104,7 +107,7 @@ pub fn pread(
         &objects.procs,
         &mut objects.tree,
         buffer,
-        caller.pid,
+        caller.place,
         fd,
         addr,
         n,
@@ -132,14 +135,15 @@ pub fn readdir(
     n: i64,
 ) -> Turned
     requires stands { (world : World) × StandsFor script.now objects.old world × IsSound world.plain }
-    requires runs { Runs objects.old caller.now.pid caller.now.control }
+    requires runs { Runs objects.old caller.now.place.pid caller.now.control }
+    requires placed { IsPlaced objects.old.procs caller.now.place }
     requires right { argument_fault (Call.Readdir fd addr n) ≡ None }
     requires may { MayFetch objects.old.heap purse.old }
     requires needed { purse.old.left ≡ need_for File (need_of (Call.Readdir fd addr n)) }
     ensures kept { AreKept script.now objects.new }
     ensures paid { IsPaid objects.old.heap purse.old objects.new.heap purse.new }
-    ensures does { Serves script.now objects.old caller.now.pid (Call.Readdir fd addr n) (λ plain. readdir script.now plain caller.now.pid fd addr n) result objects.new }
-    ensures cached { AreBytesCached objects.old caller.now.pid fd (λ (desc : HeldDesc). desc.offset) (told_count result) objects.new }
+    ensures does { Serves script.now objects.old caller.now.place.pid (Call.Readdir fd addr n) (λ plain. readdir script.now plain caller.now.place.pid fd addr n) result objects.new }
+    ensures cached { AreBytesCached objects.old caller.now.place.pid fd (λ (desc : HeldDesc). desc.offset) (told_count result) objects.new }
 {
     objects.heap_is_well_formed();
     let moved = read_entries(
@@ -148,7 +152,7 @@ pub fn readdir(
         &objects.procs,
         &mut objects.tree,
         buffer,
-        caller.pid,
+        caller.place,
         fd,
         addr,
         n,

@@ -16,6 +16,7 @@ ghost use Rattle.posix_defs.specs.ValidScript.{IsValid};
 ghost use Rattle.posix_defs.specs.World.{World};
 ghost use Rattle.posix_defs.specs.declared.turner.Turned.TheVariants as turned;
 ghost use Rattle.proc_table.specs.Procs.{IsAlive};
+ghost use Rattle.proc_table.specs.Table.{IsPlaced};
 ghost use Rattle.store_objects.specs.Objects.{AreKept, Runs, procs_of};
 ghost use Rattle.store_objects.specs.Standing.{IsSound, StandsFor};
 ghost use Rattle.store_objects.specs.Uses.{UsesAtMost};
@@ -26,6 +27,7 @@ use kabi_types::{Reply, Script};
 use kheap_slabs::Purse;
 use posix_defs::Turned;
 use proc_files::{close_at_exec, program_for};
+use proc_table::Place;
 use store_objects::{Caller, Objects, go_on, kept_back};
 
 /// Has the caller start the program whose line (`#!`, its name and a newline) the file begins with to which a path leads: from then on
@@ -47,14 +49,15 @@ pub fn exec(
     path: &[u8],
 ) -> Turned
     requires stands { (world : World) × StandsFor script.now objects.old world × IsSound world.plain }
-    requires runs { Runs objects.old caller.now.pid caller.now.control }
+    requires runs { Runs objects.old caller.now.place.pid caller.now.control }
+    requires placed { IsPlaced objects.old.procs caller.now.place }
     requires right { argument_fault (Call.Exec path.now) ≡ None }
     requires may { MayWalk objects.old.heap purse.old }
     requires needed { purse.old.left ≡ need_of (Call.Exec path.now) }
     requires room { live_bytes objects.old.heap + bound (Call.Exec path.now) + reserve ≤ objects.old.heap.heap }
     ensures kept { AreKept script.now objects.new }
     ensures uses { UsesAtMost objects.old.heap objects.new.heap (bound (Call.Exec path.now)) reserve }
-    ensures does { Serves script.now objects.old caller.now.pid (Call.Exec path.now) (λ plain. exec script.now plain caller.now.pid path.now) result objects.new }
+    ensures does { Serves script.now objects.old caller.now.place.pid (Call.Exec path.now) (λ plain. exec script.now plain caller.now.place.pid path.now) result objects.new }
 {
     objects.heap_is_well_formed();
     let found = program_for(
@@ -62,7 +65,7 @@ pub fn exec(
         purse,
         &objects.procs,
         &mut objects.tree,
-        caller.pid,
+        caller.place,
         path,
         script,
     );
@@ -75,7 +78,8 @@ pub fn exec(
 // A process that stands at this control starts a program.
 fn start(script: &Script, objects: &mut Objects, caller: &Caller, program: u32) -> Turned
     requires stands { (world : World) × StandsFor script.now objects.old world × IsSound world.plain }
-    requires runs { Runs objects.old caller.now.pid caller.now.control }
+    requires runs { Runs objects.old caller.now.place.pid caller.now.control }
+    requires placed { IsPlaced objects.old.procs caller.now.place }
     requires room { live_bytes objects.old.heap + reserve ≤ objects.old.heap.heap }
     requires there { program < length script.now.programs }
     ensures kept { AreKept script.now objects.new }
@@ -83,10 +87,10 @@ fn start(script: &Script, objects: &mut Objects, caller: &Caller, program: u32) 
     ensures told { result ≡ turned.Done (reply.Val (pos 0)) }
     ensures shed { CachesShed objects.old objects.new }
     ensures starts { (world : World) → StandsFor script.now objects.old world → IsSound world.plain
-        → StandsFor script.now objects.new (started_in script.now objects.new.tree world caller.now.pid program) }
+        → StandsFor script.now objects.new (started_in script.now objects.new.tree world caller.now.place.pid program) }
 {
-    forget_memory(objects, caller.pid);
-    shed(script, objects, caller.pid);
+    forget_memory(objects, caller.place.pid);
+    shed(script, objects, caller.place);
     begin(script, objects, caller, program)
 }
 
@@ -96,6 +100,7 @@ fn forget_memory(objects: &mut Objects, pid: u32)
     requires alive { IsAlive (procs_of objects.old) pid }
     ensures kept { (script : Script) → AreKept script objects.old → AreKept script objects.new }
     ensures runs { (control : Control) → Runs objects.old pid control → Runs objects.new pid control }
+    ensures procs { objects.new.procs ≡ objects.old.procs }
     ensures forgotten { (script : Script) (world : World) → StandsFor script objects.old world → StandsFor script objects.new (forgotten_in world pid) }
     ensures tree { objects.new.tree ≡ objects.old.tree }
     ensures takes { TakesNothing objects.old.heap objects.new.heap }
@@ -104,16 +109,18 @@ fn forget_memory(objects: &mut Objects, pid: u32)
 }
 
 // A process closes what an exec closes.
-fn shed(script: &Script, objects: &mut Objects, pid: u32)
+fn shed(script: &Script, objects: &mut Objects, place: Place)
     requires stands { (world : World) × StandsFor script.now objects.old world × IsSound world.plain }
-    requires alive { IsAlive (procs_of objects.old) pid }
+    requires alive { IsAlive (procs_of objects.old) place.pid }
+    requires placed { IsPlaced objects.old.procs place }
     requires room { live_bytes objects.old.heap + reserve ≤ objects.old.heap.heap }
     ensures kept { AreKept script.now objects.new }
-    ensures runs { (control : Control) → Runs objects.old pid control → Runs objects.new pid control }
+    ensures runs { (control : Control) → Runs objects.old place.pid control → Runs objects.new place.pid control }
+    ensures procs { objects.new.procs ≡ objects.old.procs }
     ensures uses { UsesAtMost objects.old.heap objects.new.heap 0 reserve }
     ensures shed { CachesShed objects.old objects.new }
     ensures closed { (world : World) → StandsFor script.now objects.old world → IsSound world.plain
-        → StandsFor script.now objects.new (shed_in objects.new.tree world pid) }
+        → StandsFor script.now objects.new (shed_in objects.new.tree world place.pid) }
 {
     objects.heap_is_well_formed();
     let mut purse = kept_back();
@@ -123,7 +130,7 @@ fn shed(script: &Script, objects: &mut Objects, pid: u32)
         &objects.procs,
         &mut objects.tree,
         &mut objects.names,
-        pid,
+        place,
     );
 }
 
@@ -131,17 +138,18 @@ fn shed(script: &Script, objects: &mut Objects, pid: u32)
 fn begin(script: &Script, objects: &mut Objects, caller: &Caller, program: u32) -> Turned
     requires kept { AreKept script.now objects.old }
     requires valid { IsValid script.now }
-    requires runs { Runs objects.old caller.now.pid caller.now.control }
+    requires runs { Runs objects.old caller.now.place.pid caller.now.control }
+    requires placed { IsPlaced objects.old.procs caller.now.place }
     requires there { program < length script.now.programs }
     ensures kept { AreKept script.now objects.new }
     ensures told { result ≡ turned.Done (reply.Val (pos 0)) }
     ensures takes { TakesNothing objects.old.heap objects.new.heap }
     ensures tree { objects.new.tree ≡ objects.old.tree }
-    ensures begins { (world : World) → StandsFor script.now objects.old world → StandsFor script.now objects.new (begun_in script.now world caller.now.pid program) }
+    ensures begins { (world : World) → StandsFor script.now objects.old world → StandsFor script.now objects.new (begun_in script.now world caller.now.place.pid program) }
 {
     let mut beginning = caller.control;
     prog_ctl::restart(&mut beginning, program);
     prog_ctl::go_to_call(script, &mut beginning);
-    objects.move_on(caller.pid, beginning);
+    objects.move_on(caller.place, beginning);
     Turned::Done(Reply::Val(0))
 }

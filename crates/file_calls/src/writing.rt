@@ -9,6 +9,7 @@ ghost use Rattle.posix_defs.specs.Calls.Writing.{pwrite, write};
 ghost use Rattle.posix_defs.specs.Needs.{need_of};
 ghost use Rattle.posix_defs.specs.World.{World};
 ghost use Rattle.proc_numbers.specs.Found.{IsOnNode};
+ghost use Rattle.proc_table.specs.Table.{IsPlaced};
 ghost use Rattle.store_objects.specs.Objects.{AreKept, Runs};
 ghost use Rattle.store_objects.specs.Purses.{need_for};
 ghost use Rattle.store_objects.specs.Standing.{IsSound, StandsFor};
@@ -42,14 +43,15 @@ pub fn write(
     n: i64,
 ) -> Turned
     requires stands { (world : World) × StandsFor script.now objects.old world × IsSound world.plain }
-    requires runs { Runs objects.old caller.now.pid caller.now.control }
-    requires on { IsOnNode objects.old.heap objects.old.procs caller.now.pid fd }
+    requires runs { Runs objects.old caller.now.place.pid caller.now.control }
+    requires placed { IsPlaced objects.old.procs caller.now.place }
+    requires on { IsOnNode objects.old.heap objects.old.procs caller.now.place.pid fd }
     requires right { argument_fault (Call.Write fd addr n 0) ≡ None }
     requires may { MayFetch objects.old.heap purse.old }
     requires needed { purse.old.left ≡ need_for File (need_of (Call.Write fd addr n 0)) }
     ensures kept { AreKept script.now objects.new }
     ensures paid { IsPaid objects.old.heap purse.old objects.new.heap purse.new }
-    ensures does { Serves script.now objects.old caller.now.pid (Call.Write fd addr n 0) (λ plain. write script.now plain caller.now.pid fd addr n 0) result objects.new }
+    ensures does { Serves script.now objects.old caller.now.place.pid (Call.Write fd addr n 0) (λ plain. write script.now plain caller.now.place.pid fd addr n 0) result objects.new }
 {
     objects.heap_is_well_formed();
     let moved = write_file(
@@ -58,7 +60,7 @@ pub fn write(
         &objects.procs,
         &mut objects.tree,
         buffer,
-        caller.pid,
+        caller.place,
         fd,
         addr,
         n,
@@ -86,13 +88,14 @@ pub fn pwrite(
     at: i64,
 ) -> Turned
     requires stands { (world : World) × StandsFor script.now objects.old world × IsSound world.plain }
-    requires runs { Runs objects.old caller.now.pid caller.now.control }
+    requires runs { Runs objects.old caller.now.place.pid caller.now.control }
+    requires placed { IsPlaced objects.old.procs caller.now.place }
     requires right { argument_fault (Call.Pwrite fd addr n at) ≡ None }
     requires may { MayFetch objects.old.heap purse.old }
     requires needed { purse.old.left ≡ need_for File (need_of (Call.Pwrite fd addr n at)) }
     ensures kept { AreKept script.now objects.new }
     ensures paid { IsPaid objects.old.heap purse.old objects.new.heap purse.new }
-    ensures does { Serves script.now objects.old caller.now.pid (Call.Pwrite fd addr n at) (λ plain. pwrite script.now plain caller.now.pid fd addr n at) result objects.new }
+    ensures does { Serves script.now objects.old caller.now.place.pid (Call.Pwrite fd addr n at) (λ plain. pwrite script.now plain caller.now.place.pid fd addr n at) result objects.new }
 {
     objects.heap_is_well_formed();
     let moved = pwrite_file(
@@ -101,7 +104,7 @@ pub fn pwrite(
         &objects.procs,
         &mut objects.tree,
         buffer,
-        caller.pid,
+        caller.place,
         fd,
         addr,
         n,

@@ -25,7 +25,7 @@ use Rattle.proc_numbers.proofs.Sums.{one_if, part_of_sum, some_adds}
 use Rattle.proc_numbers.proofs.NamedOpen.{described_so}
 use Rattle.proc_table.specs.Procs.{numbers_in}
 use Rattle.proc_table.specs.Table.{AreStored, TableView, keys_of, processes, procs_at}
-use Rattle.proc_table.specs.declared.places.Listed.{Listed}
+use Rattle.proc_table.specs.declared.places.Place.{Place}
 use Rattle.proc_table.proofs.PlaceLemmas.{Contains-cases, IsAt, eqb_same, some_same, stored_is}
 use Rattle.path_calls.specs.Nodes.{node_of, opens_at, some_opens}
 use Rattle.path_calls.proofs.Adding.{alike}
@@ -98,7 +98,7 @@ any_here test (first ∷ xs) zero x is passes = ap (λ o. test o || list_any tes
 any_here test (first ∷ xs) (suc at) x is passes = later (test first) (list_any test xs) (any_here test xs at x is passes)
 
 -- the process of each key that is listed is among those of the table
-any_listed : (test : Proc → Bool) (objects : List (Option Proc)) (places : List Listed) (key : ℕ) (proc : Proc) → AreStored objects places → Contains (keys_of places) key
+any_listed : (test : Proc → Bool) (objects : List (Option Proc)) (places : List Place) (key : ℕ) (proc : Proc) → AreStored objects places → Contains (keys_of places) key
     → object objects key ≡ Some proc → test proc ≡ true → list_any test (procs_at objects places) ≡ true
 any_listed test objects [] key proc stored among is passes = absurd (let within = among.1 in omega (arith, within))
 any_listed test objects (place ∷ places) key proc stored among is passes =

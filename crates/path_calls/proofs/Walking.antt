@@ -6,7 +6,7 @@ use Rattle.kheap_slabs.specs.Objects.{InUse, object}
 use Rattle.kheap_slabs.specs.declared.objects.Proc.{Proc}
 use Rattle.kheap_slabs.specs.Heap.{Heap}
 use Rattle.proc_table.specs.Table.{AreStored, procs_at}
-use Rattle.proc_table.specs.declared.places.Listed.{Listed}
+use Rattle.proc_table.specs.declared.places.Place.{Place}
 use Rattle.proc_table.proofs.PlaceLemmas.{stored_is}
 use Rattle.path_calls.specs.Nodes.{Adds, has_node, holds_node, most_nodes, some_holds}
 use Rattle.path_calls.specs.declared.node_set.NodeSet.{NodeSet}
@@ -17,21 +17,21 @@ abbrev may_and : ℕ → Bool → Bool
 may_and number test = nat_lt number most_nodes && test
 
 -- The places that are left have their processes; what these hold and what is in the set is all that somebody holds.
-pub record AreAdded (set : NodeSet) (h : Heap) (objects : List (Option Proc)) (all left : List Listed) : Type 0 where
+pub record AreAdded (set : NodeSet) (h : Heap) (objects : List (Option Proc)) (all left : List Place) : Type 0 where
   pub stored : AreStored objects left
   pub same : (number : ℕ) → (has_node set number || may_and number (some_holds h (procs_at objects left) number)) ≡ may_and number (some_holds h (procs_at objects all) number)
 
-abbrev pub no_place : Listed
+abbrev pub no_place : Place
 no_place = record { pid = 0; key = 0 }
 
 -- nothing is in it
-pub none_added : (set : NodeSet) (h : Heap) (objects : List (Option Proc)) (all : List Listed) → ((number : ℕ) → has_node set number ≡ false) → AreStored objects all
+pub none_added : (set : NodeSet) (h : Heap) (objects : List (Option Proc)) (all : List Place) → ((number : ℕ) → has_node set number ≡ false) → AreStored objects all
     → AreAdded set h objects all all
 none_added set h objects all none stored =
     record { stored = stored; same = λ number. ap (λ b. b || may_and number (some_holds h (procs_at objects all) number)) (none number) }
 
 -- nobody is left
-pub all_added : (set : NodeSet) (h : Heap) (objects : List (Option Proc)) (all left : List Listed) → AreAdded set h objects all left → left ≡ []
+pub all_added : (set : NodeSet) (h : Heap) (objects : List (Option Proc)) (all left : List Place) → AreAdded set h objects all left → left ≡ []
     → (number : ℕ) → has_node set number ≡ may_and number (some_holds h (procs_at objects all) number)
 all_added set h objects all left added none number =
     sym (either (has_node set number) (nat_lt number most_nodes))
@@ -42,11 +42,11 @@ all_added set h objects all left added none number =
     either false true = refl
     either false false = refl
 
-module _ (h : Heap) (objects : List (Option Proc)) (all places : List Listed) (at : ℕ) (within : at < length places) where
-  abbrev rest : List Listed
+module _ (h : Heap) (objects : List (Option Proc)) (all places : List Place) (at : ℕ) (within : at < length places) where
+  abbrev rest : List Place
   rest = drop (at + 1) places
 
-  abbrev here : Listed
+  abbrev here : Place
   here = get_or places at no_place
 
   -- its process is there

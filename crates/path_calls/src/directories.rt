@@ -9,6 +9,7 @@ ghost use Rattle.memfs_ops.specs.FileTree.{MayWalk};
 ghost use Rattle.posix_defs.specs.Calls.OnNames.{mkdir, rmdir};
 ghost use Rattle.posix_defs.specs.Needs.{need_of};
 ghost use Rattle.posix_defs.specs.World.{World};
+ghost use Rattle.proc_table.specs.Table.{IsPlaced};
 ghost use Rattle.store_objects.specs.Objects.{AreKept, Runs};
 ghost use Rattle.store_objects.specs.Standing.{StandsFor};
 ghost use Rattle.store_objects.specs.Walking.{Reaches};
@@ -33,16 +34,17 @@ pub fn mkdir(
     path: &[u8],
 ) -> Turned
     requires stands { (world : World) × StandsFor script.now objects.old world }
-    requires runs { Runs objects.old caller.now.pid caller.now.control }
+    requires runs { Runs objects.old caller.now.place.pid caller.now.control }
+    requires placed { IsPlaced objects.old.procs caller.now.place }
     requires right { argument_fault (Call.Mkdir path.now) ≡ None }
     requires bytes { All (λ byte. (0 < byte) × (byte < 2 ^ 8)) path.now }
     requires may { MayWalk objects.old.heap purse.old }
     requires needed { purse.old.left ≡ need_of (Call.Mkdir path.now) }
     ensures kept { AreKept script.now objects.new }
     ensures paid { IsPaid objects.old.heap purse.old objects.new.heap purse.new }
-    ensures does { Reaches script.now objects.old caller.now.pid (Call.Mkdir path.now) (λ plain. mkdir script.now plain caller.now.pid path.now) result objects.new }
+    ensures does { Reaches script.now objects.old caller.now.place.pid (Call.Mkdir path.now) (λ plain. mkdir script.now plain caller.now.place.pid path.now) result objects.new }
 {
-    let cwd = directory_of(objects, caller.pid);
+    let cwd = directory_of(objects, caller.place);
     let made = objects.tree.make_dir(&mut objects.heap, purse, cwd, path);
     go_on(script, objects, caller, done(made))
 }
@@ -60,16 +62,17 @@ pub fn rmdir(
     path: &[u8],
 ) -> Turned
     requires stands { (world : World) × StandsFor script.now objects.old world }
-    requires runs { Runs objects.old caller.now.pid caller.now.control }
+    requires runs { Runs objects.old caller.now.place.pid caller.now.control }
+    requires placed { IsPlaced objects.old.procs caller.now.place }
     requires right { argument_fault (Call.Rmdir path.now) ≡ None }
     requires may { MayWalk objects.old.heap purse.old }
     requires needed { purse.old.left ≡ need_of (Call.Rmdir path.now) }
     ensures kept { AreKept script.now objects.new }
     ensures paid { IsPaid objects.old.heap purse.old objects.new.heap purse.new }
-    ensures does { Reaches script.now objects.old caller.now.pid (Call.Rmdir path.now) (λ plain. rmdir script.now plain caller.now.pid path.now) result objects.new }
+    ensures does { Reaches script.now objects.old caller.now.place.pid (Call.Rmdir path.now) (λ plain. rmdir script.now plain caller.now.place.pid path.now) result objects.new }
 {
     objects.heap_is_well_formed();
-    let cwd = directory_of(objects, caller.pid);
+    let cwd = directory_of(objects, caller.place);
     let held = held_nodes(&objects.heap, &objects.procs);
     let busy = |node: u32| held.has(node);
     let gone = objects

@@ -9,6 +9,7 @@ ghost use Rattle.memfs_ops.specs.FileTree.{MayWalk};
 ghost use Rattle.posix_defs.specs.Calls.OnNames.{link, rename, unlink};
 ghost use Rattle.posix_defs.specs.Needs.{need_of};
 ghost use Rattle.posix_defs.specs.World.{World};
+ghost use Rattle.proc_table.specs.Table.{IsPlaced};
 ghost use Rattle.store_objects.specs.Objects.{AreKept, Runs};
 ghost use Rattle.store_objects.specs.Standing.{IsSound, StandsFor};
 ghost use Rattle.store_objects.specs.Walking.{Reaches, Serves};
@@ -34,15 +35,16 @@ pub fn unlink(
     path: &[u8],
 ) -> Turned
     requires stands { (world : World) × StandsFor script.now objects.old world × IsSound world.plain }
-    requires runs { Runs objects.old caller.now.pid caller.now.control }
+    requires runs { Runs objects.old caller.now.place.pid caller.now.control }
+    requires placed { IsPlaced objects.old.procs caller.now.place }
     requires right { argument_fault (Call.Unlink path.now) ≡ None }
     requires may { MayWalk objects.old.heap purse.old }
     requires needed { purse.old.left ≡ need_of (Call.Unlink path.now) }
     ensures kept { AreKept script.now objects.new }
     ensures paid { IsPaid objects.old.heap purse.old objects.new.heap purse.new }
-    ensures does { Serves script.now objects.old caller.now.pid (Call.Unlink path.now) (λ plain. unlink script.now plain caller.now.pid path.now) result objects.new }
+    ensures does { Serves script.now objects.old caller.now.place.pid (Call.Unlink path.now) (λ plain. unlink script.now plain caller.now.place.pid path.now) result objects.new }
 {
-    let cwd = directory_of(objects, caller.pid);
+    let cwd = directory_of(objects, caller.place);
     let gone = objects
         .tree
         .remove_name(&mut objects.heap, purse, cwd, path);
@@ -66,16 +68,17 @@ pub fn link(
     new: &[u8],
 ) -> Turned
     requires stands { (world : World) × StandsFor script.now objects.old world }
-    requires runs { Runs objects.old caller.now.pid caller.now.control }
+    requires runs { Runs objects.old caller.now.place.pid caller.now.control }
+    requires placed { IsPlaced objects.old.procs caller.now.place }
     requires right { argument_fault (Call.Link old.now new.now) ≡ None }
     requires bytes { All (λ byte. (0 < byte) × (byte < 2 ^ 8)) new.now }
     requires may { MayWalk objects.old.heap purse.old }
     requires needed { purse.old.left ≡ need_of (Call.Link old.now new.now) }
     ensures kept { AreKept script.now objects.new }
     ensures paid { IsPaid objects.old.heap purse.old objects.new.heap purse.new }
-    ensures does { Reaches script.now objects.old caller.now.pid (Call.Link old.now new.now) (λ plain. link script.now plain caller.now.pid old.now new.now) result objects.new }
+    ensures does { Reaches script.now objects.old caller.now.place.pid (Call.Link old.now new.now) (λ plain. link script.now plain caller.now.place.pid old.now new.now) result objects.new }
 {
-    let cwd = directory_of(objects, caller.pid);
+    let cwd = directory_of(objects, caller.place);
     let linked = objects
         .tree
         .link_name(&mut objects.heap, purse, cwd, old, new);
@@ -99,17 +102,18 @@ pub fn rename(
     new: &[u8],
 ) -> Turned
     requires stands { (world : World) × StandsFor script.now objects.old world × IsSound world.plain }
-    requires runs { Runs objects.old caller.now.pid caller.now.control }
+    requires runs { Runs objects.old caller.now.place.pid caller.now.control }
+    requires placed { IsPlaced objects.old.procs caller.now.place }
     requires right { argument_fault (Call.Rename old.now new.now) ≡ None }
     requires bytes { All (λ byte. (0 < byte) × (byte < 2 ^ 8)) new.now }
     requires may { MayWalk objects.old.heap purse.old }
     requires needed { purse.old.left ≡ need_of (Call.Rename old.now new.now) }
     ensures kept { AreKept script.now objects.new }
     ensures paid { IsPaid objects.old.heap purse.old objects.new.heap purse.new }
-    ensures does { Serves script.now objects.old caller.now.pid (Call.Rename old.now new.now) (λ plain. rename script.now plain caller.now.pid old.now new.now) result objects.new }
+    ensures does { Serves script.now objects.old caller.now.place.pid (Call.Rename old.now new.now) (λ plain. rename script.now plain caller.now.place.pid old.now new.now) result objects.new }
 {
     objects.heap_is_well_formed();
-    let cwd = directory_of(objects, caller.pid);
+    let cwd = directory_of(objects, caller.place);
     let held = held_nodes(&objects.heap, &objects.procs);
     let busy = |node: u32| held.has(node);
     let renamed = objects

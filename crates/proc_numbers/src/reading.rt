@@ -16,7 +16,7 @@ ghost use Rattle.posix_defs.specs.Needs.{pages_touched};
 ghost use Rattle.posix_defs.specs.Pipe.{Moves};
 ghost use Rattle.posix_defs.specs.Plain.{Plain};
 ghost use Rattle.proc_table.specs.Procs.{IsAlive};
-ghost use Rattle.proc_table.specs.Table.{processes};
+ghost use Rattle.proc_table.specs.Table.{IsPlaced, processes};
 ghost use Rattle.proc_numbers.specs.Found.{IsOffNodes};
 ghost use Rattle.proc_numbers.specs.PipeMoving.{UnlessMoves, told_read};
 ghost use Rattle.proc_numbers.specs.QueueEnds.{Behind, IsEndIn, ReadsEnd, StandsBehind, read_of};
@@ -31,7 +31,7 @@ use kabi_types::{Errno, Reply};
 use kheap_slabs::{KHeap, Purse};
 use page_space::Space;
 use posix_defs::Turned;
-use proc_table::ProcTable;
+use proc_table::{Place, ProcTable};
 
 /// Reads at most n bytes from the pipe or the socket that a number is open on into a process's memory, as many as are there. None are
 /// the end of the file: nobody can write any more, or the socket was shut for reading.
@@ -43,21 +43,22 @@ pub fn read(
     purse: &mut Purse,
     procs: &ProcTable,
     buffer: &mut Buffer,
-    pid: u32,
+    place: Place,
     fd: i64,
     addr: i64,
     n: i64,
 ) -> Turned
     requires kept { IsKept heap.old procs.now }
-    requires alive { IsAlive (processes heap.old procs.now) pid }
-    requires off { IsOffNodes heap.old procs.now pid fd }
+    requires alive { IsAlive (processes heap.old procs.now) place.pid }
+    requires there { IsPlaced procs.now place }
+    requires off { IsOffNodes heap.old procs.now place.pid fd }
     requires right { argument_fault (Call.Read fd addr n) ≡ None }
     requires room { CanPay heap.old purse.old }
     requires left { pages_touched (count_of addr) (count_of n) ≤ purse.old.left.page }
     ensures leads { (script : Script) (numbers : Numbers) (plain : Plain) (account : Account)
         → StandsFor numbers heap.old procs.now plain account
-        → Leads script numbers heap.new procs.now plain account pid (Call.Read fd addr n)
-        (read script plain pid fd addr n) result }
+        → Leads script numbers heap.new procs.now plain account place.pid (Call.Read fd addr n)
+        (read script plain place.pid fd addr n) result }
     ensures kept { IsKept heap.new procs.now }
     ensures beside { heap.new ≡ record heap.old {
       nodes = heap.new.nodes;
@@ -69,7 +70,7 @@ pub fn read(
     } }
     ensures paid { IsPaid heap.old purse.old heap.new purse.new }
 {
-    let Some(found) = readable(heap, procs, pid, fd) else {
+    let Some(found) = readable(heap, procs, place, fd) else {
         return Turned::Done(Reply::Fail(Errno::EBADF));
     };
     let Some(queue) = QueueEnd::of(found.desc.target) else {
@@ -77,7 +78,7 @@ pub fn read(
     };
     let n = n.cast_unsigned() as u32;
     let start = start_of(addr, n);
-    let mut space = space_of(heap, procs, pid);
+    let mut space = space_of(heap, procs, place);
     if !space.mapped(heap, start, n) {
         return Turned::Done(Reply::Fail(Errno::EFAULT));
     }
@@ -89,15 +90,16 @@ pub fn read(
 }
 
 /// Whether a `read` would sleep, whatever its number is open on; one of a file or a directory never does.
-pub fn read_waits(heap: &KHeap, procs: &ProcTable, pid: u32, fd: i64, addr: i64, n: i64) -> bool
+pub fn read_waits(heap: &KHeap, procs: &ProcTable, place: Place, fd: i64, addr: i64, n: i64) -> bool
     requires kept { IsKept heap.now procs.now }
-    requires alive { IsAlive (processes heap.now procs.now) pid }
+    requires alive { IsAlive (processes heap.now procs.now) place.pid }
+    requires there { IsPlaced procs.now place }
     requires right { argument_fault (Call.Read fd addr n) ≡ None }
     ensures { (script : Script) (numbers : Numbers) (plain : Plain) (account : Account)
         → StandsFor numbers heap.now procs.now plain account
-        → result ≡ blocks (read script plain pid fd addr n) }
+        → result ≡ blocks (read script plain place.pid fd addr n) }
 {
-    let Some(found) = readable(heap, procs, pid, fd) else {
+    let Some(found) = readable(heap, procs, place, fd) else {
         return false;
     };
     let Some(queue) = QueueEnd::of(found.desc.target) else {
@@ -109,7 +111,7 @@ pub fn read_waits(heap: &KHeap, procs: &ProcTable, pid: u32, fd: i64, addr: i64,
     }
     let n = n.cast_unsigned() as u32;
     let start = start_of(addr, n);
-    let space = space_of(heap, procs, pid);
+    let space = space_of(heap, procs, place);
     if !space.mapped(heap, start, n) {
         return false;
     }

@@ -18,7 +18,7 @@ ghost use Rattle.posix_defs.specs.Memory.{Memory, loaded};
 ghost use Rattle.posix_defs.specs.Needs.{chunks_for};
 ghost use Rattle.posix_defs.specs.Plain.{Plain};
 ghost use Rattle.proc_table.specs.Procs.{IsAlive};
-ghost use Rattle.proc_table.specs.Table.{processes};
+ghost use Rattle.proc_table.specs.Table.{IsPlaced, processes};
 ghost use Rattle.proc_numbers.specs.Found.{IsOffNodes};
 ghost use Rattle.proc_numbers.specs.PipeMoving.{UnlessMoves, moved_in, told_write};
 ghost use Rattle.proc_numbers.specs.QueueEnds.{Behind, IsEndIn, LeavesBut, PutsIn, StandsBehind, write_of};
@@ -33,7 +33,7 @@ use kabi_types::{Errno, Reply};
 use kheap_slabs::{KHeap, Purse};
 use page_space::Space;
 use posix_defs::Turned;
-use proc_table::ProcTable;
+use proc_table::{Place, ProcTable};
 
 /// The bytes of a write, from an address on, of which some were moved before.
 #[derive(Clone, Copy)]
@@ -80,22 +80,23 @@ pub fn write(
     purse: &mut Purse,
     procs: &ProcTable,
     buffer: &mut Buffer,
-    pid: u32,
+    place: Place,
     fd: i64,
     addr: i64,
     n: i64,
     done: u32,
 ) -> Turned
     requires kept { IsKept heap.old procs.now }
-    requires alive { IsAlive (processes heap.old procs.now) pid }
-    requires off { IsOffNodes heap.old procs.now pid fd }
+    requires alive { IsAlive (processes heap.old procs.now) place.pid }
+    requires there { IsPlaced procs.now place }
+    requires off { IsOffNodes heap.old procs.now place.pid fd }
     requires right { argument_fault (Call.Write fd addr n done) ≡ None }
     requires room { CanPay heap.old purse.old }
     requires left { chunks_for (count_of n - done) ≤ purse.old.left.chunk }
     ensures leads { (script : Script) (numbers : Numbers) (plain : Plain) (account : Account)
         → StandsFor numbers heap.old procs.now plain account
-        → Leads script numbers heap.new procs.now plain account pid (Call.Write fd addr n done)
-        (write script plain pid fd addr n done) result }
+        → Leads script numbers heap.new procs.now plain account place.pid (Call.Write fd addr n done)
+        (write script plain place.pid fd addr n done) result }
     ensures kept { IsKept heap.new procs.now }
     ensures beside { heap.new ≡ record heap.old {
       pipes = heap.new.pipes;
@@ -106,7 +107,7 @@ pub fn write(
     ensures paid { IsPaid heap.old purse.old heap.new purse.new }
     ensures purse { PaysChunks purse.old purse.new }
 {
-    let Some(found) = writable(heap, procs, pid, fd) else {
+    let Some(found) = writable(heap, procs, place, fd) else {
         return Turned::Done(Reply::Fail(Errno::EBADF));
     };
     let Some(queue) = QueueEnd::of(found.desc.target) else {
@@ -114,7 +115,7 @@ pub fn write(
     };
     let n = n.cast_unsigned() as u32;
     let start = start_of(addr, n);
-    let space = space_of(heap, procs, pid);
+    let space = space_of(heap, procs, place);
     if !space.mapped(heap, start, n) {
         return Turned::Done(Reply::Fail(Errno::EFAULT));
     }
@@ -133,20 +134,21 @@ pub fn write(
 pub fn write_waits(
     heap: &KHeap,
     procs: &ProcTable,
-    pid: u32,
+    place: Place,
     fd: i64,
     addr: i64,
     n: i64,
     done: u32,
 ) -> bool
     requires kept { IsKept heap.now procs.now }
-    requires alive { IsAlive (processes heap.now procs.now) pid }
+    requires alive { IsAlive (processes heap.now procs.now) place.pid }
+    requires there { IsPlaced procs.now place }
     requires right { argument_fault (Call.Write fd addr n done) ≡ None }
     ensures { (script : Script) (numbers : Numbers) (plain : Plain) (account : Account)
         → StandsFor numbers heap.now procs.now plain account
-        → result ≡ blocks (write script plain pid fd addr n done) }
+        → result ≡ blocks (write script plain place.pid fd addr n done) }
 {
-    let Some(found) = writable(heap, procs, pid, fd) else {
+    let Some(found) = writable(heap, procs, place, fd) else {
         return false;
     };
     let Some(queue) = QueueEnd::of(found.desc.target) else {
@@ -159,7 +161,7 @@ pub fn write_waits(
         return false;
     }
     let start = start_of(addr, n);
-    let space = space_of(heap, procs, pid);
+    let space = space_of(heap, procs, place);
     if !space.mapped(heap, start, n) {
         return false;
     }

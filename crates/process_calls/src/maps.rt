@@ -6,6 +6,7 @@ ghost use Rattle.kabi_types.specs.declared.calls.Call.{Call};
 ghost use Rattle.kheap_slabs.specs.Paid.{CanPay, IsPaid, TakesNothing};
 ghost use Rattle.posix_defs.specs.MemoryCalls.{mmap, munmap};
 ghost use Rattle.posix_defs.specs.Needs.{nodes_for, pages_in};
+ghost use Rattle.proc_table.specs.Table.{IsPlaced};
 ghost use Rattle.store_objects.specs.Objects.{AreKept, Runs};
 ghost use Rattle.store_objects.specs.Standing.{Performs};
 
@@ -28,15 +29,16 @@ pub fn mmap(
     length: i64,
 ) -> Turned
     requires kept { AreKept script.now objects.old }
-    requires runs { Runs objects.old caller.now.pid caller.now.control }
+    requires runs { Runs objects.old caller.now.place.pid caller.now.control }
+    requires placed { IsPlaced objects.old.procs caller.now.place }
     requires right { argument_fault (Call.Mmap length) ≡ None }
     requires room { CanPay objects.old.heap purse.old }
     requires left { nodes_for (pages_in (count_of length)) ≤ purse.old.left.node }
     ensures kept { AreKept script.now objects.new }
     ensures paid { IsPaid objects.old.heap purse.old objects.new.heap purse.new }
-    ensures does { Performs script.now objects.old caller.now.pid (Call.Mmap length) (λ plain. mmap script.now plain caller.now.pid length) result objects.new }
+    ensures does { Performs script.now objects.old caller.now.place.pid (Call.Mmap length) (λ plain. mmap script.now plain caller.now.place.pid length) result objects.new }
 {
-    match map(objects, purse, caller.pid, length.cast_unsigned()) {
+    match map(objects, purse, caller.place, length.cast_unsigned()) {
         Ok(addr) => go_on(script, objects, caller, Reply::Val(i64::from(addr))),
         Err(errno) => go_on(script, objects, caller, Reply::Fail(errno)),
     }
@@ -52,14 +54,15 @@ pub fn munmap(
     length: i64,
 ) -> Turned
     requires kept { AreKept script.now objects.old }
-    requires runs { Runs objects.old caller.now.pid caller.now.control }
+    requires runs { Runs objects.old caller.now.place.pid caller.now.control }
+    requires placed { IsPlaced objects.old.procs caller.now.place }
     requires right { argument_fault (Call.Munmap addr length) ≡ None }
     ensures kept { AreKept script.now objects.new }
     ensures takes { TakesNothing objects.old.heap objects.new.heap }
-    ensures does { Performs script.now objects.old caller.now.pid (Call.Munmap addr length) (λ plain. munmap script.now plain caller.now.pid addr length) result objects.new }
+    ensures does { Performs script.now objects.old caller.now.place.pid (Call.Munmap addr length) (λ plain. munmap script.now plain caller.now.place.pid addr length) result objects.new }
 {
     let page = addr.cast_unsigned() as u32 / PAGE;
     let count = (length.cast_unsigned() as u32 + PAGE - 1) / PAGE;
-    unmap(objects, caller.pid, page, count);
+    unmap(objects, caller.place, page, count);
     go_on(script, objects, caller, Reply::Val(0))
 }

@@ -6,6 +6,7 @@ ghost use Rattle.kabi_types.specs.declared.calls.Call.{Call};
 ghost use Rattle.kheap_slabs.specs.Paid.{CanPay, IsPaid, TakesNothing};
 ghost use Rattle.posix_defs.specs.MemoryCalls.{load, store};
 ghost use Rattle.posix_defs.specs.Needs.{pages_touched};
+ghost use Rattle.proc_table.specs.Table.{IsPlaced};
 ghost use Rattle.store_objects.specs.Objects.{AreKept, Runs};
 ghost use Rattle.store_objects.specs.Standing.{Performs};
 
@@ -39,17 +40,18 @@ pub fn store(
     bytes: &Bytes64,
 ) -> Turned
     requires kept { AreKept script.now objects.old }
-    requires runs { Runs objects.old caller.now.pid caller.now.control }
+    requires runs { Runs objects.old caller.now.place.pid caller.now.control }
+    requires placed { IsPlaced objects.old.procs caller.now.place }
     requires right { argument_fault (Call.Store addr bytes.now) ≡ None }
     requires room { CanPay objects.old.heap purse.old }
     requires left { pages_touched (count_of addr) (length bytes.now) ≤ purse.old.left.page }
     ensures kept { AreKept script.now objects.new }
     ensures paid { IsPaid objects.old.heap purse.old objects.new.heap purse.new }
-    ensures does { Performs script.now objects.old caller.now.pid (Call.Store addr bytes.now) (λ plain. store script.now plain caller.now.pid addr bytes.now) result objects.new }
+    ensures does { Performs script.now objects.old caller.now.place.pid (Call.Store addr bytes.now) (λ plain. store script.now plain caller.now.place.pid addr bytes.now) result objects.new }
 {
     let bytes = bytes.items();
     let start = start_of(addr, bytes.len());
-    match put(objects, purse, caller.pid, start, bytes) {
+    match put(objects, purse, caller.place, start, bytes) {
         Ok(()) => go_on(script, objects, caller, Reply::Val(bytes.len() as i64)),
         Err(errno) => go_on(script, objects, caller, Reply::Fail(errno)),
     }
@@ -65,15 +67,16 @@ pub fn load(
     count: i64,
 ) -> Turned
     requires kept { AreKept script.now objects.old }
-    requires runs { Runs objects.old caller.now.pid caller.now.control }
+    requires runs { Runs objects.old caller.now.place.pid caller.now.control }
+    requires placed { IsPlaced objects.old.procs caller.now.place }
     requires right { argument_fault (Call.Load addr count) ≡ None }
     ensures kept { AreKept script.now objects.new }
     ensures takes { TakesNothing objects.old.heap objects.new.heap }
-    ensures does { Performs script.now objects.old caller.now.pid (Call.Load addr count) (λ plain. load script.now plain caller.now.pid addr count) result objects.new }
+    ensures does { Performs script.now objects.old caller.now.place.pid (Call.Load addr count) (λ plain. load script.now plain caller.now.place.pid addr count) result objects.new }
 {
     let count = count.cast_unsigned() as usize;
     let start = start_of(addr, count);
-    match take(objects, caller.pid, start, count) {
+    match take(objects, caller.place, start, count) {
         Ok(bytes) => go_on(script, objects, caller, Reply::Bytes(bytes)),
         Err(errno) => go_on(script, objects, caller, Reply::Fail(errno)),
     }

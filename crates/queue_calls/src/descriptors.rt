@@ -1,13 +1,15 @@
 //! `dup` and `fcntl`, which close nothing.
 
 ghost use Rattle.kabi_types.specs.declared.calls.Call.{Call};
-ghost use Rattle.kheap_slabs.specs.Paid.{TakesNothing};
+ghost use Rattle.kheap_slabs.specs.Paid.{CanPay, IsPaid, TakesNothing};
 ghost use Rattle.posix_defs.specs.Calls.OnDescriptors.{dup, fcntl};
+ghost use Rattle.proc_table.specs.Table.{IsPlaced};
 ghost use Rattle.store_objects.specs.Objects.{AreKept, Runs};
 ghost use Rattle.store_objects.specs.Standing.{Performs};
 
 use crate::replies::value;
 use kabi_types::Script;
+use kheap_slabs::Purse;
 use posix_defs::Turned;
 use proc_numbers::dup_one;
 use store_objects::{Caller, Objects, go_on};
@@ -17,14 +19,23 @@ use store_objects::{Caller, Objects, go_on};
 ///
 /// <https://pubs.opengroup.org/onlinepubs/9699919799/functions/dup.html>
 #[inline(never)]
-pub fn dup(script: &Script, objects: &mut Objects, caller: &Caller, fd: i64) -> Turned
+pub fn dup(
+    script: &Script,
+    objects: &mut Objects,
+    purse: &mut Purse,
+    caller: &Caller,
+    fd: i64,
+) -> Turned
     requires kept { AreKept script.now objects.old }
-    requires runs { Runs objects.old caller.now.pid caller.now.control }
+    requires runs { Runs objects.old caller.now.place.pid caller.now.control }
+    requires placed { IsPlaced objects.old.procs caller.now.place }
+    requires room { CanPay objects.old.heap purse.old }
     ensures kept { AreKept script.now objects.new }
     ensures takes { TakesNothing objects.old.heap objects.new.heap }
-    ensures does { Performs script.now objects.old caller.now.pid (Call.Dup fd) (λ plain. dup script.now plain caller.now.pid fd) result objects.new }
+    ensures paid { IsPaid objects.old.heap purse.old objects.new.heap purse.new }
+    ensures does { Performs script.now objects.old caller.now.place.pid (Call.Dup fd) (λ plain. dup script.now plain caller.now.place.pid fd) result objects.new }
 {
-    let reply = value(dup_one(&mut objects.heap, &objects.procs, caller.pid, fd));
+    let reply = value(dup_one(&mut objects.heap, purse, &objects.procs, caller.place, fd));
     go_on(script, objects, caller, reply)
 }
 
@@ -36,21 +47,26 @@ pub fn dup(script: &Script, objects: &mut Objects, caller: &Caller, fd: i64) -> 
 pub fn fcntl(
     script: &Script,
     objects: &mut Objects,
+    purse: &mut Purse,
     caller: &Caller,
     fd: i64,
     cmd: i64,
     arg: i64,
 ) -> Turned
     requires kept { AreKept script.now objects.old }
-    requires runs { Runs objects.old caller.now.pid caller.now.control }
+    requires runs { Runs objects.old caller.now.place.pid caller.now.control }
+    requires placed { IsPlaced objects.old.procs caller.now.place }
+    requires room { CanPay objects.old.heap purse.old }
     ensures kept { AreKept script.now objects.new }
     ensures takes { TakesNothing objects.old.heap objects.new.heap }
-    ensures does { Performs script.now objects.old caller.now.pid (Call.Fcntl fd cmd arg) (λ plain. fcntl script.now plain caller.now.pid fd cmd arg) result objects.new }
+    ensures paid { IsPaid objects.old.heap purse.old objects.new.heap purse.new }
+    ensures does { Performs script.now objects.old caller.now.place.pid (Call.Fcntl fd cmd arg) (λ plain. fcntl script.now plain caller.now.place.pid fd cmd arg) result objects.new }
 {
     let reply = value(proc_numbers::control(
         &mut objects.heap,
+        purse,
         &objects.procs,
-        caller.pid,
+        caller.place,
         fd,
         cmd,
         arg,

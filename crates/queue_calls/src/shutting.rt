@@ -6,6 +6,7 @@ ghost use Rattle.kheap_slabs.specs.Paid.{TakesNothing};
 ghost use Rattle.posix_defs.specs.Calls.OnSockets.{listen, shutdown};
 ghost use Rattle.proc_numbers.specs.Answering.{zero_of};
 ghost use Rattle.posix_defs.specs.World.{World};
+ghost use Rattle.proc_table.specs.Table.{IsPlaced};
 ghost use Rattle.store_objects.specs.Objects.{AreKept, Runs};
 ghost use Rattle.store_objects.specs.Standing.{Performs, StandsFor};
 
@@ -21,12 +22,13 @@ use store_objects::{Caller, Objects, go_on};
 #[inline(never)]
 pub fn listen(script: &Script, objects: &mut Objects, caller: &Caller, fd: i64) -> Turned
     requires stands { (world : World) × StandsFor script.now objects.old world }
-    requires runs { Runs objects.old caller.now.pid caller.now.control }
+    requires runs { Runs objects.old caller.now.place.pid caller.now.control }
+    requires placed { IsPlaced objects.old.procs caller.now.place }
     ensures kept { AreKept script.now objects.new }
     ensures takes { TakesNothing objects.old.heap objects.new.heap }
-    ensures does { Performs script.now objects.old caller.now.pid (Call.Listen fd) (λ plain. listen script.now plain caller.now.pid fd) result objects.new }
+    ensures does { Performs script.now objects.old caller.now.place.pid (Call.Listen fd) (λ plain. listen script.now plain caller.now.place.pid fd) result objects.new }
 {
-    let reply = zero(listen_number(&mut objects.heap, &objects.procs, caller.pid, fd));
+    let reply = zero(listen_number(&mut objects.heap, &objects.procs, caller.place, fd));
     go_on(script, objects, caller, reply)
 }
 
@@ -43,12 +45,13 @@ pub fn shutdown(
     how: i64,
 ) -> Turned
     requires stands { (world : World) × StandsFor script.now objects.old world }
-    requires runs { Runs objects.old caller.now.pid caller.now.control }
+    requires runs { Runs objects.old caller.now.place.pid caller.now.control }
+    requires placed { IsPlaced objects.old.procs caller.now.place }
     ensures kept { AreKept script.now objects.new }
     ensures takes { TakesNothing objects.old.heap objects.new.heap }
-    ensures does { Performs script.now objects.old caller.now.pid (Call.Shutdown fd how) (λ plain. shutdown script.now plain caller.now.pid fd how) result objects.new }
+    ensures does { Performs script.now objects.old caller.now.place.pid (Call.Shutdown fd how) (λ plain. shutdown script.now plain caller.now.place.pid fd how) result objects.new }
 {
-    let reply = zero(shut_number(&mut objects.heap, &objects.procs, caller.pid, fd, how));
+    let reply = zero(shut_number(&mut objects.heap, &objects.procs, caller.place, fd, how));
     go_on(script, objects, caller, reply)
 }
 

@@ -6,6 +6,7 @@ ghost use Rattle.kheap_slabs.specs.Paid.{TakesNothing};
 ghost use Rattle.posix_defs.specs.World.{World};
 ghost use Rattle.posix_defs.specs.declared.turner.Turned.TheVariants as turned;
 ghost use Rattle.queue_calls.specs.Told.{behind_in, partly_in};
+ghost use Rattle.proc_table.specs.Table.{IsPlaced};
 ghost use Rattle.store_objects.specs.Objects.{AreKept, Runs};
 ghost use Rattle.store_objects.specs.Standing.{StandsFor};
 
@@ -21,11 +22,12 @@ pub(crate) fn go_on_done(
     told: Turned,
 ) -> Turned
     requires kept { AreKept script.now objects.old }
-    requires runs { Runs objects.old caller.now.pid caller.now.control }
+    requires runs { Runs objects.old caller.now.place.pid caller.now.control }
+    requires placed { IsPlaced objects.old.procs caller.now.place }
     ensures kept { AreKept script.now objects.new }
     ensures told { result ≡ told }
     ensures takes { TakesNothing objects.old.heap objects.new.heap }
-    ensures goes { (world : World) → StandsFor script.now objects.old world → StandsFor script.now objects.new (behind_in script.now world caller.now.pid told) }
+    ensures goes { (world : World) → StandsFor script.now objects.old world → StandsFor script.now objects.new (behind_in script.now world caller.now.place.pid told) }
 {
     match told {
         Turned::Done(reply) => go_on(script, objects, caller, reply),
@@ -36,15 +38,16 @@ pub(crate) fn go_on_done(
 /// The process stays at its write, of which so many bytes more are done.
 pub(crate) fn do_part(objects: &mut Objects, caller: &Caller, moved: u32) -> Turned
     requires kept { (script : Script) × AreKept script objects.old }
-    requires runs { Runs objects.old caller.now.pid caller.now.control }
+    requires runs { Runs objects.old caller.now.place.pid caller.now.control }
+    requires placed { IsPlaced objects.old.procs caller.now.place }
     requires fits { caller.now.control.done + moved ≤ 4294967295 }
     ensures kept { (script : Script) → AreKept script objects.old → AreKept script objects.new }
     ensures told { result ≡ turned.Part moved }
     ensures takes { TakesNothing objects.old.heap objects.new.heap }
-    ensures goes { (script : Script) (world : World) → StandsFor script objects.old world → StandsFor script objects.new (partly_in world caller.now.pid moved) }
+    ensures goes { (script : Script) (world : World) → StandsFor script objects.old world → StandsFor script objects.new (partly_in world caller.now.place.pid moved) }
 {
     let mut control = caller.control;
     prog_ctl::moved(&mut control, moved);
-    objects.move_on(caller.pid, control);
+    objects.move_on(caller.place, control);
     Turned::Part(moved)
 }

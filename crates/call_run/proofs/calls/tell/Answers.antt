@@ -14,4 +14,4 @@ returns-clause-told c =
 pub returns-clause-goes : goal.returns-clause-goes
 returns-clause-goes c = λ world stands.
     let number : to_z w64 (of_z w64 c.from.result) ≡ pos c.args.value = to_z-of_z w64 c.from.result (record { sfits = c.from.type_inv }) ∙ c.from.ensures in
-    subst (λ z. StandsFor c.args.script.now c.go_on.new.objects (answered_in c.args.script.now world c.args.caller.now.pid (Val z))) number (c.go_on.ensures.goes world stands)
+    subst (λ z. StandsFor c.args.script.now c.go_on.new.objects (answered_in c.args.script.now world c.args.caller.now.place.pid (Val z))) number (c.go_on.ensures.goes world stands)

@@ -16,6 +16,9 @@ caller-requires c = let alive = c.requires.alive in alive.1.stands.kept.holds.st
 pub go_on-requires-clause-kept : goal.go_on-requires-clause-kept
 go_on-requires-clause-kept c = let alive = c.requires.alive in alive.1.stands.kept
 
+pub go_on-requires-clause-placed : goal.go_on-requires-clause-placed
+go_on-requires-clause-placed c = c.in-Some.ensures.some.placed
+
 pub unreachable-requires : goal.unreachable-requires
 unreachable-requires c =
     let alive = c.requires.alive in
@@ -28,9 +31,9 @@ pub returns-clause-refused : goal.returns-clause-refused
 returns-clause-refused c = λ world at _.
     let caller : IsCaller c.args.objects.now c.args.pid c.in-Some.caller = c.in-Some.ensures.some in
     subst (λ pid. IsStoreOf c.args.script.now (with_heap c.go_on.new.objects c.mark.new.self) (refused_in c.args.script.now world pid)) caller.same
-    (mark_goes_on c.go_on.new.objects c.mark.new.self c.mark.ensures c.args.script.now (refused_in c.args.script.now world c.in-Some.caller.pid) (record {
+    (mark_goes_on c.go_on.new.objects c.mark.new.self c.mark.ensures c.args.script.now (refused_in c.args.script.now world c.in-Some.caller.place.pid) (record {
       stands = c.go_on.ensures.goes world at.stands;
-      reached = refused_reached c.args.script.now world c.in-Some.caller.pid at.reached;
+      reached = refused_reached c.args.script.now world c.in-Some.caller.place.pid at.reached;
       spare = at.spare;
     }))
 

@@ -11,7 +11,7 @@ use Rattle.store_objects.proofs.Replying.{no_frames}
 use Rattle.store_objects.proofs.Keeping.{listed_in}
 use Rattle.store_objects.proofs.Paying.{uses_nothing, uses_then}
 use Rattle.store_objects.proofs.Within.{within_same}
-use Rattle.file_calls.proofs.CallingOpens.{holds_some_names, kept_mid, key_who_runs, mid, runs_mid, serves_naming}
+use Rattle.file_calls.proofs.CallingOpens.{holds_some_names, kept_mid, mid, runs_mid, serves_naming}
 use Rattle.file_calls.proofs.Purses.{can_pay, may_close, uses_back}
 use Rattle.file_calls.proofs.Reached.{closed_off, first_off, leaves_numbers}
 use Rattle.file_calls.proofs.closing.close.Goals as goal
@@ -21,9 +21,6 @@ close_number-closed-requires-clause-listed c = listed_in c.args.script.now c.arg
 
 pub close_number-closed-requires-clause-owners : goal.close_number-closed-requires-clause-owners
 close_number-closed-requires-clause-owners c = c.requires.stands.1.kept.owners
-
-pub close_number-closed-requires-clause-there : goal.close_number-closed-requires-clause-there
-close_number-closed-requires-clause-there c = key_who_runs c.args.script.now c.args.objects.now c.args.caller.now.pid c.args.caller.now.control c.requires.stands.1.kept c.requires.runs
 
 pub close_number-closed-requires-clause-hold : goal.close_number-closed-requires-clause-hold
 close_number-closed-requires-clause-hold c =
@@ -38,14 +35,14 @@ pub go_on-requires-clause-kept : goal.go_on-requires-clause-kept
 go_on-requires-clause-kept c =
     let n = c.close_number-closed in
     let some = n.ensures.hold in
-    kept_mid c.args.script.now c.args.objects.now n.new.heap n.new.tree n.new.names c.args.caller.now.pid c.args.caller.now.control c.requires.stands.1.kept c.requires.runs n.ensures.changes n.ensures.listed n.ensures.owners
+    kept_mid c.args.script.now c.args.objects.now n.new.heap n.new.tree n.new.names c.args.caller.now.place.pid c.args.caller.now.control c.requires.stands.1.kept c.requires.runs n.ensures.changes n.ensures.listed n.ensures.owners
     some.hold.bound n.ensures.places (record { numbers = some.numbers; others = some.others; files = some.files; hold = some.hold.held })
 
 pub go_on-requires-clause-runs : goal.go_on-requires-clause-runs
 go_on-requires-clause-runs c =
     let n = c.close_number-closed in
     let some = n.ensures.hold in
-    runs_mid c.args.script.now c.args.objects.now n.new.heap n.new.tree n.new.names c.args.caller.now.pid c.args.caller.now.control c.requires.stands.1.kept c.requires.runs n.ensures.changes n.ensures.listed n.ensures.owners
+    runs_mid c.args.script.now c.args.objects.now n.new.heap n.new.tree n.new.names c.args.caller.now.place.pid c.args.caller.now.control c.requires.stands.1.kept c.requires.runs n.ensures.changes n.ensures.listed n.ensures.owners
     some.hold.bound n.ensures.places (record { numbers = some.numbers; others = some.others; files = some.files; hold = some.hold.held })
 
 pub returns-clause-uses : goal.returns-clause-uses
@@ -60,7 +57,7 @@ pub returns-clause-does : goal.returns-clause-does
 returns-clause-does c =
     let script = c.args.script.now in
     let old = c.args.objects.now in
-    let pid = c.args.caller.now.pid in
+    let pid = c.args.caller.now.place.pid in
     let n = c.close_number-closed in
     let some = n.ensures.hold in
     let kept = c.requires.stands.1.kept in

@@ -34,11 +34,11 @@ returns-in_default-clause-closed c = λ numbers others files hold.
       size = ap (λ (h : Heap). h.heap) c.unname_going.ensures.beside;
     })
     c.unname_going.ensures.takes c.requires.may) in
-    closed_names_hold numbers others c.args.heap.now c.unname_going.new.heap c.close_one.new.heap c.args.procs.now c.args.tree.now c.args.tree.now c.args.names.now c.unname_going.new.names files c.args.pid c.args.fd
+    closed_names_hold numbers others c.args.heap.now c.unname_going.new.heap c.close_one.new.heap c.args.procs.now c.args.tree.now c.args.tree.now c.args.names.now c.unname_going.new.names files c.args.place.pid c.args.fd
     c.requires.listed c.requires.owners hold (ap (λ (h : Heap). h.procs) c.unname_going.ensures.beside) (ap (λ (h : Heap). h.descs) c.unname_going.ensures.beside)
     listed c.unname_going.ensures.owners (c.unname_going.ensures.hold numbers others c.args.tree.now files hold) (record { mid = c.close_one.new.heap; closes = c.close_one.ensures.closes; caches = refl }) c.close_one.ensures.listed
-    (holds_still c.unname_going.new.heap c.close_one.new.heap c.args.procs.now c.args.pid c.args.fd c.args.purse.now c.args.tree.now listed c.unname_going.ensures.owners c.close_one.ensures.closes c.close_one.ensures.listed c.close_one.ensures.takes may
-    c.close_one.ensures.closed c.close_one.result (node_of_number c.unname_going.new.heap c.close_one.new.heap c.args.procs.now c.args.pid c.args.fd c.close_one.result listed c.close_one.ensures.closes c.close_one.ensures.node) c.in_default.is)
+    (holds_still c.unname_going.new.heap c.close_one.new.heap c.args.procs.now c.args.place.pid c.args.fd c.args.purse.now c.args.tree.now listed c.unname_going.ensures.owners c.close_one.ensures.closes c.close_one.ensures.listed c.close_one.ensures.takes may
+    c.close_one.ensures.closed c.close_one.result (node_of_number c.unname_going.new.heap c.close_one.new.heap c.args.procs.now c.args.place.pid c.args.fd c.close_one.result listed c.close_one.ensures.closes c.close_one.ensures.node) c.in_default.is)
 
 pub returns-in_default-clause-hold : goal.returns-in_default-clause-hold
 returns-in_default-clause-hold c =
@@ -54,17 +54,17 @@ returns-in_default-clause-hold c =
     record {
       numbers = some.numbers;
       others = some.others;
-      files = after_close some.files c.args.pid c.args.fd;
-      hold = closed_names_hold some.numbers some.others c.args.heap.now c.unname_going.new.heap c.close_one.new.heap c.args.procs.now c.args.tree.now c.args.tree.now c.args.names.now c.unname_going.new.names some.files c.args.pid c.args.fd
+      files = after_close some.files c.args.place.pid c.args.fd;
+      hold = closed_names_hold some.numbers some.others c.args.heap.now c.unname_going.new.heap c.close_one.new.heap c.args.procs.now c.args.tree.now c.args.tree.now c.args.names.now c.unname_going.new.names some.files c.args.place.pid c.args.fd
           c.requires.listed c.requires.owners some.hold (ap (λ (h : Heap). h.procs) c.unname_going.ensures.beside) (ap (λ (h : Heap). h.descs) c.unname_going.ensures.beside)
           listed c.unname_going.ensures.owners (c.unname_going.ensures.hold some.numbers some.others c.args.tree.now some.files some.hold) (record { mid = c.close_one.new.heap; closes = c.close_one.ensures.closes; caches = refl }) c.close_one.ensures.listed
-          (holds_still c.unname_going.new.heap c.close_one.new.heap c.args.procs.now c.args.pid c.args.fd c.args.purse.now c.args.tree.now listed c.unname_going.ensures.owners c.close_one.ensures.closes c.close_one.ensures.listed c.close_one.ensures.takes may
-          c.close_one.ensures.closed c.close_one.result (node_of_number c.unname_going.new.heap c.close_one.new.heap c.args.procs.now c.args.pid c.args.fd c.close_one.result listed c.close_one.ensures.closes c.close_one.ensures.node) c.in_default.is);
+          (holds_still c.unname_going.new.heap c.close_one.new.heap c.args.procs.now c.args.place.pid c.args.fd c.args.purse.now c.args.tree.now listed c.unname_going.ensures.owners c.close_one.ensures.closes c.close_one.ensures.listed c.close_one.ensures.takes may
+          c.close_one.ensures.closed c.close_one.result (node_of_number c.unname_going.new.heap c.close_one.new.heap c.args.procs.now c.args.place.pid c.args.fd c.close_one.result listed c.close_one.ensures.closes c.close_one.ensures.node) c.in_default.is);
     }
 
 pub returns-in_default-clause-closes : goal.returns-in_default-clause-closes
 returns-in_default-clause-closes c =
-    closes_before c.args.heap.now c.unname_going.new.heap c.close_one.new.heap c.args.procs.now c.args.pid c.args.fd c.unname_going.ensures.beside c.unname_going.ensures.takes.high
+    closes_before c.args.heap.now c.unname_going.new.heap c.close_one.new.heap c.args.procs.now c.args.place.pid c.args.fd c.unname_going.ensures.beside c.unname_going.ensures.takes.high
     (record { mid = c.close_one.new.heap; closes = c.close_one.ensures.closes; caches = refl })
 
 pub returns-in_default-clause-queues : goal.returns-in_default-clause-queues
@@ -81,7 +81,7 @@ returns-in_default-clause-may c =
       size = ap (λ (h : Heap). h.heap) c.unname_going.ensures.beside;
     })
     c.unname_going.ensures.takes c.requires.may) in
-    close_on c.unname_going.new.heap c.close_one.new.heap c.args.purse.now (number_caches c.unname_going.new.heap c.close_one.new.heap c.args.procs.now c.args.pid c.args.fd c.close_one.ensures.closes) c.close_one.ensures.takes may
+    close_on c.unname_going.new.heap c.close_one.new.heap c.args.purse.now (number_caches c.unname_going.new.heap c.close_one.new.heap c.args.procs.now c.args.place.pid c.args.fd c.close_one.ensures.closes) c.close_one.ensures.takes may
 
 pub returns-in_default-clause-paid : goal.returns-in_default-clause-paid
 returns-in_default-clause-paid c =
@@ -106,9 +106,9 @@ close_node-requires-clause-stands c =
     })
     c.unname_going.ensures.takes c.requires.may) in
     let some = c.requires.hold in
-    lets_go c.unname_going.new.heap c.close_one.new.heap c.args.procs.now c.args.pid c.args.fd c.args.purse.now c.args.tree.now listed c.unname_going.ensures.owners c.close_one.ensures.closes c.close_one.ensures.listed c.close_one.ensures.takes may
-    c.close_one.ensures.closed c.close_one.result (node_of_number c.unname_going.new.heap c.close_one.new.heap c.args.procs.now c.args.pid c.args.fd c.close_one.result listed c.close_one.ensures.closes c.close_one.ensures.node) c.in-Some.node c.in-Some.is some.numbers some.others
-    (unnamed some.numbers some.files (socket_going c.args.heap.now.descs (named_at c.args.heap.now c.args.procs.now c.args.pid c.args.fd)))
+    lets_go c.unname_going.new.heap c.close_one.new.heap c.args.procs.now c.args.place.pid c.args.fd c.args.purse.now c.args.tree.now listed c.unname_going.ensures.owners c.close_one.ensures.closes c.close_one.ensures.listed c.close_one.ensures.takes may
+    c.close_one.ensures.closed c.close_one.result (node_of_number c.unname_going.new.heap c.close_one.new.heap c.args.procs.now c.args.place.pid c.args.fd c.close_one.result listed c.close_one.ensures.closes c.close_one.ensures.node) c.in-Some.node c.in-Some.is some.numbers some.others
+    (unnamed some.numbers some.files (socket_going c.args.heap.now.descs (named_at c.args.heap.now c.args.procs.now c.args.place.pid c.args.fd)))
     (c.unname_going.ensures.hold some.numbers some.others c.args.tree.now some.files some.hold).held
 
 pub close_node-requires-clause-fills : goal.close_node-requires-clause-fills
@@ -121,7 +121,7 @@ close_node-requires-clause-fills c =
       size = ap (λ (h : Heap). h.heap) c.unname_going.ensures.beside;
     })
     c.unname_going.ensures.takes c.requires.may) in
-    fills_on c.unname_going.new.heap c.close_one.new.heap c.args.purse.now (number_caches c.unname_going.new.heap c.close_one.new.heap c.args.procs.now c.args.pid c.args.fd c.close_one.ensures.closes) may.free.fetch.fills
+    fills_on c.unname_going.new.heap c.close_one.new.heap c.args.purse.now (number_caches c.unname_going.new.heap c.close_one.new.heap c.args.procs.now c.args.place.pid c.args.fd c.close_one.ensures.closes) may.free.fetch.fills
 
 pub returns-clause-closed : goal.returns-clause-closed
 returns-clause-closed c = λ numbers others files hold.
@@ -133,11 +133,11 @@ returns-clause-closed c = λ numbers others files hold.
       size = ap (λ (h : Heap). h.heap) c.unname_going.ensures.beside;
     })
     c.unname_going.ensures.takes c.requires.may) in
-    closed_names_hold numbers others c.args.heap.now c.unname_going.new.heap c.close_node.new.heap c.args.procs.now c.args.tree.now c.close_node.new.self c.args.names.now c.unname_going.new.names files c.args.pid c.args.fd
+    closed_names_hold numbers others c.args.heap.now c.unname_going.new.heap c.close_node.new.heap c.args.procs.now c.args.tree.now c.close_node.new.self c.args.names.now c.unname_going.new.names files c.args.place.pid c.args.fd
     c.requires.listed c.requires.owners hold (ap (λ (h : Heap). h.procs) c.unname_going.ensures.beside) (ap (λ (h : Heap). h.descs) c.unname_going.ensures.beside)
     listed c.unname_going.ensures.owners (c.unname_going.ensures.hold numbers others c.args.tree.now files hold) (record { mid = c.close_one.new.heap; closes = c.close_one.ensures.closes; caches = c.close_node.ensures.pays.only }) (listed_beside c.close_one.new.heap c.close_node.new.heap c.close_node.ensures.pays.only c.args.procs.now c.close_one.ensures.listed)
-    (holds_without c.unname_going.new.heap c.close_one.new.heap c.args.procs.now c.args.pid c.args.fd c.args.purse.now c.args.tree.now listed c.unname_going.ensures.owners c.close_one.ensures.closes c.close_one.ensures.listed c.close_one.ensures.takes may
-    c.close_one.ensures.closed c.close_one.result (node_of_number c.unname_going.new.heap c.close_one.new.heap c.args.procs.now c.args.pid c.args.fd c.close_one.result listed c.close_one.ensures.closes c.close_one.ensures.node) c.in-Some.node c.in-Some.is c.close_node.new.heap c.close_node.new.self c.close_node.ensures.pays.only c.close_node.ensures.stands)
+    (holds_without c.unname_going.new.heap c.close_one.new.heap c.args.procs.now c.args.place.pid c.args.fd c.args.purse.now c.args.tree.now listed c.unname_going.ensures.owners c.close_one.ensures.closes c.close_one.ensures.listed c.close_one.ensures.takes may
+    c.close_one.ensures.closed c.close_one.result (node_of_number c.unname_going.new.heap c.close_one.new.heap c.args.procs.now c.args.place.pid c.args.fd c.close_one.result listed c.close_one.ensures.closes c.close_one.ensures.node) c.in-Some.node c.in-Some.is c.close_node.new.heap c.close_node.new.self c.close_node.ensures.pays.only c.close_node.ensures.stands)
 
 pub returns-clause-hold : goal.returns-clause-hold
 returns-clause-hold c =
@@ -153,17 +153,17 @@ returns-clause-hold c =
     record {
       numbers = some.numbers;
       others = some.others;
-      files = after_close some.files c.args.pid c.args.fd;
-      hold = closed_names_hold some.numbers some.others c.args.heap.now c.unname_going.new.heap c.close_node.new.heap c.args.procs.now c.args.tree.now c.close_node.new.self c.args.names.now c.unname_going.new.names some.files c.args.pid c.args.fd
+      files = after_close some.files c.args.place.pid c.args.fd;
+      hold = closed_names_hold some.numbers some.others c.args.heap.now c.unname_going.new.heap c.close_node.new.heap c.args.procs.now c.args.tree.now c.close_node.new.self c.args.names.now c.unname_going.new.names some.files c.args.place.pid c.args.fd
           c.requires.listed c.requires.owners some.hold (ap (λ (h : Heap). h.procs) c.unname_going.ensures.beside) (ap (λ (h : Heap). h.descs) c.unname_going.ensures.beside)
           listed c.unname_going.ensures.owners (c.unname_going.ensures.hold some.numbers some.others c.args.tree.now some.files some.hold) (record { mid = c.close_one.new.heap; closes = c.close_one.ensures.closes; caches = c.close_node.ensures.pays.only }) (listed_beside c.close_one.new.heap c.close_node.new.heap c.close_node.ensures.pays.only c.args.procs.now c.close_one.ensures.listed)
-          (holds_without c.unname_going.new.heap c.close_one.new.heap c.args.procs.now c.args.pid c.args.fd c.args.purse.now c.args.tree.now listed c.unname_going.ensures.owners c.close_one.ensures.closes c.close_one.ensures.listed c.close_one.ensures.takes may
-          c.close_one.ensures.closed c.close_one.result (node_of_number c.unname_going.new.heap c.close_one.new.heap c.args.procs.now c.args.pid c.args.fd c.close_one.result listed c.close_one.ensures.closes c.close_one.ensures.node) c.in-Some.node c.in-Some.is c.close_node.new.heap c.close_node.new.self c.close_node.ensures.pays.only c.close_node.ensures.stands);
+          (holds_without c.unname_going.new.heap c.close_one.new.heap c.args.procs.now c.args.place.pid c.args.fd c.args.purse.now c.args.tree.now listed c.unname_going.ensures.owners c.close_one.ensures.closes c.close_one.ensures.listed c.close_one.ensures.takes may
+          c.close_one.ensures.closed c.close_one.result (node_of_number c.unname_going.new.heap c.close_one.new.heap c.args.procs.now c.args.place.pid c.args.fd c.close_one.result listed c.close_one.ensures.closes c.close_one.ensures.node) c.in-Some.node c.in-Some.is c.close_node.new.heap c.close_node.new.self c.close_node.ensures.pays.only c.close_node.ensures.stands);
     }
 
 pub returns-clause-closes : goal.returns-clause-closes
 returns-clause-closes c =
-    closes_before c.args.heap.now c.unname_going.new.heap c.close_node.new.heap c.args.procs.now c.args.pid c.args.fd c.unname_going.ensures.beside c.unname_going.ensures.takes.high
+    closes_before c.args.heap.now c.unname_going.new.heap c.close_node.new.heap c.args.procs.now c.args.place.pid c.args.fd c.unname_going.ensures.beside c.unname_going.ensures.takes.high
     (record { mid = c.close_one.new.heap; closes = c.close_one.ensures.closes; caches = c.close_node.ensures.pays.only })
 
 pub returns-clause-listed : goal.returns-clause-listed
@@ -203,7 +203,7 @@ returns-clause-may c =
     c.unname_going.ensures.takes c.requires.may) in
     close_again c.close_one.new.heap c.close_node.new.heap c.args.purse.now c.close_node.new.purse c.args.tree.now c.close_node.new.self c.close_node.ensures.pays
     (c.close_node.ensures.dropped may.vnodes may.blocks)
-    (close_on c.unname_going.new.heap c.close_one.new.heap c.args.purse.now (number_caches c.unname_going.new.heap c.close_one.new.heap c.args.procs.now c.args.pid c.args.fd c.close_one.ensures.closes) c.close_one.ensures.takes may)
+    (close_on c.unname_going.new.heap c.close_one.new.heap c.args.purse.now (number_caches c.unname_going.new.heap c.close_one.new.heap c.args.procs.now c.args.place.pid c.args.fd c.close_one.ensures.closes) c.close_one.ensures.takes may)
 
 pub returns-clause-paid : goal.returns-clause-paid
 returns-clause-paid c =
@@ -220,5 +220,5 @@ returns-clause-cached c =
 pub returns-clause-stays : goal.returns-clause-stays
 returns-clause-stays c = λ none.
     let listed = (listed_on c.args.heap.now c.unname_going.new.heap c.args.procs.now (ap (λ (h : Heap). h.procs) c.unname_going.ensures.beside) c.requires.listed) in
-    let node = (node_of_number c.unname_going.new.heap c.close_one.new.heap c.args.procs.now c.args.pid c.args.fd c.close_one.result listed c.close_one.ensures.closes c.close_one.ensures.node) in
-    absurd (let both : Some c.in-Some.node ≡ None = sym c.in-Some.is ∙ node ∙ (ap (λ (h : Heap). node_closed h.descs (named_at h c.args.procs.now c.args.pid c.args.fd)) c.unname_going.ensures.beside ∙ none) in cc)
+    let node = (node_of_number c.unname_going.new.heap c.close_one.new.heap c.args.procs.now c.args.place.pid c.args.fd c.close_one.result listed c.close_one.ensures.closes c.close_one.ensures.node) in
+    absurd (let both : Some c.in-Some.node ≡ None = sym c.in-Some.is ∙ node ∙ (ap (λ (h : Heap). node_closed h.descs (named_at h c.args.procs.now c.args.place.pid c.args.fd)) c.unname_going.ensures.beside ∙ none) in cc)

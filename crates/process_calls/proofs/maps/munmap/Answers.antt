@@ -10,6 +10,7 @@ use Rattle.posix_defs.specs.Process.{memory_of}
 use Rattle.store_objects.specs.Standing.{StandsFor, remembered_in}
 use Rattle.store_objects.proofs.Leading.{led_on}
 use Rattle.process_calls.proofs.RightNumbers.{munmap_pages}
+use Rattle.store_objects.proofs.Callers.{placed_on}
 use Rattle.process_calls.proofs.maps.munmap.Goals as goal
 
 pub go_on-requires-clause-kept : goal.go_on-requires-clause-kept
@@ -21,7 +22,7 @@ go_on-requires-clause-runs c = c.unmap.ensures.runs c.args.caller.now.control c.
 pub returns-clause-does : goal.returns-clause-does
 returns-clause-does c = λ world stands alive.
     let script = c.args.script.now in
-    let pid = c.args.caller.now.pid in
+    let pid = c.args.caller.now.place.pid in
     let u : c.cast_unsigned.result ≡ cast_unsigned w64 c.args.addr =
     subst (λ z. c.cast_unsigned.result ≡ cast_unsigned w64 z) (to_z-of_z w64 c.args.addr c.ranges.addr) c.cast_unsigned.ensures in
     let v : c.cast_unsigned-2.result ≡ cast_unsigned w64 c.args.length =
@@ -37,3 +38,6 @@ returns-clause-does c = λ world stands alive.
     (c.unmap.ensures.unmapped script world stands)) in
     led_on script c.unmap.new.objects c.go_on.new.objects world base pid (call.Munmap c.args.addr c.args.length) (Val (pos 0)) c.go_on.result
     between c.go_on.ensures.told (c.go_on.ensures.goes base between) refl refl refl refl refl
+
+pub go_on-requires-clause-placed : goal.go_on-requires-clause-placed
+go_on-requires-clause-placed c = placed_on c.args.objects.now c.unmap.new.objects c.args.caller.now.place c.unmap.ensures.procs c.requires.placed

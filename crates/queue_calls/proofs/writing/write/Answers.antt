@@ -27,26 +27,26 @@ pub write-told-requires-clause-kept : goal.write-told-requires-clause-kept
 write-told-requires-clause-kept c = let some = c.requires.stands in is_kept c.args.script.now c.args.objects.now some.1.kept
 
 pub write-told-requires-clause-alive : goal.write-told-requires-clause-alive
-write-told-requires-clause-alive c = runs_alive c.args.objects.now c.args.caller.now.pid c.args.caller.now.control c.requires.runs
+write-told-requires-clause-alive c = runs_alive c.args.objects.now c.args.caller.now.place.pid c.args.caller.now.control c.requires.runs
 
 pub write-told-requires-clause-off : goal.write-told-requires-clause-off
-write-told-requires-clause-off c = subst (IsOffNodes c.args.objects.now.heap c.args.objects.now.procs c.args.caller.now.pid) (sym (to_z-of_z w64 c.args.fd c.ranges.fd)) c.requires.off
+write-told-requires-clause-off c = subst (IsOffNodes c.args.objects.now.heap c.args.objects.now.procs c.args.caller.now.place.pid) (sym (to_z-of_z w64 c.args.fd c.ranges.fd)) c.requires.off
 
 pub do_part-requires-clause-kept : goal.do_part-requires-clause-kept
 do_part-requires-clause-kept c =
     let some = c.requires.stands in
-    let names = names_written c.args.script.now c.args.objects.now c.write-told.new.heap c.args.caller.now.pid _ _ _ c.args.done c.write-told.result
+    let names = names_written c.args.script.now c.args.objects.now c.write-told.new.heap c.args.caller.now.place.pid _ _ _ c.args.done c.write-told.result
     (c.write-told.ensures.leads c.args.script.now) c.requires.stands
-    (subst (IsOffNodes c.args.objects.now.heap c.args.objects.now.procs c.args.caller.now.pid) (sym (to_z-of_z w64 c.args.fd c.ranges.fd)) c.requires.off) in
+    (subst (IsOffNodes c.args.objects.now.heap c.args.objects.now.procs c.args.caller.now.place.pid) (sym (to_z-of_z w64 c.args.fd c.ranges.fd)) c.requires.off) in
     (c.args.script.now, kept_mid c.args.script.now c.args.objects.now c.write-told.new.heap c.write-told.ensures.kept (leaves_more c.args.objects.now.heap c.write-told.new.heap c.write-told.ensures.beside) names some.1.kept)
 
 pub do_part-requires-clause-runs : goal.do_part-requires-clause-runs
 do_part-requires-clause-runs c =
-    let names = names_written c.args.script.now c.args.objects.now c.write-told.new.heap c.args.caller.now.pid _ _ _ c.args.done c.write-told.result
+    let names = names_written c.args.script.now c.args.objects.now c.write-told.new.heap c.args.caller.now.place.pid _ _ _ c.args.done c.write-told.result
     (c.write-told.ensures.leads c.args.script.now) c.requires.stands
-    (subst (IsOffNodes c.args.objects.now.heap c.args.objects.now.procs c.args.caller.now.pid) (sym (to_z-of_z w64 c.args.fd c.ranges.fd)) c.requires.off) in
+    (subst (IsOffNodes c.args.objects.now.heap c.args.objects.now.procs c.args.caller.now.place.pid) (sym (to_z-of_z w64 c.args.fd c.ranges.fd)) c.requires.off) in
     runs_mid c.args.script.now c.args.objects.now c.write-told.new.heap c.write-told.ensures.kept (leaves_more c.args.objects.now.heap c.write-told.new.heap c.write-told.ensures.beside) names
-    c.args.caller.now.pid c.args.caller.now.control c.requires.runs
+    c.args.caller.now.place.pid c.args.caller.now.control c.requires.runs
 
 -- a part is less than the bytes that are left
 pub do_part-requires-clause-fits : goal.do_part-requires-clause-fits
@@ -55,7 +55,7 @@ do_part-requires-clause-fits c =
     let old = c.args.objects.now in
     let some = c.requires.stands in
     let plain = some.0.plain in
-    let pid = c.args.caller.now.pid in
+    let pid = c.args.caller.now.place.pid in
     let within : ℕ → Type 0 = λ moved. c.args.done + moved ≤ count_of c.args.n in
     let led = of_three (λ fd addr n. Leads script some.1.files.numbers c.write-told.new.heap old.procs plain some.0.account pid (call.Write fd addr n c.args.done) (write script plain pid fd addr n c.args.done) c.write-told.result)
     _ _ _ c.args.fd c.args.addr c.args.n (to_z-of_z w64 c.args.fd c.ranges.fd) (to_z-of_z w64 c.args.addr c.ranges.addr) (to_z-of_z w64 c.args.n c.ranges.n)
@@ -72,25 +72,25 @@ do_part-requires-clause-fits c =
 pub go_on_done-requires-clause-kept : goal.go_on_done-requires-clause-kept
 go_on_done-requires-clause-kept c =
     let some = c.requires.stands in
-    let names = names_written c.args.script.now c.args.objects.now c.write-told.new.heap c.args.caller.now.pid _ _ _ c.args.done c.write-told.result
+    let names = names_written c.args.script.now c.args.objects.now c.write-told.new.heap c.args.caller.now.place.pid _ _ _ c.args.done c.write-told.result
     (c.write-told.ensures.leads c.args.script.now) c.requires.stands
-    (subst (IsOffNodes c.args.objects.now.heap c.args.objects.now.procs c.args.caller.now.pid) (sym (to_z-of_z w64 c.args.fd c.ranges.fd)) c.requires.off) in
+    (subst (IsOffNodes c.args.objects.now.heap c.args.objects.now.procs c.args.caller.now.place.pid) (sym (to_z-of_z w64 c.args.fd c.ranges.fd)) c.requires.off) in
     kept_mid c.args.script.now c.args.objects.now c.write-told.new.heap c.write-told.ensures.kept (leaves_more c.args.objects.now.heap c.write-told.new.heap c.write-told.ensures.beside) names some.1.kept
 
 pub go_on_done-requires-clause-runs : goal.go_on_done-requires-clause-runs
 go_on_done-requires-clause-runs c =
-    let names = names_written c.args.script.now c.args.objects.now c.write-told.new.heap c.args.caller.now.pid _ _ _ c.args.done c.write-told.result
+    let names = names_written c.args.script.now c.args.objects.now c.write-told.new.heap c.args.caller.now.place.pid _ _ _ c.args.done c.write-told.result
     (c.write-told.ensures.leads c.args.script.now) c.requires.stands
-    (subst (IsOffNodes c.args.objects.now.heap c.args.objects.now.procs c.args.caller.now.pid) (sym (to_z-of_z w64 c.args.fd c.ranges.fd)) c.requires.off) in
+    (subst (IsOffNodes c.args.objects.now.heap c.args.objects.now.procs c.args.caller.now.place.pid) (sym (to_z-of_z w64 c.args.fd c.ranges.fd)) c.requires.off) in
     runs_mid c.args.script.now c.args.objects.now c.write-told.new.heap c.write-told.ensures.kept (leaves_more c.args.objects.now.heap c.write-told.new.heap c.write-told.ensures.beside) names
-    c.args.caller.now.pid c.args.caller.now.control c.requires.runs
+    c.args.caller.now.place.pid c.args.caller.now.control c.requires.runs
 
 pub returns-in-Part-clause-kept : goal.returns-in-Part-clause-kept
 returns-in-Part-clause-kept c =
     let some = c.requires.stands in
-    let names = names_written c.args.script.now c.args.objects.now c.write-told.new.heap c.args.caller.now.pid _ _ _ c.args.done c.write-told.result
+    let names = names_written c.args.script.now c.args.objects.now c.write-told.new.heap c.args.caller.now.place.pid _ _ _ c.args.done c.write-told.result
     (c.write-told.ensures.leads c.args.script.now) c.requires.stands
-    (subst (IsOffNodes c.args.objects.now.heap c.args.objects.now.procs c.args.caller.now.pid) (sym (to_z-of_z w64 c.args.fd c.ranges.fd)) c.requires.off) in
+    (subst (IsOffNodes c.args.objects.now.heap c.args.objects.now.procs c.args.caller.now.place.pid) (sym (to_z-of_z w64 c.args.fd c.ranges.fd)) c.requires.off) in
     c.do_part.ensures.kept c.args.script.now
     (kept_mid c.args.script.now c.args.objects.now c.write-told.new.heap c.write-told.ensures.kept (leaves_more c.args.objects.now.heap c.write-told.new.heap c.write-told.ensures.beside) names some.1.kept)
 
@@ -125,11 +125,11 @@ pub returns-in-Part-clause-does : goal.returns-in-Part-clause-does
 returns-in-Part-clause-does c =
     let script = c.args.script.now in
     let old = c.args.objects.now in
-    let pid = c.args.caller.now.pid in
+    let pid = c.args.caller.now.place.pid in
     let new = c.do_part.new.objects in
-    let names = names_written c.args.script.now c.args.objects.now c.write-told.new.heap c.args.caller.now.pid _ _ _ c.args.done c.write-told.result
+    let names = names_written c.args.script.now c.args.objects.now c.write-told.new.heap c.args.caller.now.place.pid _ _ _ c.args.done c.write-told.result
     (c.write-told.ensures.leads c.args.script.now) c.requires.stands
-    (subst (IsOffNodes c.args.objects.now.heap c.args.objects.now.procs c.args.caller.now.pid) (sym (to_z-of_z w64 c.args.fd c.ranges.fd)) c.requires.off) in
+    (subst (IsOffNodes c.args.objects.now.heap c.args.objects.now.procs c.args.caller.now.place.pid) (sym (to_z-of_z w64 c.args.fd c.ranges.fd)) c.requires.off) in
     subst (λ t. Performs script old pid (call.Write c.args.fd c.args.addr c.args.n c.args.done) (λ plain. write script plain pid c.args.fd c.args.addr c.args.n c.args.done) t new)
     (c.in-Part.is ∙ sym c.do_part.ensures.told)
     (leads script old new c.write-told.new.heap pid c.args.fd c.args.addr c.args.n _ _ _ c.args.done c.write-told.result
@@ -142,11 +142,11 @@ pub returns-in_default-clause-does : goal.returns-in_default-clause-does
 returns-in_default-clause-does c =
     let script = c.args.script.now in
     let old = c.args.objects.now in
-    let pid = c.args.caller.now.pid in
+    let pid = c.args.caller.now.place.pid in
     let new = c.go_on_done.new.objects in
-    let names = names_written c.args.script.now c.args.objects.now c.write-told.new.heap c.args.caller.now.pid _ _ _ c.args.done c.write-told.result
+    let names = names_written c.args.script.now c.args.objects.now c.write-told.new.heap c.args.caller.now.place.pid _ _ _ c.args.done c.write-told.result
     (c.write-told.ensures.leads c.args.script.now) c.requires.stands
-    (subst (IsOffNodes c.args.objects.now.heap c.args.objects.now.procs c.args.caller.now.pid) (sym (to_z-of_z w64 c.args.fd c.ranges.fd)) c.requires.off) in
+    (subst (IsOffNodes c.args.objects.now.heap c.args.objects.now.procs c.args.caller.now.place.pid) (sym (to_z-of_z w64 c.args.fd c.ranges.fd)) c.requires.off) in
     subst (λ t. Performs script old pid (call.Write c.args.fd c.args.addr c.args.n c.args.done) (λ plain. write script plain pid c.args.fd c.args.addr c.args.n c.args.done) t new)
     (sym c.go_on_done.ensures.told)
     (leads script old new c.write-told.new.heap pid c.args.fd c.args.addr c.args.n _ _ _ c.args.done c.write-told.result
