@@ -17,6 +17,8 @@ pub mod PipeAnswers
 pub mod PipeSteps
 pub mod Booted
 pub mod NamedOpen
+pub mod OpenedBy
+pub mod OnNodes
 pub mod MayMove
 pub mod Settled
 pub mod FrontsMoved
