@@ -74,8 +74,8 @@ overflow_cast-number c =
 
 -- ---- they are the same
 
-pub returns-then-number-number-clause-answers : goal.returns-then-number-number-clause-answers
-returns-then-number-number-clause-answers c = λ numbers others script plain hold.
+pub returns-then-found-number-clause-answers : goal.returns-then-found-number-clause-answers
+returns-then-found-number-clause-answers c = λ numbers others script plain hold.
     let is = is_held c.args.heap.now c.args.procs.now c.args.place.pid c.args.on.now c.requires.opened c.in-Some.found c.in-Some.is in
     let there = is_there c.args.heap.now c.args.procs.now c.args.place.pid c.args.on.now c.requires.opened c.in-Some.found c.in-Some.is in
     let to = to_z-of_z w64 c.args.to c.ranges.to in
@@ -87,17 +87,17 @@ returns-then-number-number-clause-answers c = λ numbers others script plain hol
       files = plain.files;
       replies =
           dup2_same numbers c.args.heap.now c.args.procs.now script plain c.args.place.pid hold.held.opened c.args.on.now.fd (held_in c.in-Some.found) c.in-Some.found.desc is there c.args.to within
-          (sym from_is ∙ c.if-number-number.true ∙ number_is)
+          (sym from_is ∙ c.if-found-number.true ∙ number_is)
           ∙ ap (λ n. replied script plain c.args.place.pid (Val (pos n))) (sym number_is);
       holds = hold;
     }
 
-pub returns-then-number-number-clause-changes : goal.returns-then-number-number-clause-changes
-returns-then-number-number-clause-changes c =
+pub returns-then-found-number-clause-changes : goal.returns-then-found-number-clause-changes
+returns-then-found-number-clause-changes c =
     holding_of c.args.heap.now c.args.heap.now c.args.procs.now c.args.place.pid (changes_nothing c.args.heap.now c.args.procs.now c.args.place.pid c.requires.listed (ap is_some c.requires.there))
 
-pub returns-then-number-number-clause-queues : goal.returns-then-number-number-clause-queues
-returns-then-number-number-clause-queues c = queues_same c.args.heap.now c.args.heap.now refl refl
+pub returns-then-found-number-clause-queues : goal.returns-then-found-number-clause-queues
+returns-then-found-number-clause-queues c = queues_same c.args.heap.now c.args.heap.now refl refl
 
 -- ---- another
 
@@ -106,7 +106,7 @@ share_at-requires-clause-used c =
     let closes = c.close_open.ensures.closes in
     ap is_some (desc_named c.close_open.new.heap c.args.procs.now [] c.close_open.ensures.listed c.close_open.ensures.owners c.args.place.pid c.in-Some.found.number (held_in c.in-Some.found)
     (ap (λ (h : Heap). named_at h c.args.procs.now c.args.place.pid c.in-Some.found.number) closes.caches
-    ∙ others_stay c.args.heap.now closes.mid c.args.procs.now c.args.place.pid c.count_of-number.result c.in-Some.found.number c.requires.listed closes.closes c.if-number-number.false
+    ∙ others_stay c.args.heap.now closes.mid c.args.procs.now c.args.place.pid c.count_of-number.result c.in-Some.found.number c.requires.listed closes.closes c.if-found-number.false
     ∙ is_held_at c.args.heap.now c.args.procs.now c.args.place.pid c.args.on.now c.requires.opened c.in-Some.found c.in-Some.is)).1
 
 pub share_at-requires-clause-free : goal.share_at-requires-clause-free
@@ -151,7 +151,7 @@ returns-clause-answers c = λ numbers others script plain hold.
       files = shared_at (after_close plain.files c.args.place.pid c.count_of-number.result) c.args.place.pid (record { place = numbers.descs c.in-Some.found.key; is = (counted_in numbers c.in-Some.found.desc).is }) c.count_of-number.result;
       replies =
           dup2_other numbers c.args.heap.now c.args.procs.now script plain c.args.place.pid hold.held.opened c.args.on.now.fd (held_in c.in-Some.found) c.in-Some.found.desc is there c.args.to within
-          (λ same. c.if-number-number.false (from_is ∙ same ∙ sym number_is))
+          (λ same. c.if-found-number.false (from_is ∙ same ∙ sym number_is))
           ∙ ap
           (λ n. replied script
           (with_files plain (shared_at (after_close plain.files c.args.place.pid n) c.args.place.pid (record { place = numbers.descs c.in-Some.found.key; is = (counted_in numbers c.in-Some.found.desc).is }) n)) c.args.place.pid
@@ -199,7 +199,7 @@ returns-clause-stays c = λ none.
     c.close_open.ensures.stays
     (ap (λ n. node_closed c.args.heap.now.descs (named_at c.args.heap.now c.args.procs.now c.args.place.pid n)) number_is
     ∙ sym (ap (λ b. cond b None (node_closed c.args.heap.now.descs (named_at c.args.heap.now c.args.procs.now c.args.place.pid (count_of c.args.to))))
-    (ne_eqb (count_of c.args.on.now.fd) (count_of c.args.to) (λ same. c.if-number-number.false (from_is ∙ same ∙ sym number_is))))
+    (ne_eqb (count_of c.args.on.now.fd) (count_of c.args.to) (λ same. c.if-found-number.false (from_is ∙ same ∙ sym number_is))))
     ∙ none)
 
 pub share_at-requires-clause-pays : goal.share_at-requires-clause-pays
