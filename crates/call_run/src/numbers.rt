@@ -58,6 +58,16 @@ pub(crate) fn named_by(objects: &Objects, place: Place, call: &Call) -> Named
     opened(&objects.heap, &objects.procs, place, number)
 }
 
+/// Whether a call moves bytes of whatever is open.
+fn moves(call: &Call) -> bool
+    ensures { result ≡ is_moving (kind_of call.now) }
+{
+    match call {
+        Call::Read { .. } | Call::Write { .. } => true,
+        _ => false,
+    }
+}
+
 /// What a call moves bytes of: a queue where it reads or writes a number that isn't open on a node, and else a file, or nothing. Of a
 /// file nobody has written a part, so that a write to one begins anew.
 pub(crate) fn target_of(call: &Call, on: &Named) -> Target
@@ -70,10 +80,12 @@ pub(crate) fn target_of(call: &Call, on: &Named) -> Target
         → number_of call.now ≡ Some on.now.fd → result ≡ File → StandsFor script objects world → HasHalf world.plain.files pid call.now
         → IsFresh call.now }
 {
-    let moves = matches!(call, Call::Read { .. } | Call::Write { .. });
-    if moves && !on.is_on_node() {
-        Target::Queue
-    } else {
+    if !moves(call) {
+        return Target::File;
+    }
+    if on.is_on_node() {
         Target::File
+    } else {
+        Target::Queue
     }
 }
