@@ -1,5 +1,5 @@
 pub mod Sums
-pub mod Named
+pub mod NamedPlaces
 pub mod Listing
 pub mod Droppable
 pub mod NumberCloses

@@ -3,7 +3,7 @@ use Rattle.proc_numbers.specs.Found.{held_in}
 use Rattle.proc_numbers.proofs.NumberCloses.{no_some}
 use Rattle.proc_numbers.proofs.OpenedBy.{is_held, is_none, is_there}
 use Rattle.proc_numbers.proofs.Told.{finds_nothing, finds_other, finds_socket, on_named}
-use Rattle.proc_numbers.proofs.finding.Named.socket.Goals as goal
+use Rattle.proc_numbers.proofs.lookups.Named.socket.Goals as goal
 
 pub returns-in_default-clause-found : goal.returns-in_default-clause-found
 returns-in_default-clause-found c = λ h kept pid numbers script plain answer opened have.
