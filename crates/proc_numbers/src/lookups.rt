@@ -54,10 +54,12 @@ pub fn opened(heap: &KHeap, procs: &ProcTable, place: Place, fd: i64) -> Named
     ensures opened { IsOpened heap.now procs.now place.pid result }
 {
     is_well_formed(heap);
+    let proc = procs.at(heap, place);
     let Some(number) = number_of(fd) else {
         return Named { fd, found: None };
     };
-    let Some(descriptor) = procs.at(heap, place).descriptors[number as usize] else {
+    let held = proc.descriptors[number as usize];
+    let Some(descriptor) = held else {
         return Named { fd, found: None };
     };
     let found = Found {
@@ -116,10 +118,10 @@ impl Named {
             ≡ answer_on script plain pid answer (option_map (opened_in numbers) result) }
         ensures same { IfSome result (λ found. self.now.found ≡ Some found) }
     {
-        match self.found {
-            Some(found) if found.is_readable() => Some(found),
-            _ => None,
-        }
+        let Some(found) = self.found else {
+            return None;
+        };
+        if found.is_readable() { Some(found) } else { None }
     }
 
     /// What it names, where that may be written; None, which is EBADF, where it isn't open or isn't open for writing.
@@ -130,10 +132,10 @@ impl Named {
             ≡ answer_on script plain pid answer (option_map (opened_in numbers) result) }
         ensures same { IfSome result (λ found. self.now.found ≡ Some found) }
     {
-        match self.found {
-            Some(found) if found.is_writable() => Some(found),
-            _ => None,
-        }
+        let Some(found) = self.found else {
+            return None;
+        };
+        if found.is_writable() { Some(found) } else { None }
     }
 }
 

@@ -1,30 +1,56 @@
-use Rattle.std.proofs.Common.{◌≡◌, ◌∙◌, [], None, Option, Some, ap, is_some, subst, sym, w64}
-use Rattle.std.specs.Prelude.{slice_index_or}
-use Rattle.std.proofs.lemmas.Int.{to_z-of_z}
-use Rattle.kheap_slabs.specs.declared.objects.Proc.{Proc}
+use Rattle.std.proofs.Common.{◌∙◌, [], None, Some, ap, is_some, length, w64}
+use mir.Val.{of_z, to_z}
+use Rattle.proc_table.proofs.NumberLemmas.{numbers_all}
 use Rattle.proc_table.specs.Procs.{numbers_in}
 use Rattle.proc_numbers.specs.Having.{places_in}
-use Rattle.proc_numbers.specs.Naming.{named_at, named_by}
 use Rattle.proc_numbers.proofs.NumberCloses.{no_some}
-use Rattle.proc_numbers.proofs.NumberNames.{desc_named, named_beyond}
+use Rattle.proc_numbers.proofs.NumberNames.{desc_named_by, named_beyond}
+use Rattle.proc_numbers.proofs.OpenedBy.{by_number, number_so}
 use Rattle.proc_numbers.proofs.lookups.opened.Goals as goal
 
--- what the number names is what stands in its process
-stands : (c : goal.After-at) → named_at c.args.heap.now c.args.procs.now c.args.place.pid c.in-Some.number ≡ slice_index_or (numbers_in c.args.heap.now c.at.result.now) c.in-Some.number None
-stands c = ap (λ (o : Option Proc). slice_index_or (places_in (numbers_in c.args.heap.now) o) c.in-Some.number None) c.at.ensures.found
-
-pub at-requires-clause-stored : goal.at-requires-clause-stored
-at-requires-clause-stored c = c.requires.listed.stored
+pub at-proc-requires-clause-stored : goal.at-proc-requires-clause-stored
+at-proc-requires-clause-stored c = c.requires.listed.stored
 
 pub returns-in_default-clause-opened : goal.returns-in_default-clause-opened
 returns-in_default-clause-opened c = record {
   names =
-      subst (λ z. named_by c.args.heap.now c.args.procs.now c.args.place.pid z ≡ None) (sym (to_z-of_z w64 c.args.fd c.ranges.fd))
-      (named_beyond c.args.heap.now c.args.procs.now c.args.place.pid c.args.fd _ (c.number_of.ensures.none (no_some c.number_of.result c.in_default.not-Some)));
+      named_beyond c.args.heap.now c.args.procs.now c.args.place.pid (to_z w64 (of_z w64 c.args.fd))
+      (ap length (ap (places_in (numbers_in c.args.heap.now)) c.at-proc.ensures.found) ∙ numbers_all c.args.heap.now c.args.place.key c.at-proc.result.now c.is_well_formed.ensures c.at-proc.ensures.kept)
+      (c.number_of.ensures.none (no_some c.number_of.result c.in_default.not-Some));
   there = tt;
   number = tt;
 }
 
-pub get_desc-desc-requires : goal.get_desc-desc-requires
-get_desc-desc-requires c =
-    ap is_some (desc_named c.args.heap.now c.args.procs.now [] c.requires.listed c.requires.owners c.args.place.pid c.in-Some.number c.in-Some-descriptors.descriptor (stands c ∙ c.in-Some-descriptors.is)).1
+pub bounds-proc-number : goal.bounds-proc-number
+bounds-proc-number c =
+    let it = number_so (to_z w64 (of_z w64 c.args.fd)) c.number_of.result c.in-Some.number c.number_of.ensures.some c.in-Some.is in it.1
+
+pub returns-in_default-held-clause-opened : goal.returns-in_default-held-clause-opened
+returns-in_default-held-clause-opened c =
+    let it = number_so (to_z w64 (of_z w64 c.args.fd)) c.number_of.result c.in-Some.number c.number_of.ensures.some c.in-Some.is in
+    record {
+      names =
+          by_number c.args.heap.now c.args.procs.now c.args.place.pid (to_z w64 (of_z w64 c.args.fd)) c.in-Some.number c.at-proc.result.now None it.0 c.at-proc.ensures.found
+          (no_some _ c.in_default-held.not-Some);
+      there = tt;
+      number = tt;
+    }
+
+pub get_desc-requires : goal.get_desc-requires
+get_desc-requires c =
+    let it = number_so (to_z w64 (of_z w64 c.args.fd)) c.number_of.result c.in-Some.number c.number_of.ensures.some c.in-Some.is in
+    let named =
+        by_number c.args.heap.now c.args.procs.now c.args.place.pid (to_z w64 (of_z w64 c.args.fd)) c.in-Some.number c.at-proc.result.now (Some c.in-Some-held.descriptor) it.0
+        c.at-proc.ensures.found c.in-Some-held.is in
+    ap is_some (desc_named_by c.args.heap.now c.args.procs.now [] c.requires.listed c.requires.owners c.args.place.pid (to_z w64 (of_z w64 c.args.fd)) c.in-Some-held.descriptor named).1
+
+pub returns-clause-opened : goal.returns-clause-opened
+returns-clause-opened c =
+    let it = number_so (to_z w64 (of_z w64 c.args.fd)) c.number_of.result c.in-Some.number c.number_of.ensures.some c.in-Some.is in
+    record {
+      names =
+          by_number c.args.heap.now c.args.procs.now c.args.place.pid (to_z w64 (of_z w64 c.args.fd)) c.in-Some.number c.at-proc.result.now (Some c.in-Some-held.descriptor) it.0
+          c.at-proc.ensures.found c.in-Some-held.is;
+      there = c.get_desc.ensures;
+      number = it;
+    }
