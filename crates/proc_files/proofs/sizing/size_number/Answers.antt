@@ -1,4 +1,4 @@
-use Rattle.std.proofs.Common.{◌≡◌, ◌∙◌, [], None, Some, sym, subst, w64}
+use Rattle.std.proofs.Common.{◌≡◌, ◌∙◌, [], None, Some, refl, sym, subst, w64}
 use Rattle.std.proofs.lemmas.Int.{to_z-of_z}
 use Rattle.kabi_types.specs.Arguments.{count_of}
 use Rattle.memfs_ops.specs.Changing.{ChangedTo}

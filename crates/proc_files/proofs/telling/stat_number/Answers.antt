@@ -1,4 +1,4 @@
-use Rattle.std.proofs.Common.{◌≡◌, ◌∙◌, ap, None, Some, subst}
+use Rattle.std.proofs.Common.{◌≡◌, ◌∙◌, ap, None, Some, refl, subst}
 use Rattle.std.specs.Option.{option_map}
 use Rattle.kabi_types.specs.declared.replies.Reply.TheVariants.{Stat}
 use Rattle.posix_defs.specs.Answer.{replied}
