@@ -174,7 +174,7 @@ impl FileTree {
         ensures { (tree : Tree) (pins : ℕ → ℕ) → Stands heap.now self.now tree pins
             → result ≡ calls.is_held tree (is_held pins) node }
     {
-        self.is_pinned(heap, node) && is_file(inode)
+        self.vnodes.pins(heap, node) != 0 && is_file(inode)
     }
 
     /// A name goes that leads to a node, which loses a link.

@@ -37,7 +37,7 @@ remove_empty-requires-clause-stands g c =
     let r = c.requires.stands in
     let w : Walked = walked.Named c.in-Named.parent c.in-Named.name c.in-Named.node c.in-Named.slash in
     let led : IsLed r.0 w = subst (λ (x : Walked). IsLed r.0 x) (sym (c.in-Named.ensures.resolved r.0 r.1 r.2)) (path_led r.0 c.args.cwd c.args.path.now r.2.is_tree r.3) in
-    (r.0, r.1, c.walk.ensures.looks.stands r.0 r.1 r.2, led.1, r.4)
+    (r.0, r.1, c.walk.ensures.looks.stands r.0 r.1 r.2, led.1)
 
 pub remove_empty-requires-clause-may : goal.remove_empty-requires-clause-may
 remove_empty-requires-clause-may g c = c.walk.ensures.looks.may

@@ -15,7 +15,7 @@ rename_onto-requires-clause-stands g c =
     let r = c.requires.stands in
     let w : Walked = walked.Named c.in-Named.to c.in-Named.target c.in-Named.node c.in-Named.slash in
     let led : IsLed r.0 w = subst (λ (x : Walked). IsLed r.0 x) (sym (c.in-Named.ensures.resolved r.0 r.1 r.2)) (path_led r.0 c.args.cwd c.args.new.now r.2.is_tree r.3) in
-    (r.0, r.1, c.walk.ensures.looks.stands r.0 r.1 r.2, r.4, led.1, r.5, r.6)
+    (r.0, r.1, c.walk.ensures.looks.stands r.0 r.1 r.2, r.4, led.1, r.5)
 
 pub rename_away-requires-clause-stands : goal.rename_away-requires-clause-stands
 rename_away-requires-clause-stands g c =

@@ -46,7 +46,7 @@ pub replace-requires-clause-stands : goal.replace-requires-clause-stands
 replace-requires-clause-stands g c =
     let r = c.requires.stands in
     let fine = sym (c.goes_below.ensures.value r.0 r.1 r.2) ∙ c.if-goes_below.false in
-    (r.0, r.1, c.goes_below.ensures.looks.stands r.0 r.1 r.2, r.3, r.4, r.5, r.6, off_way r.0 c.args.number c.args.to r.2.is_tree (found_in_directory r.0 c.args.to c.args.new.now c.args.replaced r.4) fine)
+    (r.0, r.1, c.goes_below.ensures.looks.stands r.0 r.1 r.2, r.3, r.4, r.5, off_way r.0 c.args.number c.args.to r.2.is_tree (found_in_directory r.0 c.args.to c.args.new.now c.args.replaced r.4) fine)
 
 pub replace-requires-clause-may : goal.replace-requires-clause-may
 replace-requires-clause-may g c = c.goes_below.ensures.looks.may

@@ -3,12 +3,10 @@ use Rattle.kabi_types.specs.declared.errnos.Errno.{Errno}
 use Rattle.posix_defs.specs.Tree.{Tree}
 use Rattle.posix_defs.specs.TreeChanges.{rename_over}
 use Rattle.tree_laws.proofs.TreeFacts.{found_in_use}
-use Rattle.tree_laws.proofs.TreeKeeps.{found_not_root}
 use Rattle.blk_map.proofs.Taken.{preferred_then, unchanged_preferred}
 use Rattle.memfs_ops.specs.FileTree.{Stands}
 use Rattle.memfs_ops.specs.Removing.{ToldTo}
 use Rattle.memfs_ops.proofs.LookLemmas.{looks_trans, pays_of, pays_trans}
-use Rattle.memfs_ops.proofs.RemoveLemmas.{held_same}
 use Rattle.memfs_ops.proofs.RenameLemmas.{replace_may, full_alike, onto_is, no_fault}
 use Rattle.memfs_ops.proofs.file_tree.FileTree.replace.Goals as goal
 
@@ -35,8 +33,8 @@ returns-in-Some-clause-answer g c = λ tree pins stands.
     let from = c.is_directory-moves.ensures tree c.args.number (a.ensures.value tree pins stands) in
     let over = c.is_directory-goes.ensures tree c.args.replaced shows in
     let full = full_alike tree c.args.replaced b.result c.is_directory-goes.result (eqb b.result.size 64) shows over refl in
-    let held = held_same c.args.heap.now c.args.self.now r.0 tree r.1 pins c.args.replaced c.busy-used.result r.2 stands (r.6 c.args.replaced c.busy-used.result c.busy-used.ensures (found_not_root r.0 c.args.to c.args.new.now c.args.replaced r.2.is_tree r.4)) in
-    let is = onto_is tree pins c.args.dir c.args.name.now c.args.number c.args.to c.args.new.now c.args.replaced (Some c.in-Some.errno) c.is_directory-moves.result c.is_directory-goes.result (eqb b.result.size 64) c.busy-used.result c.requires.other from over full held c.in-Some.ensures in
+    let held = sym (c.is_pinned-used.ensures tree pins (b.ensures.looks.stands tree pins s)) in
+    let is = onto_is tree pins c.args.dir c.args.name.now c.args.number c.args.to c.args.new.now c.args.replaced (Some c.in-Some.errno) c.is_directory-moves.result c.is_directory-goes.result (eqb b.result.size 64) c.is_pinned-used.result c.requires.other from over full held c.in-Some.ensures in
     subst (λ (led : Result (Option ℕ × Tree) Errno). ToldTo b.new.heap b.new.self tree led pins (Err c.in-Some.errno)) (sym is) (refl, b.ensures.looks.stands tree pins s)
 
 pub returns-in-Some-clause-pays : goal.returns-in-Some-clause-pays
@@ -45,6 +43,14 @@ returns-in-Some-clause-pays g c =
     let b = c.inode-gone in
     pays_of c.args.heap.now b.new.heap c.args.purse.now b.new.purse c.args.self.now b.new.self
     (looks_trans c.args.heap.now a.new.heap b.new.heap c.args.purse.now a.new.purse b.new.purse c.args.self.now a.new.self b.new.self a.ensures.looks b.ensures.looks)
+
+pub is_pinned-used-requires-clause-stands : goal.is_pinned-used-requires-clause-stands
+is_pinned-used-requires-clause-stands g c =
+    let r = c.requires.stands in
+    (r.0, r.1, c.inode-gone.ensures.looks.stands r.0 r.1 (c.inode-moved.ensures.looks.stands r.0 r.1 r.2))
+
+pub is_pinned-used-requires-clause-there : goal.is_pinned-used-requires-clause-there
+is_pinned-used-requires-clause-there g c = c.inode-gone.ensures.kept
 
 pub stays_open-opened-requires-clause-stands : goal.stays_open-opened-requires-clause-stands
 stays_open-opened-requires-clause-stands g c =
@@ -65,10 +71,10 @@ move_over-requires-clause-stands g c =
     let shows = b.ensures.value r.0 r.1 s in
     let over = c.is_directory-goes.ensures r.0 c.args.replaced shows in
     let full = full_alike r.0 c.args.replaced b.result c.is_directory-goes.result (eqb b.result.size 64) shows over refl in
-    let held = sym (r.6 c.args.replaced c.busy-used.result c.busy-used.ensures (found_not_root r.0 c.args.to c.args.new.now c.args.replaced r.2.is_tree r.4)) in
-    let fine = no_fault r.0 r.1 c.args.replaced (c.is_directory-goes.result && not c.is_directory-moves.result) (c.is_directory-moves.result && not c.is_directory-goes.result) (eqb b.result.size 64) c.busy-used.result c.is_directory-goes.result over full held c.in-None.ensures in
+    let held = sym (c.is_pinned-used.ensures r.0 r.1 (b.ensures.looks.stands r.0 r.1 s)) in
+    let fine = no_fault r.0 r.1 c.args.replaced (c.is_directory-goes.result && not c.is_directory-moves.result) (c.is_directory-moves.result && not c.is_directory-goes.result) (eqb b.result.size 64) c.is_pinned-used.result c.is_directory-goes.result over full held c.in-None.ensures in
     let after = b.ensures.looks.stands r.0 r.1 s in
-    (r.0, r.1, after, replace_may r.0 r.1 c.args.dir c.args.name.now c.args.number c.args.to c.args.new.now c.args.replaced c.stays_open-opened.result r.3 r.4 c.requires.other r.5 r.7 (c.stays_open-opened.ensures r.0 r.1 after) fine.0 fine.1)
+    (r.0, r.1, after, replace_may r.0 r.1 c.args.dir c.args.name.now c.args.number c.args.to c.args.new.now c.args.replaced c.stays_open-opened.result r.3 r.4 c.requires.other r.5 r.6 (c.stays_open-opened.ensures r.0 r.1 after) fine.0 fine.1)
 
 pub move_over-requires-clause-may : goal.move_over-requires-clause-may
 move_over-requires-clause-may g c = c.inode-gone.ensures.looks.may
@@ -84,8 +90,8 @@ returns-in-None-clause-answer g c = λ tree pins stands.
     let from = c.is_directory-moves.ensures tree c.args.number (a.ensures.value tree pins stands) in
     let over = c.is_directory-goes.ensures tree c.args.replaced shows in
     let full = full_alike tree c.args.replaced b.result c.is_directory-goes.result (eqb b.result.size 64) shows over refl in
-    let held = held_same c.args.heap.now c.args.self.now r.0 tree r.1 pins c.args.replaced c.busy-used.result r.2 stands (r.6 c.args.replaced c.busy-used.result c.busy-used.ensures (found_not_root r.0 c.args.to c.args.new.now c.args.replaced r.2.is_tree r.4)) in
-    let is = onto_is tree pins c.args.dir c.args.name.now c.args.number c.args.to c.args.new.now c.args.replaced None c.is_directory-moves.result c.is_directory-goes.result (eqb b.result.size 64) c.busy-used.result c.requires.other from over full held c.in-None.ensures in
+    let held = sym (c.is_pinned-used.ensures tree pins (b.ensures.looks.stands tree pins s)) in
+    let is = onto_is tree pins c.args.dir c.args.name.now c.args.number c.args.to c.args.new.now c.args.replaced None c.is_directory-moves.result c.is_directory-goes.result (eqb b.result.size 64) c.is_pinned-used.result c.requires.other from over full held c.in-None.ensures in
     let after = b.ensures.looks.stands tree pins s in
     let opened = c.stays_open-opened.ensures tree pins after in
     subst (λ (led : Result (Option ℕ × Tree) Errno). ToldTo m.new.heap m.new.self tree led pins (Ok c.socket_freed.result)) (sym is)
