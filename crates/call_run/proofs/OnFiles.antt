@@ -1,6 +1,5 @@
--- Which calls have to do with a file or a directory that is open.
+-- Which calls move bytes of a file or a directory that is open.
 use Rattle.std.proofs.Common.{◌≡◌, ℕ, zero, suc, ℤ, true, false, Option, None, Some, refl, sym, subst, arith}
-use Rattle.kabi_types.specs.Call.{kind_of}
 use Rattle.kabi_types.specs.declared.calls.Call.{Call}
 use Rattle.kabi_types.specs.declared.calls.Call.TheVariants as call
 use Rattle.kheap_slabs.specs.Heap.{Heap}
@@ -10,9 +9,8 @@ use Rattle.posix_defs.specs.Files.State.{Files, node_of}
 use Rattle.posix_defs.specs.Files.Whole.{is_queue, is_queue_in}
 use Rattle.posix_defs.specs.Reaching.{is_on_node}
 use Rattle.std.specs.Prelude.{is_some}
-use Rattle.proc_files.specs.Reading.{IsOffNodes, IsOnNode}
 use Rattle.proc_table.specs.Table.{TableView}
-use Rattle.call_run.specs.Families.{HasHalf, IsFresh, IsOffFiles, IsOnFile, is_filed, takes_file}
+use Rattle.call_run.specs.Families.{HasHalf, IsFresh, IsOnFile}
 
 never : {X : Type 0} → false ≡ true → X
 never e = cc
@@ -38,39 +36,13 @@ fresh_write files pid which fd addr n done is on half = subst IsFresh (sym is) (
 pub fresh_is : (which : Call) (fd addr n : ℤ) (done : ℕ) → which ≡ call.Write fd addr n done → IsFresh which → done ≡ 0
 fresh_is which fd addr n done is fresh = subst IsFresh is fresh
 
--- ---- what was told of a number
+-- ---- a call that moves no bytes
 
-pub read_on : (h : Heap) (kept : TableView) (pid : ℕ) (which : Call) (fd addr n : ℤ) → which ≡ call.Read fd addr n → IsOnNode h kept pid fd → (takes_file (kind_of which) ≡ true) × IsOnFile h kept pid which
-read_on h kept pid which fd addr n is on = subst (λ w. (takes_file (kind_of w) ≡ true) × IsOnFile h kept pid w) (sym is) (refl, on)
-
-pub read_off : (h : Heap) (kept : TableView) (pid : ℕ) (which : Call) (fd addr n : ℤ) → which ≡ call.Read fd addr n → IsOffNodes h kept pid fd → (is_filed (kind_of which) ≡ false) × IsOffFiles h kept pid which
-read_off h kept pid which fd addr n is off = subst (λ w. (is_filed (kind_of w) ≡ false) × IsOffFiles h kept pid w) (sym is) (refl, off)
-
-pub write_on : (h : Heap) (kept : TableView) (pid : ℕ) (which : Call) (fd addr n : ℤ) (done : ℕ) → which ≡ call.Write fd addr n done → IsOnNode h kept pid fd → (takes_file (kind_of which) ≡ true) × IsOnFile h kept pid which
-write_on h kept pid which fd addr n done is on = subst (λ w. (takes_file (kind_of w) ≡ true) × IsOnFile h kept pid w) (sym is) (refl, on)
-
-pub write_off : (h : Heap) (kept : TableView) (pid : ℕ) (which : Call) (fd addr n : ℤ) (done : ℕ) → which ≡ call.Write fd addr n done → IsOffNodes h kept pid fd → (is_filed (kind_of which) ≡ false) × IsOffFiles h kept pid which
-write_off h kept pid which fd addr n done is off = subst (λ w. (is_filed (kind_of w) ≡ false) × IsOffFiles h kept pid w) (sym is) (refl, off)
-
--- of all other calls their kind tells
-module _ (h : Heap) (kept : TableView) (pid : ℕ) where
-  pub other_on : (which : Call) → ((a b c : ℤ) → which ≡ call.Read a b c → ⊥) → ((a b c : ℤ) (done : ℕ) → which ≡ call.Write a b c done → ⊥) → is_filed (kind_of which) ≡ true
-      → (takes_file (kind_of which) ≡ true) × IsOnFile h kept pid which
-  other_on (call.Read a b c) r w filed = absurd (r a b c refl)
-  other_on (call.Write a b c done) r w filed = absurd (w a b c done refl)
-  other_on (call.Pread a b c d) r w filed = (refl, tt)
-  other_on (call.Pwrite a b c d) r w filed = (refl, tt)
-  other_on (call.Lseek a b c) r w filed = (refl, tt)
-  other_on (call.Readdir a b c) r w filed = (refl, tt)
-  other_on (call.Ftruncate a b) r w filed = (refl, tt)
-  other_on (call.Fstat a) r w filed = (refl, tt)
-  other_on _ r w filed = cc
-
-  pub other_off : (which : Call) → ((a b c : ℤ) → which ≡ call.Read a b c → ⊥) → ((a b c : ℤ) (done : ℕ) → which ≡ call.Write a b c done → ⊥) → is_filed (kind_of which) ≡ false
-      → (is_filed (kind_of which) ≡ false) × IsOffFiles h kept pid which
-  other_off (call.Read a b c) r w unfiled = absurd (r a b c refl)
-  other_off (call.Write a b c done) r w unfiled = absurd (w a b c done refl)
-  other_off _ r w unfiled = (unfiled, tt)
+pub other_on : (h : Heap) (kept : TableView) (pid : ℕ) (which : Call) → ((a b c : ℤ) → which ≡ call.Read a b c → ⊥) → ((a b c : ℤ) (done : ℕ) → which ≡ call.Write a b c done → ⊥)
+    → IsOnFile h kept pid which
+other_on h kept pid (call.Read a b c) r w = absurd (r a b c refl)
+other_on h kept pid (call.Write a b c done) r w = absurd (w a b c done refl)
+other_on h kept pid _ r w = tt
 
 pub other_fresh : (which : Call) → ((a b c : ℤ) (done : ℕ) → which ≡ call.Write a b c done → ⊥) → IsFresh which
 other_fresh (call.Write a b c done) w = absurd (w a b c done refl)

@@ -1,9 +1,7 @@
 -- A turn of a call that keeps what is kept reaches the world to which its answer leads.
 use Rattle.std.proofs.Common.{◌≡◌, ℕ, ◌+◌, ◌≤◌, true, false, length, None, ap, refl, sym, ◌∙◌, subst, arith}
 use Rattle.std.specs.Option.{option_and_then}
-use Rattle.kabi_types.specs.Call.{kind_of}
 use Rattle.kabi_types.specs.declared.calls.Call.{Call}
-use Rattle.kabi_types.specs.declared.calls.Call.TheVariants as call
 use Rattle.kabi_types.specs.declared.scripts.Script.{Script}
 use Rattle.posix_defs.specs.Answer.{Answer}
 use Rattle.posix_defs.specs.Plain.{Plain}
@@ -18,16 +16,6 @@ use Rattle.posix_defs.specs.declared.turner.Turned.{Turned}
 use Rattle.store_objects.specs.declared.objects.Objects.{Objects}
 use Rattle.store_objects.specs.Standing.{Performs}
 use Rattle.store_objects.specs.Walking.{KeepsOn, Reaches, Serves}
-use Rattle.call_run.specs.Families.{is_named}
-
--- a call that names no node leaves no name
-unnamed_leaves : (which : Call) → is_named (kind_of which) ≡ false → path_to_leave which ≡ None
-unnamed_leaves (call.Stat path) unnamed = cc
-unnamed_leaves (call.OpenFile path flags) unnamed = cc
-unnamed_leaves (call.Chdir path) unnamed = cc
-unnamed_leaves (call.Exec path) unnamed = cc
-unnamed_leaves (call.Connect fd path) unnamed = cc
-unnamed_leaves _ unnamed = refl
 
 keeps_same : (world next : World) (pid : ℕ) (which : Call) (told : Turned) → next.kept ≡ world.kept → next.reads ≡ world.reads
     → (has_succeeded told ≡ true → IsLeft next.plain.files.tree next.kept (name_to_leave world.plain pid which)) → KeepsOn world pid which told next
@@ -62,13 +50,13 @@ reaches script old new pid which told answer does left = λ world stands alive.
 pub served : (script : Script) (old new : Objects) (pid : ℕ) (which : Call) (told : Turned) (answer : Plain → Answer) → Reaches script old pid which answer told new → Serves script old pid which answer told new
 served script old new pid which told answer does = λ world stands sound alive. does world stands alive
 
--- where the call names no node
-pub unnamed_served : (script : Script) (old new : Objects) (pid : ℕ) (which : Call) (told : Turned) (answer : Plain → Answer) → is_named (kind_of which) ≡ false
+-- where the call leaves no name in the caches
+pub unnamed_served : (script : Script) (old new : Objects) (pid : ℕ) (which : Call) (told : Turned) (answer : Plain → Answer) → path_to_leave which ≡ None
     → Performs script old pid which answer told new → Serves script old pid which answer told new
 unnamed_served script old new pid which told answer unnamed does =
     served script old new pid which told answer
     (reaches script old new pid which told answer does
-    (λ world next _. subst (λ path. IsLeft next.plain.files.tree next.kept (option_and_then (λ p. last_of (resolve world.plain.files.tree (directory_of world.plain.table pid) p)) path)) (sym (unnamed_leaves which unnamed)) tt))
+    (λ world next _. subst (λ path. IsLeft next.plain.files.tree next.kept (option_and_then (λ p. last_of (resolve world.plain.files.tree (directory_of world.plain.table pid) p)) path)) (sym unnamed) tt))
 
 -- and where it fails
 pub failed_served : (script : Script) (old new : Objects) (pid : ℕ) (which : Call) (errno : Errno) (told : Turned) (answer : Plain → Answer) → told ≡ turned.Done (reply.Fail errno)

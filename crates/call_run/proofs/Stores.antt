@@ -45,7 +45,7 @@ module _ (script : Script) (objects : Objects) (world : World) (pid : ℕ) (whic
   pub turn_alive : is_alive world.plain.table pid ≡ true
   turn_alive = alive_is script objects world.plain pid stands.processes ∙ caller_running objects pid caller is
 
-  pub turn_half : HasHalf world.plain.files caller.pid which
+  pub turn_half : HasHalf world.plain.files caller.place.pid which
   turn_half = subst (λ p. HasHalf world.plain.files p which) (sym is.same)
       (subst (HasHalf world.plain.files pid) (sym (own turn_alive)) (half script world.plain pid stands.valid reached turn_alive))
 

@@ -7,7 +7,7 @@ use Rattle.kheap_slabs.specs.Objects.{object}
 use Rattle.kheap_slabs.specs.declared.objects.Proc.{Proc}
 use Rattle.kheap_slabs.specs.Heap.{Heap}
 use Rattle.proc_table.specs.Table.{AreStored, Holds, TableView, processes, procs_at}
-use Rattle.proc_table.specs.declared.places.Listed.{Listed}
+use Rattle.proc_table.specs.declared.places.Place.{Place}
 use Rattle.proc_table.proofs.AccountLemmas.{all_both}
 use Rattle.proc_table.proofs.LeaveLemmas.{StandsAt}
 use Rattle.proc_table.proofs.OwnLemmas.{all_weaker}
@@ -22,7 +22,7 @@ pub record IsWhole (h : Heap) (proc : Proc) : Type 0 where
   pub groups : length proc.nodes ≡ 4
 
 -- The processes before this place are weighed, those from there on are to be.
-pub record AreWeighed (h : Heap) (all : List Weight) (places : List Listed) (at : ℕ) (weights : List Weight) : Type 0 where
+pub record AreWeighed (h : Heap) (all : List Weight) (places : List Place) (at : ℕ) (weights : List Weight) : Type 0 where
   pub stored : AreStored h.procs (drop at places)
   pub whole : AllByRecursion (IsWhole h) (procs_at h.procs (drop at places))
   pub so_far : weights ++ weights_in h (procs_at h.procs (drop at places)) ≡ all
@@ -41,11 +41,11 @@ none_yet h kept holds four = record {
 }
 
 -- the place has a process in the heap
-pub here : (h : Heap) (all : List Weight) (places : List Listed) (at : ℕ) (weights : List Weight) → AreWeighed h all places at weights → (stands : StandsAt places at)
+pub here : (h : Heap) (all : List Weight) (places : List Place) (at : ℕ) (weights : List Weight) → AreWeighed h all places at weights → (stands : StandsAt places at)
     → IsAt h.procs stands.place
 here h all places at weights weighed stands = stored_is h.procs stands.place (let s = subst (λ ps. AreStored h.procs ps) stands.is weighed.stored in s.0)
 
-module _ (h : Heap) (all : List Weight) (places : List Listed) (at : ℕ) (weights : List Weight) (weighed : AreWeighed h all places at weights) (stands : StandsAt places at)
+module _ (h : Heap) (all : List Weight) (places : List Place) (at : ℕ) (weights : List Weight) (weighed : AreWeighed h all places at weights) (stands : StandsAt places at)
     (proc : Proc) (is : object h.procs stands.place.key ≡ Some proc) where
   procs_here : procs_at h.procs (drop at places) ≡ proc ∷ procs_at h.procs stands.rest
   procs_here = ap (procs_at h.procs) stands.is ∙ ap (λ o. cons_option o (procs_at h.procs stands.rest)) is

@@ -1,36 +1,49 @@
 //! A case for each call. A turn of each stands to the plain machine's definition of its call.
 
-ghost use Rattle.std.specs.Prelude.{◌≡◌, ◌+◌, ◌≤◌, None, false, true};
+ghost use Rattle.std.specs.Prelude.{◌≡◌, ◌+◌, ◌≤◌, None, false, pos, true};
 ghost use Rattle.std.specs.Result.{result_err};
 ghost use Rattle.file_calls.specs.Bytes.{ReadsCached};
 ghost use Rattle.kabi_types.specs.Arguments.{argument_fault};
 ghost use Rattle.kabi_types.specs.Call.{kind_of};
 ghost use Rattle.kabi_types.specs.declared.calls.Call.{Call};
+ghost use Rattle.kabi_types.specs.declared.replies.Reply.TheVariants.{Val};
 ghost use Rattle.kabi_types.specs.declared.scripts.Script.{Script};
 ghost use Rattle.kheap_slabs.specs.Heap.{live_bytes};
+ghost use Rattle.kheap_slabs.specs.Paid.{TakesNothing};
+ghost use Rattle.posix_defs.specs.Calls.Opened.{opened_at};
 ghost use Rattle.posix_defs.specs.Machine.{answer_to, blocks, machine};
 ghost use Rattle.posix_defs.specs.Needs.{bound, need_of, slack};
 ghost use Rattle.posix_defs.specs.Process.{is_alive};
+ghost use Rattle.posix_defs.specs.Reaching.{is_on_node as plain_on_node};
 ghost use Rattle.posix_defs.specs.Sizes.{reserve};
 ghost use Rattle.posix_defs.specs.World.{World};
+ghost use Rattle.posix_defs.specs.declared.turner.Turned.TheVariants as turned;
+ghost use Rattle.proc_numbers.specs.Found.{IsOffNodes, IsOnNode};
+ghost use Rattle.proc_table.specs.Procs.{IsAlive};
 ghost use Rattle.prog_ctl.specs.Waits.{wait_of};
-ghost use Rattle.store_objects.specs.Objects.{AreKept, IsCaller};
-ghost use Rattle.store_objects.specs.Standing.{IsSound, Performs, StandsFor};
+ghost use Rattle.proc_table.specs.Table.{IsPlaced};
+ghost use Rattle.store_objects.specs.Objects.{AreKept, IsCaller, Runs, procs_of};
+ghost use Rattle.store_objects.specs.Standing.{IsSound, StandsFor, answered_in};
 ghost use Rattle.store_objects.specs.Uses.{UsesAtMost};
 ghost use Rattle.store_objects.specs.Walking.{Serves};
-ghost use Rattle.call_run.specs.Families.{HasDone, HasHalf, HasPaths, IsOffFiles, is_closing, is_filed, is_named, is_open, is_queued, is_socketed, makes_memory};
+ghost use Rattle.store_objects.specs.declared.purses.Target.TheVariants.{File, Queue};
+ghost use Rattle.call_run.specs.Families.{HasDone, HasHalf, HasPaths, IsFresh, IsOffFiles, IsOnFile, is_moving};
 
-use crate::closings::{is_closing, run_closing};
-use crate::files::{is_on_file, run_filed};
-use crate::names::{is_named, run_named};
+use file_calls::{
+    bind, close, connect, dup2, exec, fstat, ftruncate, lseek, open, pread, pwrite,
+    read as read_file, readdir, write as write_file,
+};
 use kabi_types::{Call, Errno, Memory, Need, Reply, Script, may_wait};
+use path_calls::{chdir, link, mkdir, rename, rmdir, stat, unlink};
 use posix_defs::Turned;
-use proc_files::{FileBuffer, MOST_MOVED};
-use process_calls::{fork, load, mmap, munmap, store, wait, would_sleep};
+use proc_files::{FileBuffer, MOST_MOVED, is_on_node};
+use proc_table::Place;
+use process_calls::{exit, fork, load, mmap, munmap, signal_process, store, wait, would_sleep};
 use prog_ctl::Awaited;
 use queue_calls::{
     Buffer, CAPACITY, accept, accept_would_block, dup, fcntl, listen, pipe, poll, poll_would_block,
-    read, read_would_block, shutdown, socket, socketpair, write, write_would_block,
+    read as read_queue, read_would_block, shutdown, socket, socketpair, write as write_queue,
+    write_would_block,
 };
 use std::alloc::Global;
 use store_objects::{Caller, Objects, Target, go_on, purse_for};
@@ -52,8 +65,57 @@ impl Buffers {
     }
 }
 
-/// Runs a call whose operands are right. Those that name nodes by their paths, close something, or have to do with files that are
-/// open go to their families; all others to `run_beside`.
+/// What a live process's call moves bytes of: a queue where it reads or writes a number that isn't open on a node, and else a file, or
+/// nothing. Of a file nobody has written a part, so that a write to one begins anew.
+fn target_of(objects: &Objects, place: Place, call: &Call) -> Target
+    requires kept { (script : Script) × AreKept script objects.now }
+    requires alive { IsAlive (procs_of objects.now) place.pid }
+    requires placed { IsPlaced objects.now.procs place }
+    ensures other { is_moving (kind_of call.now) ≡ false → result ≡ File }
+    ensures on { result ≡ File → IsOnFile objects.now.heap objects.now.procs place.pid call.now }
+    ensures off { result ≡ Queue → IsOffFiles objects.now.heap objects.now.procs place.pid call.now }
+    ensures fresh { result ≡ File → (script : Script) (world : World) → StandsFor script objects.now world → HasHalf world.plain.files place.pid call.now → IsFresh call.now }
+{
+    match call {
+        Call::Read { fd, .. } => moved_by(objects, place, *fd),
+        Call::Write { fd, .. } => moved_by(objects, place, *fd),
+        _ => Target::File,
+    }
+}
+
+/// What is moved through a number.
+fn moved_by(objects: &Objects, place: Place, fd: i64) -> Target
+    requires kept { (script : Script) × AreKept script objects.now }
+    requires alive { IsAlive (procs_of objects.now) place.pid }
+    requires placed { IsPlaced objects.now.procs place }
+    ensures on { result ≡ File → IsOnNode objects.now.heap objects.now.procs place.pid fd }
+    ensures off { result ≡ Queue → IsOffNodes objects.now.heap objects.now.procs place.pid fd }
+    ensures tells { result ≡ File → (script : Script) (world : World) → StandsFor script objects.now world
+        → plain_on_node world.plain.files (opened_at world.plain.files place.pid fd) ≡ true }
+{
+    if is_on_node(&objects.heap, &objects.procs, place, fd) {
+        Target::File
+    } else {
+        Target::Queue
+    }
+}
+
+/// Tells the caller a number.
+fn tell(script: &Script, objects: &mut Objects, caller: &Caller, value: u32) -> Turned
+    requires kept { AreKept script.now objects.old }
+    requires runs { Runs objects.old caller.now.place.pid caller.now.control }
+    requires placed { IsPlaced objects.old.procs caller.now.place }
+    ensures kept { AreKept script.now objects.new }
+    ensures told { result ≡ turned.Done (Val (pos value)) }
+    ensures takes { TakesNothing objects.old.heap objects.new.heap }
+    ensures goes { (world : World) → StandsFor script.now objects.old world
+        → StandsFor script.now objects.new (answered_in script.now world caller.now.place.pid (Val (pos value))) }
+{
+    go_on(script, objects, caller, Reply::Val(i64::from(value)))
+}
+
+/// Runs a call whose operands are right: the table of calls, a case for each, in their order. What the call makes and caches is paid
+/// from one purse; a call with which descriptions may go has besides what is kept back for closings.
 fn run_right(
     script: &Script,
     objects: &mut Objects,
@@ -62,8 +124,8 @@ fn run_right(
     call: &Call,
     need: Need,
 ) -> Turned
-    requires stands { (world : World) × StandsFor script.now objects.old world × IsSound world.plain × HasHalf world.plain.files caller.now.pid call.now }
-    requires caller { IsCaller objects.old caller.now.pid caller.now }
+    requires stands { (world : World) × StandsFor script.now objects.old world × IsSound world.plain × HasHalf world.plain.files caller.now.place.pid call.now }
+    requires caller { IsCaller objects.old caller.now.place.pid caller.now }
     requires right { argument_fault call.now ≡ None }
     requires paths { HasPaths call.now }
     requires so_far { HasDone call.now caller.now.control.done }
@@ -71,242 +133,87 @@ fn run_right(
     requires room { live_bytes objects.old.heap + bound call.now + reserve ≤ objects.old.heap.heap }
     ensures kept { AreKept script.now objects.new }
     ensures uses { UsesAtMost objects.old.heap objects.new.heap (bound call.now) (slack call.now) }
-    ensures does { Serves script.now objects.old caller.now.pid call.now (λ plain. answer_to script.now plain caller.now.pid call.now) result objects.new }
-    ensures cached { ReadsCached objects.old caller.now.pid call.now result objects.new }
+    ensures does { Serves script.now objects.old caller.now.place.pid call.now (λ plain. answer_to script.now plain caller.now.place.pid call.now) result objects.new }
+    ensures cached { ReadsCached objects.old caller.now.place.pid call.now result objects.new }
 {
-    if is_named(call) {
-        run_named(script, objects, caller, call, need)
-    } else if is_closing(call) {
-        run_closing(script, objects, caller, call)
-    } else if is_on_file(objects, caller.pid, call) {
-        run_filed(script, objects, &mut buffers.file, caller, call, need)
-    } else {
-        run_beside(script, objects, &mut buffers.queue, caller, call, need)
-    }
-}
-
-/// Runs a call beside the tree of files, whose operands are right: one that makes objects of a process or of its memory pays for
-/// them here, all others go to `run_others`.
-fn run_beside(
-    script: &Script,
-    objects: &mut Objects,
-    buffer: &mut Buffer,
-    caller: &Caller,
-    call: &Call,
-    need: Need,
-) -> Turned
-    requires stands { (world : World) × StandsFor script.now objects.old world }
-    requires caller { IsCaller objects.old caller.now.pid caller.now }
-    requires right { argument_fault call.now ≡ None }
-    requires unnamed { is_named (kind_of call.now) ≡ false }
-    requires stays { is_closing (kind_of call.now) ≡ false }
-    requires unfiled { is_filed (kind_of call.now) ≡ false }
-    requires off { IsOffFiles objects.old.heap objects.old.procs caller.now.pid call.now }
-    requires so_far { HasDone call.now caller.now.control.done }
-    requires needed { need ≡ need_of call.now }
-    requires room { live_bytes objects.old.heap + bound call.now ≤ objects.old.heap.heap }
-    ensures kept { AreKept script.now objects.new }
-    ensures uses { UsesAtMost objects.old.heap objects.new.heap (bound call.now) (slack call.now) }
-    ensures does { Performs script.now objects.old caller.now.pid call.now (λ plain. answer_to script.now plain caller.now.pid call.now) result objects.new }
-{
-    let pid = caller.pid;
-    let control = caller.control;
-    let mut purse = purse_for(need, Target::Queue);
+    let target = target_of(objects, caller.place, call);
+    let mut paid = purse_for(need, target);
+    let purse = &mut paid;
+    let file = &mut buffers.file;
     match call {
-        Call::Fork => fork(script, objects, &mut purse, pid, control),
-        Call::Mmap { length } => mmap(script, objects, &mut purse, pid, control, *length),
-        Call::Store { addr, bytes } => {
-            store(script, objects, &mut purse, pid, control, *addr, bytes)
-        }
-        _ => run_others(script, objects, buffer, caller, call, need),
-    }
-}
-
-/// Runs a call beside the tree of files that makes nothing of a process or of its memory, whose operands are right.
-fn run_others(
-    script: &Script,
-    objects: &mut Objects,
-    buffer: &mut Buffer,
-    caller: &Caller,
-    call: &Call,
-    need: Need,
-) -> Turned
-    requires stands { (world : World) × StandsFor script.now objects.old world }
-    requires caller { IsCaller objects.old caller.now.pid caller.now }
-    requires right { argument_fault call.now ≡ None }
-    requires unnamed { is_named (kind_of call.now) ≡ false }
-    requires stays { is_closing (kind_of call.now) ≡ false }
-    requires unfiled { is_filed (kind_of call.now) ≡ false }
-    requires off { IsOffFiles objects.old.heap objects.old.procs caller.now.pid call.now }
-    requires other { makes_memory (kind_of call.now) ≡ false }
-    requires so_far { HasDone call.now caller.now.control.done }
-    requires needed { need ≡ need_of call.now }
-    requires room { live_bytes objects.old.heap + bound call.now ≤ objects.old.heap.heap }
-    ensures kept { AreKept script.now objects.new }
-    ensures uses { UsesAtMost objects.old.heap objects.new.heap (bound call.now) (slack call.now) }
-    ensures does { Performs script.now objects.old caller.now.pid call.now (λ plain. answer_to script.now plain caller.now.pid call.now) result objects.new }
-{
-    if is_queued(call) {
-        run_queued(script, objects, buffer, caller, call, need)
-    } else if is_socketed(call) {
-        run_socketed(script, objects, caller, call, need)
-    } else {
-        run_free(script, objects, caller, call)
-    }
-}
-
-/// Whether a call makes a pipe, or moves bytes.
-fn is_queued(call: &Call) -> bool
-    ensures { result ≡ is_queued (kind_of call.now) }
-{
-    matches!(call, Call::Pipe | Call::Read { .. } | Call::Write { .. })
-}
-
-/// Whether a call makes sockets, takes one that waits, or changes how far one has come.
-fn is_socketed(call: &Call) -> bool
-    ensures { result ≡ is_socketed (kind_of call.now) }
-{
-    matches!(
-        call,
-        Call::Socket
-            | Call::Socketpair
-            | Call::Listen { .. }
-            | Call::Accept { .. }
-            | Call::Shutdown { .. }
-    )
-}
-
-/// Runs a call that makes a pipe or moves bytes through one or a socket, whose operands are right, and pays for its objects. It
-/// stands by itself, since a function pays for the room of all its locals whenever it is entered.
-#[inline(never)]
-fn run_queued(
-    script: &Script,
-    objects: &mut Objects,
-    buffer: &mut Buffer,
-    caller: &Caller,
-    call: &Call,
-    need: Need,
-) -> Turned
-    requires stands { (world : World) × StandsFor script.now objects.old world }
-    requires caller { IsCaller objects.old caller.now.pid caller.now }
-    requires right { argument_fault call.now ≡ None }
-    requires off { IsOffFiles objects.old.heap objects.old.procs caller.now.pid call.now }
-    requires among { is_queued (kind_of call.now) ≡ true }
-    requires so_far { HasDone call.now caller.now.control.done }
-    requires needed { need ≡ need_of call.now }
-    requires room { live_bytes objects.old.heap + bound call.now ≤ objects.old.heap.heap }
-    ensures kept { AreKept script.now objects.new }
-    ensures uses { UsesAtMost objects.old.heap objects.new.heap (bound call.now) (slack call.now) }
-    ensures does { Performs script.now objects.old caller.now.pid call.now (λ plain. answer_to script.now plain caller.now.pid call.now) result objects.new }
-{
-    let pid = caller.pid;
-    let control = caller.control;
-    let mut purse = purse_for(need, Target::Queue);
-    match call {
-        Call::Pipe => pipe(script, objects, &mut purse, pid, control),
-        Call::Read { fd, addr, n } => {
-            read(
-                script, objects, &mut purse, buffer, pid, control, *fd, *addr, *n,
-            )
-        }
-        Call::Write { fd, addr, n, done } => {
-            write(
-                script, objects, &mut purse, buffer, pid, control, *fd, *addr, *n, *done,
-            )
-        }
-        _ => unreachable!(),
-    }
-}
-
-/// Runs a call on sockets that moves no bytes, whose operands are right, and pays for its objects. It stands by itself, as
-/// `run_queued` does.
-#[inline(never)]
-fn run_socketed(
-    script: &Script,
-    objects: &mut Objects,
-    caller: &Caller,
-    call: &Call,
-    need: Need,
-) -> Turned
-    requires stands { (world : World) × StandsFor script.now objects.old world }
-    requires caller { IsCaller objects.old caller.now.pid caller.now }
-    requires right { argument_fault call.now ≡ None }
-    requires among { is_socketed (kind_of call.now) ≡ true }
-    requires needed { need ≡ need_of call.now }
-    requires room { live_bytes objects.old.heap + bound call.now ≤ objects.old.heap.heap }
-    ensures kept { AreKept script.now objects.new }
-    ensures uses { UsesAtMost objects.old.heap objects.new.heap (bound call.now) (slack call.now) }
-    ensures does { Performs script.now objects.old caller.now.pid call.now (λ plain. answer_to script.now plain caller.now.pid call.now) result objects.new }
-{
-    let pid = caller.pid;
-    let control = caller.control;
-    let mut purse = purse_for(need, Target::Queue);
-    match call {
-        Call::Socket => socket(script, objects, &mut purse, pid, control),
-        Call::Socketpair => socketpair(script, objects, &mut purse, pid, control),
-        Call::Listen { fd } => listen(script, objects, pid, control, *fd),
-        Call::Accept { fd } => accept(script, objects, &mut purse, pid, control, *fd),
-        Call::Shutdown { fd, how } => shutdown(script, objects, pid, control, *fd, *how),
-        _ => unreachable!(),
-    }
-}
-
-/// Runs a call on processes or memory that makes no object and ends nobody, whose operands are right; all others go to `run_open`.
-fn run_free(script: &Script, objects: &mut Objects, caller: &Caller, call: &Call) -> Turned
-    requires kept { AreKept script.now objects.old }
-    requires caller { IsCaller objects.old caller.now.pid caller.now }
-    requires right { argument_fault call.now ≡ None }
-    requires unnamed { is_named (kind_of call.now) ≡ false }
-    requires stays { is_closing (kind_of call.now) ≡ false }
-    requires unfiled { is_filed (kind_of call.now) ≡ false }
-    requires other { makes_memory (kind_of call.now) ≡ false }
-    requires queued { is_queued (kind_of call.now) ≡ false }
-    requires socketed { is_socketed (kind_of call.now) ≡ false }
-    ensures kept { AreKept script.now objects.new }
-    ensures uses { UsesAtMost objects.old.heap objects.new.heap 0 (slack call.now) }
-    ensures does { Performs script.now objects.old caller.now.pid call.now (λ plain. answer_to script.now plain caller.now.pid call.now) result objects.new }
-{
-    let pid = caller.pid;
-    let control = caller.control;
-    match call {
-        Call::Getpid => {
-            let reply = Reply::Val(i64::from(pid));
-            go_on(script, objects, pid, control, reply)
-        }
-        Call::Getppid => {
-            let reply = Reply::Val(i64::from(caller.parent));
-            go_on(script, objects, pid, control, reply)
-        }
-        Call::SchedYield => go_on(script, objects, pid, control, Reply::Val(0)),
-        Call::Waitpid {
-            pid: which,
-            options,
-        } => wait(script, objects, pid, control, *which, *options),
-        Call::Munmap { addr, length } => munmap(script, objects, pid, control, *addr, *length),
-        Call::Load { addr, n } => load(script, objects, pid, control, *addr, *n),
-        _ => run_open(script, objects, caller, call),
-    }
-}
-
-/// Runs a call on descriptors that neither makes nor closes anything, whose operands are right. It stands by itself, as `run_queued`
-/// does.
-#[inline(never)]
-fn run_open(script: &Script, objects: &mut Objects, caller: &Caller, call: &Call) -> Turned
-    requires kept { AreKept script.now objects.old }
-    requires caller { IsCaller objects.old caller.now.pid caller.now }
-    requires among { is_open (kind_of call.now) ≡ true }
-    ensures kept { AreKept script.now objects.new }
-    ensures uses { UsesAtMost objects.old.heap objects.new.heap 0 (slack call.now) }
-    ensures does { Performs script.now objects.old caller.now.pid call.now (λ plain. answer_to script.now plain caller.now.pid call.now) result objects.new }
-{
-    let pid = caller.pid;
-    let control = caller.control;
-    match call {
-        Call::Dup { fd } => dup(script, objects, pid, control, *fd),
-        Call::Fcntl { fd, cmd, arg } => fcntl(script, objects, pid, control, *fd, *cmd, *arg),
-        Call::Poll { timeout, entries } => poll(script, objects, pid, control, *timeout, entries),
-        // There is no other call.
-        _ => unreachable!(),
+        Call::Getpid => tell(script, objects, caller, caller.place.pid),
+        Call::Getppid => tell(script, objects, caller, caller.parent),
+        Call::SchedYield => tell(script, objects, caller, 0),
+        Call::Fork => fork(script, objects, purse, caller),
+        Call::Exec { path } => exec(script, objects, purse, caller, path.items()),
+        Call::Exit { status } => exit(objects, caller.place, *status),
+        Call::Waitpid { pid, options } => wait(script, objects, caller, *pid, *options),
+        Call::Kill { pid, signal } => signal_process(script, objects, caller, *pid, *signal),
+        Call::Mmap { length } => mmap(script, objects, purse, caller, *length),
+        Call::Munmap { addr, length } => munmap(script, objects, caller, *addr, *length),
+        Call::Store { addr, bytes } => store(script, objects, purse, caller, *addr, bytes),
+        Call::Load { addr, n } => load(script, objects, caller, *addr, *n),
+        Call::OpenFile { path, flags } => open(
+            script,
+            objects,
+            purse,
+            caller,
+            path.items(),
+            *flags,
+        ),
+        Call::Close { fd } => close(script, objects, caller, *fd),
+        Call::Dup { fd } => dup(script, objects, purse, caller, *fd),
+        Call::Dup2 { fd, to } => dup2(script, objects, purse, caller, *fd, *to),
+        Call::Fcntl { fd, cmd, arg } => fcntl(script, objects, purse, caller, *fd, *cmd, *arg),
+        Call::Read { fd, addr, n } => match target {
+            Target::File => read_file(script, objects, purse, file, caller, *fd, *addr, *n),
+            Target::Queue => {
+                let queue = &mut buffers.queue;
+                read_queue(script, objects, purse, queue, caller, *fd, *addr, *n)
+            }
+        },
+        Call::Write { fd, addr, n, done } => match target {
+            Target::File => write_file(script, objects, purse, file, caller, *fd, *addr, *n),
+            Target::Queue => {
+                let queue = &mut buffers.queue;
+                write_queue(script, objects, purse, queue, caller, *fd, *addr, *n, *done)
+            }
+        },
+        Call::Pread { fd, addr, n, at } => pread(
+            script, objects, purse, file, caller, *fd, *addr, *n, *at,
+        ),
+        Call::Pwrite { fd, addr, n, at } => pwrite(
+            script, objects, purse, file, caller, *fd, *addr, *n, *at,
+        ),
+        Call::Lseek { fd, offset, whence } => lseek(script, objects, caller, *fd, *offset, *whence),
+        Call::Readdir { fd, addr, n } => readdir(
+            script, objects, purse, file, caller, *fd, *addr, *n,
+        ),
+        Call::Ftruncate { fd, length } => ftruncate(script, objects, purse, caller, *fd, *length),
+        Call::Fstat { fd } => fstat(script, objects, caller, *fd),
+        Call::Stat { path } => stat(script, objects, purse, caller, path.items()),
+        Call::Chdir { path } => chdir(script, objects, purse, caller, path.items()),
+        Call::Mkdir { path } => mkdir(script, objects, purse, caller, path.items()),
+        Call::Rmdir { path } => rmdir(script, objects, purse, caller, path.items()),
+        Call::Unlink { path } => unlink(script, objects, purse, caller, path.items()),
+        Call::Link { old, new } => link(script, objects, purse, caller, old.items(), new.items()),
+        Call::Rename { old, new } => rename(
+            script,
+            objects,
+            purse,
+            caller,
+            old.items(),
+            new.items(),
+        ),
+        Call::Pipe => pipe(script, objects, purse, caller),
+        Call::Socket => socket(script, objects, purse, caller),
+        Call::Socketpair => socketpair(script, objects, purse, caller),
+        Call::Bind { fd, path } => bind(script, objects, purse, caller, *fd, path.items()),
+        Call::Listen { fd } => listen(script, objects, caller, *fd),
+        Call::Connect { fd, path } => connect(script, objects, purse, caller, *fd, path.items()),
+        Call::Accept { fd } => accept(script, objects, purse, caller, *fd),
+        Call::Shutdown { fd, how } => shutdown(script, objects, caller, *fd, *how),
+        Call::Poll { timeout, entries } => poll(script, objects, caller, *timeout, entries),
     }
 }
 
@@ -331,26 +238,20 @@ pub fn run(
     call: &Call,
     need: Need,
 ) -> Turned
-    requires stands { (world : World) × StandsFor script.now objects.old world × IsSound world.plain × HasHalf world.plain.files caller.now.pid call.now }
-    requires caller { IsCaller objects.old caller.now.pid caller.now }
+    requires stands { (world : World) × StandsFor script.now objects.old world × IsSound world.plain × HasHalf world.plain.files caller.now.place.pid call.now }
+    requires caller { IsCaller objects.old caller.now.place.pid caller.now }
     requires paths { HasPaths call.now }
     requires so_far { HasDone call.now caller.now.control.done }
     requires needed { need ≡ need_of call.now }
     requires room { live_bytes objects.old.heap + bound call.now + reserve ≤ objects.old.heap.heap }
     ensures kept { AreKept script.now objects.new }
     ensures uses { UsesAtMost objects.old.heap objects.new.heap (bound call.now) (slack call.now) }
-    ensures does { Serves script.now objects.old caller.now.pid call.now (λ plain. machine script.now plain caller.now.pid call.now) result objects.new }
-    ensures cached { ReadsCached objects.old caller.now.pid call.now result objects.new }
+    ensures does { Serves script.now objects.old caller.now.place.pid call.now (λ plain. machine script.now plain caller.now.place.pid call.now) result objects.new }
+    ensures cached { ReadsCached objects.old caller.now.place.pid call.now result objects.new }
 {
     match checked(call, &need) {
         Ok(()) => run_right(script, objects, buffers, caller, call, need),
-        Err(errno) => go_on(
-            script,
-            objects,
-            caller.pid,
-            caller.control,
-            Reply::Fail(errno),
-        ),
+        Err(errno) => go_on(script, objects, caller, Reply::Fail(errno)),
     }
 }
 
@@ -361,21 +262,23 @@ pub fn would_block(objects: &Objects, pid: u32, wait: Option<Awaited>) -> bool
     ensures { (script : Script) (world : World) → StandsFor script objects.now world
         → (call : Call) → wait ≡ wait_of call → result ≡ blocks (machine script world.plain pid call) }
 {
+    let Some(wait) = wait else {
+        return false;
+    };
+    let key = objects.key_there(pid);
+    let place = Place { pid, key };
     match wait {
-        Some(
-            Awaited::Child {
-                pid: child,
-                options,
-            },
-        ) => may_wait(child, options) && would_sleep(objects, pid, child, options),
-        Some(Awaited::Bytes { fd, addr, n }) => read_would_block(objects, pid, fd, addr, n),
-        Some(Awaited::Room { fd, addr, n, done }) => {
-            write_would_block(objects, pid, fd, addr, n, done)
+        Awaited::Child {
+            pid: child,
+            options,
+        } => may_wait(child, options) && would_sleep(objects, pid, child, options),
+        Awaited::Bytes { fd, addr, n } => read_would_block(objects, place, fd, addr, n),
+        Awaited::Room { fd, addr, n, done } => {
+            write_would_block(objects, place, fd, addr, n, done)
         }
-        Some(Awaited::Peer { fd }) => accept_would_block(objects, pid, fd),
-        Some(Awaited::Events { timeout, entries }) => {
-            poll_would_block(objects, pid, timeout, &entries)
+        Awaited::Peer { fd } => accept_would_block(objects, place, fd),
+        Awaited::Events { timeout, entries } => {
+            poll_would_block(objects, place, timeout, &entries)
         }
-        None => false,
     }
 }

@@ -2,10 +2,7 @@
 #![tactic(auto)]
 
 mod calls;
-mod closings;
-mod files;
 pub mod laws;
-mod names;
 mod sleepers;
 mod store;
 mod turns;

@@ -19,6 +19,7 @@ ghost use Rattle.call_run.specs.Stores.{IsAtRest, IsStoreOf};
 use crate::calls::{self, Buffers};
 use kabi_types::{Cached, Call, Errno, Need, Reply, Script};
 use posix_defs::{Asked, Turned};
+use proc_table::Place;
 use process_calls::{INIT, SIGKILL, end};
 use prog_ctl::Awaited;
 use store_objects::{Objects, go_on};
@@ -134,7 +135,7 @@ pub fn refuse(script: &Script, objects: &mut Objects, pid: u32)
         unreachable!();
     };
     let reply = Reply::Fail(Errno::ENOMEM);
-    let _ = go_on(script, objects, pid, caller.control, reply);
+    let _ = go_on(script, objects, &caller, reply);
     objects.heap.mark();
 }
 
@@ -173,7 +174,9 @@ fn end_other(objects: &mut Objects, pid: u32)
     if pid == INIT || !objects.runs(pid) {
         return;
     }
-    end(objects, pid, SIGKILL);
+    let key = objects.key_there(pid);
+    let place = Place { pid, key };
+    end(objects, place, SIGKILL);
     objects.heap_is_well_formed();
 }
 

@@ -6,13 +6,11 @@ ghost use Rattle.kheap_slabs.specs.Paid.{TakesNothing};
 ghost use Rattle.posix_defs.specs.Files.Descriptions.{may_write as plain_may_write};
 ghost use Rattle.posix_defs.specs.Files.State.{Files};
 ghost use Rattle.open_laws.specs.Placed.{Numbers};
-ghost use Rattle.open_laws.specs.Closing.{IsClosable, IsDroppable, Drops, TargetCloses, EndCloses, SocketCloses, QueuesChange};
+ghost use Rattle.open_laws.specs.Closing.{IsClosable, IsDroppable, Drops, TargetCloses, QueuesChange};
 ghost use Rattle.open_laws.specs.Described.{CountedList, access_in, counting, after_share, after_drop, node_in, node_left, descs_left};
 ghost use Rattle.open_laws.specs.Open.{AreOpen, files_dropped};
 ghost use Rattle.open_laws.specs.Owned.{HasItsOwners};
 ghost use Rattle.open_laws.specs.Sharing.{CanShare, after_shares, hand_with, share_all};
-ghost use Rattle.pipe_ends.specs.Standing.{HasEndAt};
-ghost use Rattle.usock_core.specs.Standing.{IsClosableIn};
 
 use kheap_slabs::{Access, Desc, Descriptor, KHeap, Target};
 use pipe_ends::close_end;
@@ -76,10 +74,10 @@ pub fn drop_desc(heap: &mut KHeap, desc: u32) -> Option<u32>
     let found = *heap.get_desc(desc);
     if found.count > 1 {
         name_less(heap, desc, found);
-        None
-    } else {
-        remove(heap, desc, found)
+        return None;
     }
+    let _gone = heap.free_desc(desc);
+    close_target(heap, found.access, found.target)
 }
 
 // One descriptor fewer names a description that another one names too.
@@ -98,26 +96,7 @@ fn name_less(heap: &mut KHeap, key: u32, found: Desc)
     );
 }
 
-// Takes a description out of the heap that nobody names any more, and closes what it was open on. The node that the caller
-// closes.
-fn remove(heap: &mut KHeap, key: u32, found: Desc) -> Option<u32>
-    requires owned { OwnsItsObjects heap.old }
-    requires there { object heap.old.descs key ≡ Some found }
-    requires last { found.count ≡ 1 }
-    requires closable { IsClosable heap.old found.access found.target }
-    ensures node { result ≡ node_in found.target }
-    ensures left { heap.new.descs ≡ descs_left heap.old.descs key found }
-    ensures closes { TargetCloses heap.old heap.new found.access found.target }
-    ensures owned { OwnsItsObjects heap.new }
-    ensures kept { heap.new
-        ≡ record heap.old { descs = heap.new.descs; pipes = heap.new.pipes; chunks = heap.new.chunks; socks = heap.new.socks } }
-    ensures takes { TakesNothing heap.old heap.new }
-{
-    let _gone = heap.free_desc(key);
-    close_target(heap, found.access, found.target)
-}
-
-// Closes what a description was open on, which is gone. The node that the caller closes.
+// Closes what a description was open on, which is gone: the end of a pipe, or a socket. The node that the caller closes.
 fn close_target(heap: &mut KHeap, access: Access, target: Target) -> Option<u32>
     requires owned { OwnsItsObjects heap.old }
     requires there { IsClosable heap.old access target }
@@ -131,41 +110,14 @@ fn close_target(heap: &mut KHeap, access: Access, target: Target) -> Option<u32>
     match target {
         Target::Inode(number) => Some(number),
         Target::Pipe(key) => {
-            close_pipe(heap, key, access);
+            close_end(heap, key, may_write(access));
             None
         }
         Target::Sock(key) => {
-            close_socket(heap, key);
+            close_sock(heap, key);
             None
         }
     }
-}
-
-// Closes the end of a pipe that was opened so.
-fn close_pipe(heap: &mut KHeap, key: u32, access: Access)
-    requires owned { OwnsItsObjects heap.old }
-    requires there { HasEndAt heap.old key (plain_may_write (access_in access)) }
-    ensures closes { EndCloses heap.old heap.new key (plain_may_write (access_in access)) }
-    ensures owned { OwnsItsObjects heap.new }
-    ensures descs { heap.new.descs ≡ heap.old.descs }
-    ensures kept { QueuesChange heap.old heap.new }
-    ensures takes { TakesNothing heap.old heap.new }
-{
-    let writing = may_write(access);
-    close_end(heap, key, writing);
-}
-
-// Closes a socket.
-fn close_socket(heap: &mut KHeap, key: u32)
-    requires owned { OwnsItsObjects heap.old }
-    requires there { IsClosableIn heap.old key }
-    ensures closes { SocketCloses heap.old heap.new key }
-    ensures owned { OwnsItsObjects heap.new }
-    ensures descs { heap.new.descs ≡ heap.old.descs }
-    ensures kept { QueuesChange heap.old heap.new }
-    ensures takes { TakesNothing heap.old heap.new }
-{
-    close_sock(heap, key);
 }
 
 // Whether what is opened so may be written.

@@ -33,6 +33,13 @@ can_pay h purse bytes room = subst (λ n. live_bytes h + n ≤ h.heap) (sym byte
 pub can_still : (old new : Heap) (before after : Purse) → IsPaid old before new after → CanPay old before → CanPay new after
 can_still old new before after paid can = CanPay-kept old new before after paid can
 
+-- what is kept back is there beside what a call may use
+pub room_kept : (h : Heap) (bytes : ℕ) → live_bytes h + bytes + reserve ≤ h.heap → live_bytes h + reserve ≤ h.heap
+room_kept h bytes room = less (live_bytes h) bytes h.heap room
+  where
+    less : (live bytes size : ℕ) → live + bytes + reserve ≤ size → live + reserve ≤ size
+    less live bytes size fits = omega (arith, fits)
+
 -- what is given back was used meanwhile alone
 pub uses_back : (old new : Heap) (before after : Purse) → after ≡ before → left_bytes before ≡ reserve → IsPaid old before new after → UsesAtMost old new 0 reserve
 uses_back old new before after same bytes paid = record {

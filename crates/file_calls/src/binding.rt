@@ -9,16 +9,17 @@ ghost use Rattle.memfs_ops.specs.FileTree.{MayWalk};
 ghost use Rattle.posix_defs.specs.Calls.OnSockets.{bind};
 ghost use Rattle.posix_defs.specs.Needs.{need_of};
 ghost use Rattle.posix_defs.specs.World.{World};
+ghost use Rattle.proc_table.specs.Table.{IsPlaced};
 ghost use Rattle.store_objects.specs.Objects.{AreKept, Runs};
 ghost use Rattle.store_objects.specs.Standing.{IsSound, StandsFor};
 ghost use Rattle.store_objects.specs.Walking.{Serves};
 
 use crate::replies::zero;
-use kabi_types::{Control, Script};
+use kabi_types::Script;
 use kheap_slabs::Purse;
 use posix_defs::Turned;
 use proc_files::bind_number;
-use store_objects::{Objects, go_on};
+use store_objects::{Caller, Objects, go_on};
 
 /// Gives the socket that a number is open on a new name in the tree of files.
 ///
@@ -27,24 +28,25 @@ use store_objects::{Objects, go_on};
 /// there is no room, else the faults of the walk.
 ///
 /// <https://pubs.opengroup.org/onlinepubs/9699919799/functions/bind.html>
+#[inline(never)]
 pub fn bind(
     script: &Script,
     objects: &mut Objects,
     purse: &mut Purse,
-    pid: u32,
-    control: Control,
+    caller: &Caller,
     fd: i64,
     path: &[u8],
 ) -> Turned
     requires stands { (world : World) × StandsFor script.now objects.old world × IsSound world.plain }
-    requires runs { Runs objects.old pid control }
+    requires runs { Runs objects.old caller.now.place.pid caller.now.control }
+    requires placed { IsPlaced objects.old.procs caller.now.place }
     requires right { argument_fault (Call.Bind fd path.now) ≡ None }
     requires bytes { All (λ byte. (0 < byte) × (byte < 2 ^ 8)) path.now }
     requires may { MayWalk objects.old.heap purse.old }
     requires needed { purse.old.left ≡ need_of (Call.Bind fd path.now) }
     ensures kept { AreKept script.now objects.new }
     ensures paid { IsPaid objects.old.heap purse.old objects.new.heap purse.new }
-    ensures does { Serves script.now objects.old pid (Call.Bind fd path.now) (λ plain. bind script.now plain pid fd path.now) result objects.new }
+    ensures does { Serves script.now objects.old caller.now.place.pid (Call.Bind fd path.now) (λ plain. bind script.now plain caller.now.place.pid fd path.now) result objects.new }
 {
     objects.heap_is_well_formed();
     let done = bind_number(
@@ -53,9 +55,9 @@ pub fn bind(
         &objects.procs,
         &mut objects.tree,
         &mut objects.names,
-        pid,
+        caller.place,
         fd,
         path,
     );
-    go_on(script, objects, pid, control, zero(done))
+    go_on(script, objects, caller, zero(done))
 }

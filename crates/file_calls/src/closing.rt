@@ -3,19 +3,23 @@
 ghost use Rattle.std.specs.Prelude.{◌≤◌, ◌+◌};
 ghost use Rattle.kabi_types.specs.declared.calls.Call.{Call};
 ghost use Rattle.kheap_slabs.specs.Heap.{live_bytes};
+ghost use Rattle.kheap_slabs.specs.Paid.{CanPay};
 ghost use Rattle.posix_defs.specs.Calls.OnDescriptors.{close, dup2};
+ghost use Rattle.posix_defs.specs.Needs.{bound};
 ghost use Rattle.posix_defs.specs.Sizes.{reserve};
 ghost use Rattle.posix_defs.specs.World.{World};
+ghost use Rattle.proc_table.specs.Table.{IsPlaced};
 ghost use Rattle.store_objects.specs.Objects.{AreKept, Runs};
 ghost use Rattle.store_objects.specs.Standing.{IsSound, StandsFor};
 ghost use Rattle.store_objects.specs.Uses.{UsesAtMost};
 ghost use Rattle.store_objects.specs.Walking.{Serves};
 
 use crate::replies::{value, zero};
-use kabi_types::{Control, Script};
+use kabi_types::Script;
+use kheap_slabs::Purse;
 use posix_defs::Turned;
 use proc_files::{close_number, dup_number};
-use store_objects::{Objects, go_on, kept_back};
+use store_objects::{Caller, Objects, go_on, kept_back};
 
 /// Closes a number; with the last that names it a description goes, and what it was open on. A file without links goes with the last
 /// description of it, and a socket has no name when it goes. EBADF where the number isn't open.
@@ -23,13 +27,15 @@ use store_objects::{Objects, go_on, kept_back};
 /// What this asks for of the heap meanwhile is kept back for it, and is given back.
 ///
 /// <https://pubs.opengroup.org/onlinepubs/9699919799/functions/close.html>
-pub fn close(script: &Script, objects: &mut Objects, pid: u32, control: Control, fd: i64) -> Turned
+#[inline(never)]
+pub fn close(script: &Script, objects: &mut Objects, caller: &Caller, fd: i64) -> Turned
     requires stands { (world : World) × StandsFor script.now objects.old world × IsSound world.plain }
-    requires runs { Runs objects.old pid control }
+    requires runs { Runs objects.old caller.now.place.pid caller.now.control }
+    requires placed { IsPlaced objects.old.procs caller.now.place }
     requires room { live_bytes objects.old.heap + reserve ≤ objects.old.heap.heap }
     ensures kept { AreKept script.now objects.new }
     ensures uses { UsesAtMost objects.old.heap objects.new.heap 0 reserve }
-    ensures does { Serves script.now objects.old pid (Call.Close fd) (λ plain. close script.now plain pid fd) result objects.new }
+    ensures does { Serves script.now objects.old caller.now.place.pid (Call.Close fd) (λ plain. close script.now plain caller.now.place.pid fd) result objects.new }
 {
     objects.heap_is_well_formed();
     let mut purse = kept_back();
@@ -39,10 +45,10 @@ pub fn close(script: &Script, objects: &mut Objects, pid: u32, control: Control,
         &objects.procs,
         &mut objects.tree,
         &mut objects.names,
-        pid,
+        caller.place,
         fd,
     );
-    go_on(script, objects, pid, control, zero(closed))
+    go_on(script, objects, caller, zero(closed))
 }
 
 /// Has a given number name what another names, and tells it; what it named before is closed, and nothing changes where both are
@@ -51,32 +57,36 @@ pub fn close(script: &Script, objects: &mut Objects, pid: u32, control: Control,
 /// What this asks for of the heap meanwhile is kept back for it, and is given back.
 ///
 /// <https://pubs.opengroup.org/onlinepubs/9699919799/functions/dup.html>
+#[inline(never)]
 pub fn dup2(
     script: &Script,
     objects: &mut Objects,
-    pid: u32,
-    control: Control,
+    purse: &mut Purse,
+    caller: &Caller,
     fd: i64,
     to: i64,
 ) -> Turned
     requires stands { (world : World) × StandsFor script.now objects.old world × IsSound world.plain }
-    requires runs { Runs objects.old pid control }
-    requires room { live_bytes objects.old.heap + reserve ≤ objects.old.heap.heap }
+    requires runs { Runs objects.old caller.now.place.pid caller.now.control }
+    requires placed { IsPlaced objects.old.procs caller.now.place }
+    requires pays { CanPay objects.old.heap purse.old }
+    requires room { live_bytes objects.old.heap + bound (Call.Dup2 fd to) + reserve ≤ objects.old.heap.heap }
     ensures kept { AreKept script.now objects.new }
-    ensures uses { UsesAtMost objects.old.heap objects.new.heap 0 reserve }
-    ensures does { Serves script.now objects.old pid (Call.Dup2 fd to) (λ plain. dup2 script.now plain pid fd to) result objects.new }
+    ensures uses { UsesAtMost objects.old.heap objects.new.heap (bound (Call.Dup2 fd to)) reserve }
+    ensures does { Serves script.now objects.old caller.now.place.pid (Call.Dup2 fd to) (λ plain. dup2 script.now plain caller.now.place.pid fd to) result objects.new }
 {
     objects.heap_is_well_formed();
-    let mut purse = kept_back();
+    let mut back = kept_back();
     let made = dup_number(
         &mut objects.heap,
-        &mut purse,
+        purse,
+        &mut back,
         &objects.procs,
         &mut objects.tree,
         &mut objects.names,
-        pid,
+        caller.place,
         fd,
         to,
     );
-    go_on(script, objects, pid, control, value(made))
+    go_on(script, objects, caller, value(made))
 }

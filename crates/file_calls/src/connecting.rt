@@ -8,16 +8,17 @@ ghost use Rattle.memfs_ops.specs.FileTree.{MayWalk};
 ghost use Rattle.posix_defs.specs.Calls.OnSockets.{connect};
 ghost use Rattle.posix_defs.specs.Needs.{need_of};
 ghost use Rattle.posix_defs.specs.World.{World};
+ghost use Rattle.proc_table.specs.Table.{IsPlaced};
 ghost use Rattle.store_objects.specs.Objects.{AreKept, Runs};
 ghost use Rattle.store_objects.specs.Standing.{IsSound, StandsFor};
 ghost use Rattle.store_objects.specs.Walking.{Serves};
 
 use crate::replies::zero;
-use kabi_types::{Control, Script};
+use kabi_types::Script;
 use kheap_slabs::Purse;
 use posix_defs::Turned;
 use proc_files::connect_number;
-use store_objects::{Objects, go_on};
+use store_objects::{Caller, Objects, go_on};
 
 /// Connects the socket that a number is open on to a new one, which waits behind the others for the socket that listens under a
 /// path.
@@ -27,23 +28,24 @@ use store_objects::{Objects, go_on};
 /// to no socket's name, nobody listens under it, or 8 wait.
 ///
 /// <https://pubs.opengroup.org/onlinepubs/9699919799/functions/connect.html>
+#[inline(never)]
 pub fn connect(
     script: &Script,
     objects: &mut Objects,
     purse: &mut Purse,
-    pid: u32,
-    control: Control,
+    caller: &Caller,
     fd: i64,
     path: &[u8],
 ) -> Turned
     requires stands { (world : World) × StandsFor script.now objects.old world × IsSound world.plain }
-    requires runs { Runs objects.old pid control }
+    requires runs { Runs objects.old caller.now.place.pid caller.now.control }
+    requires placed { IsPlaced objects.old.procs caller.now.place }
     requires right { argument_fault (Call.Connect fd path.now) ≡ None }
     requires may { MayWalk objects.old.heap purse.old }
     requires needed { purse.old.left ≡ need_of (Call.Connect fd path.now) }
     ensures kept { AreKept script.now objects.new }
     ensures paid { IsPaid objects.old.heap purse.old objects.new.heap purse.new }
-    ensures does { Serves script.now objects.old pid (Call.Connect fd path.now) (λ plain. connect script.now plain pid fd path.now) result objects.new }
+    ensures does { Serves script.now objects.old caller.now.place.pid (Call.Connect fd path.now) (λ plain. connect script.now plain caller.now.place.pid fd path.now) result objects.new }
 {
     objects.heap_is_well_formed();
     let done = connect_number(
@@ -52,9 +54,9 @@ pub fn connect(
         &objects.procs,
         &mut objects.tree,
         &objects.names,
-        pid,
+        caller.place,
         fd,
         path,
     );
-    go_on(script, objects, pid, control, zero(done))
+    go_on(script, objects, caller, zero(done))
 }

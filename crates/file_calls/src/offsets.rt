@@ -8,6 +8,7 @@ ghost use Rattle.memfs_ops.specs.Fetching.{MayFetch};
 ghost use Rattle.posix_defs.specs.Calls.OnFiles.{ftruncate, lseek};
 ghost use Rattle.posix_defs.specs.Needs.{need_of};
 ghost use Rattle.posix_defs.specs.World.{World};
+ghost use Rattle.proc_table.specs.Table.{IsPlaced};
 ghost use Rattle.store_objects.specs.Objects.{AreKept, Runs};
 ghost use Rattle.store_objects.specs.Purses.{need_for};
 ghost use Rattle.store_objects.specs.Standing.{IsSound, StandsFor};
@@ -15,11 +16,11 @@ ghost use Rattle.store_objects.specs.Walking.{Serves};
 ghost use Rattle.store_objects.specs.declared.purses.Target.TheVariants.{File};
 
 use crate::replies::{offset, zero};
-use kabi_types::{Control, Script};
+use kabi_types::Script;
 use kheap_slabs::Purse;
 use posix_defs::Turned;
 use proc_files::{seek_number, size_number};
-use store_objects::{Objects, go_on};
+use store_objects::{Caller, Objects, go_on};
 
 /// Has the description that a number names stand at another offset, counted from the beginning, from where it is, or from the end of
 /// what it is open on, and tells it.
@@ -28,33 +29,34 @@ use store_objects::{Objects, go_on};
 /// the greatest, EINVAL of one within an entry of a directory.
 ///
 /// <https://pubs.opengroup.org/onlinepubs/9699919799/functions/lseek.html>
+#[inline(never)]
 pub fn lseek(
     script: &Script,
     objects: &mut Objects,
-    pid: u32,
-    control: Control,
+    caller: &Caller,
     fd: i64,
     distance: i64,
     whence: i64,
 ) -> Turned
     requires stands { (world : World) × StandsFor script.now objects.old world × IsSound world.plain }
-    requires runs { Runs objects.old pid control }
+    requires runs { Runs objects.old caller.now.place.pid caller.now.control }
+    requires placed { IsPlaced objects.old.procs caller.now.place }
     requires right { argument_fault (Call.Lseek fd distance whence) ≡ None }
     ensures kept { AreKept script.now objects.new }
     ensures takes { TakesNothing objects.old.heap objects.new.heap }
-    ensures does { Serves script.now objects.old pid (Call.Lseek fd distance whence) (λ plain. lseek script.now plain pid fd distance whence) result objects.new }
+    ensures does { Serves script.now objects.old caller.now.place.pid (Call.Lseek fd distance whence) (λ plain. lseek script.now plain caller.now.place.pid fd distance whence) result objects.new }
 {
     objects.heap_is_well_formed();
     let sought = seek_number(
         &mut objects.heap,
         &objects.procs,
         &mut objects.tree,
-        pid,
+        caller.place,
         fd,
         distance,
         whence,
     );
-    go_on(script, objects, pid, control, offset(sought))
+    go_on(script, objects, caller, offset(sought))
 }
 
 /// The file that a number is open on gets another size; what it grows by is zeros.
@@ -63,23 +65,24 @@ pub fn lseek(
 /// greatest one, ENOSPC where there is no room.
 ///
 /// <https://pubs.opengroup.org/onlinepubs/9699919799/functions/ftruncate.html>
+#[inline(never)]
 pub fn ftruncate(
     script: &Script,
     objects: &mut Objects,
     purse: &mut Purse,
-    pid: u32,
-    control: Control,
+    caller: &Caller,
     fd: i64,
     size: i64,
 ) -> Turned
     requires stands { (world : World) × StandsFor script.now objects.old world × IsSound world.plain }
-    requires runs { Runs objects.old pid control }
+    requires runs { Runs objects.old caller.now.place.pid caller.now.control }
+    requires placed { IsPlaced objects.old.procs caller.now.place }
     requires right { argument_fault (Call.Ftruncate fd size) ≡ None }
     requires may { MayFetch objects.old.heap purse.old }
     requires needed { purse.old.left ≡ need_for File (need_of (Call.Ftruncate fd size)) }
     ensures kept { AreKept script.now objects.new }
     ensures paid { IsPaid objects.old.heap purse.old objects.new.heap purse.new }
-    ensures does { Serves script.now objects.old pid (Call.Ftruncate fd size) (λ plain. ftruncate script.now plain pid fd size) result objects.new }
+    ensures does { Serves script.now objects.old caller.now.place.pid (Call.Ftruncate fd size) (λ plain. ftruncate script.now plain caller.now.place.pid fd size) result objects.new }
 {
     objects.heap_is_well_formed();
     let done = size_number(
@@ -87,9 +90,9 @@ pub fn ftruncate(
         purse,
         &objects.procs,
         &mut objects.tree,
-        pid,
+        caller.place,
         fd,
         size,
     );
-    go_on(script, objects, pid, control, zero(done))
+    go_on(script, objects, caller, zero(done))
 }

@@ -9,16 +9,17 @@ ghost use Rattle.memfs_ops.specs.FileTree.{MayWalk};
 ghost use Rattle.posix_defs.specs.Calls.OnFiles.{open_file};
 ghost use Rattle.posix_defs.specs.Needs.{need_of};
 ghost use Rattle.posix_defs.specs.World.{World};
+ghost use Rattle.proc_table.specs.Table.{IsPlaced};
 ghost use Rattle.store_objects.specs.Objects.{AreKept, Runs};
 ghost use Rattle.store_objects.specs.Standing.{IsSound, StandsFor};
 ghost use Rattle.store_objects.specs.Walking.{Serves};
 
 use crate::replies::value;
-use kabi_types::{Control, Script};
+use kabi_types::Script;
 use kheap_slabs::Purse;
 use posix_defs::Turned;
 use proc_files::open_path;
-use store_objects::{Objects, go_on};
+use store_objects::{Caller, Objects, go_on};
 
 /// Has the lowest number that is free name a new description of what a path leads to, which may be made by the way (O_CREAT), and
 /// tells it.
@@ -28,24 +29,25 @@ use store_objects::{Objects, go_on};
 /// the faults of the walk.
 ///
 /// <https://pubs.opengroup.org/onlinepubs/9699919799/functions/open.html>
+#[inline(never)]
 pub fn open(
     script: &Script,
     objects: &mut Objects,
     purse: &mut Purse,
-    pid: u32,
-    control: Control,
+    caller: &Caller,
     path: &[u8],
     flags: i64,
 ) -> Turned
     requires stands { (world : World) × StandsFor script.now objects.old world × IsSound world.plain }
-    requires runs { Runs objects.old pid control }
+    requires runs { Runs objects.old caller.now.place.pid caller.now.control }
+    requires placed { IsPlaced objects.old.procs caller.now.place }
     requires right { argument_fault (Call.OpenFile path.now flags) ≡ None }
     requires bytes { All (λ byte. (0 < byte) × (byte < 2 ^ 8)) path.now }
     requires may { MayWalk objects.old.heap purse.old }
     requires needed { purse.old.left ≡ need_of (Call.OpenFile path.now flags) }
     ensures kept { AreKept script.now objects.new }
     ensures paid { IsPaid objects.old.heap purse.old objects.new.heap purse.new }
-    ensures does { Serves script.now objects.old pid (Call.OpenFile path.now flags) (λ plain. open_file script.now plain pid path.now flags) result objects.new }
+    ensures does { Serves script.now objects.old caller.now.place.pid (Call.OpenFile path.now flags) (λ plain. open_file script.now plain caller.now.place.pid path.now flags) result objects.new }
 {
     objects.heap_is_well_formed();
     let opened = open_path(
@@ -53,9 +55,9 @@ pub fn open(
         purse,
         &objects.procs,
         &mut objects.tree,
-        pid,
+        caller.place,
         path,
         flags,
     );
-    go_on(script, objects, pid, control, value(opened))
+    go_on(script, objects, caller, value(opened))
 }

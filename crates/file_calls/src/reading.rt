@@ -10,7 +10,8 @@ ghost use Rattle.memfs_ops.specs.Fetching.{MayFetch};
 ghost use Rattle.posix_defs.specs.Calls.Reading.{pread, read, readdir};
 ghost use Rattle.posix_defs.specs.Needs.{need_of};
 ghost use Rattle.posix_defs.specs.World.{World};
-ghost use Rattle.proc_files.specs.Reading.{IsOnNode};
+ghost use Rattle.proc_numbers.specs.Found.{IsOnNode};
+ghost use Rattle.proc_table.specs.Table.{IsPlaced};
 ghost use Rattle.store_objects.specs.Objects.{AreKept, Runs};
 ghost use Rattle.store_objects.specs.Purses.{need_for};
 ghost use Rattle.store_objects.specs.Standing.{IsSound, StandsFor};
@@ -18,11 +19,11 @@ ghost use Rattle.store_objects.specs.Walking.{Serves};
 ghost use Rattle.store_objects.specs.declared.purses.Target.TheVariants.{File};
 
 use crate::replies::value;
-use kabi_types::{Control, Script};
+use kabi_types::Script;
 use kheap_slabs::Purse;
 use posix_defs::Turned;
 use proc_files::{FileBuffer, pread_file, read_entries, read_file};
-use store_objects::{Objects, go_on};
+use store_objects::{Caller, Objects, go_on};
 
 /// Reads at most n bytes of the file that a number is open on into memory, from the description's offset on, as many as are there;
 /// the offset moves behind them. Tells how many; none are the end of the file.
@@ -31,27 +32,28 @@ use store_objects::{Objects, go_on};
 /// cached afterwards. EBADF where the number isn't open for reading, EISDIR of a directory, EFAULT where a page that n bytes would touch isn't mapped.
 ///
 /// <https://pubs.opengroup.org/onlinepubs/9699919799/functions/read.html>
+#[inline(never)]
 pub fn read(
     script: &Script,
     objects: &mut Objects,
     purse: &mut Purse,
     buffer: &mut FileBuffer,
-    pid: u32,
-    control: Control,
+    caller: &Caller,
     fd: i64,
     addr: i64,
     n: i64,
 ) -> Turned
     requires stands { (world : World) × StandsFor script.now objects.old world × IsSound world.plain }
-    requires runs { Runs objects.old pid control }
-    requires on { IsOnNode objects.old.heap objects.old.procs pid fd }
+    requires runs { Runs objects.old caller.now.place.pid caller.now.control }
+    requires placed { IsPlaced objects.old.procs caller.now.place }
+    requires on { IsOnNode objects.old.heap objects.old.procs caller.now.place.pid fd }
     requires right { argument_fault (Call.Read fd addr n) ≡ None }
     requires may { MayFetch objects.old.heap purse.old }
     requires needed { purse.old.left ≡ need_for File (need_of (Call.Read fd addr n)) }
     ensures kept { AreKept script.now objects.new }
     ensures paid { IsPaid objects.old.heap purse.old objects.new.heap purse.new }
-    ensures does { Serves script.now objects.old pid (Call.Read fd addr n) (λ plain. read script.now plain pid fd addr n) result objects.new }
-    ensures cached { AreBytesCached objects.old pid fd (λ (desc : HeldDesc). desc.offset) (told_count result) objects.new }
+    ensures does { Serves script.now objects.old caller.now.place.pid (Call.Read fd addr n) (λ plain. read script.now plain caller.now.place.pid fd addr n) result objects.new }
+    ensures cached { AreBytesCached objects.old caller.now.place.pid fd (λ (desc : HeldDesc). desc.offset) (told_count result) objects.new }
 {
     objects.heap_is_well_formed();
     let moved = read_file(
@@ -60,12 +62,12 @@ pub fn read(
         &objects.procs,
         &mut objects.tree,
         buffer,
-        pid,
+        caller.place,
         fd,
         addr,
         n,
     );
-    go_on(script, objects, pid, control, value(moved))
+    go_on(script, objects, caller, value(moved))
 }
 
 /// Reads at most n bytes of the file that a number is open on into memory, from a place of the file on, as many as are there; the
@@ -75,27 +77,28 @@ pub fn read(
 /// bytes would touch isn't mapped.
 ///
 /// <https://pubs.opengroup.org/onlinepubs/9699919799/functions/pread.html>
+#[inline(never)]
 pub fn pread(
     script: &Script,
     objects: &mut Objects,
     purse: &mut Purse,
     buffer: &mut FileBuffer,
-    pid: u32,
-    control: Control,
+    caller: &Caller,
     fd: i64,
     addr: i64,
     n: i64,
     at: i64,
 ) -> Turned
     requires stands { (world : World) × StandsFor script.now objects.old world × IsSound world.plain }
-    requires runs { Runs objects.old pid control }
+    requires runs { Runs objects.old caller.now.place.pid caller.now.control }
+    requires placed { IsPlaced objects.old.procs caller.now.place }
     requires right { argument_fault (Call.Pread fd addr n at) ≡ None }
     requires may { MayFetch objects.old.heap purse.old }
     requires needed { purse.old.left ≡ need_for File (need_of (Call.Pread fd addr n at)) }
     ensures kept { AreKept script.now objects.new }
     ensures paid { IsPaid objects.old.heap purse.old objects.new.heap purse.new }
-    ensures does { Serves script.now objects.old pid (Call.Pread fd addr n at) (λ plain. pread script.now plain pid fd addr n at) result objects.new }
-    ensures cached { AreBytesCached objects.old pid fd (λ (desc : HeldDesc). count_of at) (told_count result) objects.new }
+    ensures does { Serves script.now objects.old caller.now.place.pid (Call.Pread fd addr n at) (λ plain. pread script.now plain caller.now.place.pid fd addr n at) result objects.new }
+    ensures cached { AreBytesCached objects.old caller.now.place.pid fd (λ (desc : HeldDesc). count_of at) (told_count result) objects.new }
 {
     objects.heap_is_well_formed();
     let moved = pread_file(
@@ -104,13 +107,13 @@ pub fn pread(
         &objects.procs,
         &mut objects.tree,
         buffer,
-        pid,
+        caller.place,
         fd,
         addr,
         n,
         at,
     );
-    go_on(script, objects, pid, control, value(moved))
+    go_on(script, objects, caller, value(moved))
 }
 
 /// Reads entries of the directory that a number is open on into memory, of 32 bytes each, from the description's offset on, as many
@@ -120,26 +123,27 @@ pub fn pread(
 /// EFAULT where a page that n bytes would touch isn't mapped.
 ///
 /// <https://pubs.opengroup.org/onlinepubs/9699919799/functions/readdir.html>
+#[inline(never)]
 pub fn readdir(
     script: &Script,
     objects: &mut Objects,
     purse: &mut Purse,
     buffer: &mut FileBuffer,
-    pid: u32,
-    control: Control,
+    caller: &Caller,
     fd: i64,
     addr: i64,
     n: i64,
 ) -> Turned
     requires stands { (world : World) × StandsFor script.now objects.old world × IsSound world.plain }
-    requires runs { Runs objects.old pid control }
+    requires runs { Runs objects.old caller.now.place.pid caller.now.control }
+    requires placed { IsPlaced objects.old.procs caller.now.place }
     requires right { argument_fault (Call.Readdir fd addr n) ≡ None }
     requires may { MayFetch objects.old.heap purse.old }
     requires needed { purse.old.left ≡ need_for File (need_of (Call.Readdir fd addr n)) }
     ensures kept { AreKept script.now objects.new }
     ensures paid { IsPaid objects.old.heap purse.old objects.new.heap purse.new }
-    ensures does { Serves script.now objects.old pid (Call.Readdir fd addr n) (λ plain. readdir script.now plain pid fd addr n) result objects.new }
-    ensures cached { AreBytesCached objects.old pid fd (λ (desc : HeldDesc). desc.offset) (told_count result) objects.new }
+    ensures does { Serves script.now objects.old caller.now.place.pid (Call.Readdir fd addr n) (λ plain. readdir script.now plain caller.now.place.pid fd addr n) result objects.new }
+    ensures cached { AreBytesCached objects.old caller.now.place.pid fd (λ (desc : HeldDesc). desc.offset) (told_count result) objects.new }
 {
     objects.heap_is_well_formed();
     let moved = read_entries(
@@ -148,10 +152,10 @@ pub fn readdir(
         &objects.procs,
         &mut objects.tree,
         buffer,
-        pid,
+        caller.place,
         fd,
         addr,
         n,
     );
-    go_on(script, objects, pid, control, value(moved))
+    go_on(script, objects, caller, value(moved))
 }

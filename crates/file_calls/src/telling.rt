@@ -4,28 +4,37 @@ ghost use Rattle.kabi_types.specs.declared.calls.Call.{Call};
 ghost use Rattle.kheap_slabs.specs.Paid.{TakesNothing};
 ghost use Rattle.posix_defs.specs.Calls.OnFiles.{fstat};
 ghost use Rattle.posix_defs.specs.World.{World};
+ghost use Rattle.proc_table.specs.Table.{IsPlaced};
 ghost use Rattle.store_objects.specs.Objects.{AreKept, Runs};
 ghost use Rattle.store_objects.specs.Standing.{IsSound, StandsFor};
 ghost use Rattle.store_objects.specs.Walking.{Serves};
 
 use crate::replies::stat;
-use kabi_types::{Control, Script};
+use kabi_types::Script;
 use posix_defs::Turned;
 use proc_files::stat_number;
-use store_objects::{Objects, go_on};
+use store_objects::{Caller, Objects, go_on};
 
 /// Tells what a number is open on: all of a file or a directory, and of a pipe or a socket only that it is one. EBADF where the
 /// number isn't open.
 ///
 /// <https://pubs.opengroup.org/onlinepubs/9699919799/functions/fstat.html>
-pub fn fstat(script: &Script, objects: &mut Objects, pid: u32, control: Control, fd: i64) -> Turned
+#[inline(never)]
+pub fn fstat(script: &Script, objects: &mut Objects, caller: &Caller, fd: i64) -> Turned
     requires stands { (world : World) × StandsFor script.now objects.old world × IsSound world.plain }
-    requires runs { Runs objects.old pid control }
+    requires runs { Runs objects.old caller.now.place.pid caller.now.control }
+    requires placed { IsPlaced objects.old.procs caller.now.place }
     ensures kept { AreKept script.now objects.new }
     ensures takes { TakesNothing objects.old.heap objects.new.heap }
-    ensures does { Serves script.now objects.old pid (Call.Fstat fd) (λ plain. fstat script.now plain pid fd) result objects.new }
+    ensures does { Serves script.now objects.old caller.now.place.pid (Call.Fstat fd) (λ plain. fstat script.now plain caller.now.place.pid fd) result objects.new }
 {
     objects.heap_is_well_formed();
-    let told = stat_number(&objects.heap, &objects.procs, &mut objects.tree, pid, fd);
-    go_on(script, objects, pid, control, stat(told))
+    let told = stat_number(
+        &objects.heap,
+        &objects.procs,
+        &mut objects.tree,
+        caller.place,
+        fd,
+    );
+    go_on(script, objects, caller, stat(told))
 }

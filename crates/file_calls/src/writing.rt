@@ -8,7 +8,8 @@ ghost use Rattle.memfs_ops.specs.Fetching.{MayFetch};
 ghost use Rattle.posix_defs.specs.Calls.Writing.{pwrite, write};
 ghost use Rattle.posix_defs.specs.Needs.{need_of};
 ghost use Rattle.posix_defs.specs.World.{World};
-ghost use Rattle.proc_files.specs.Reading.{IsOnNode};
+ghost use Rattle.proc_numbers.specs.Found.{IsOnNode};
+ghost use Rattle.proc_table.specs.Table.{IsPlaced};
 ghost use Rattle.store_objects.specs.Objects.{AreKept, Runs};
 ghost use Rattle.store_objects.specs.Purses.{need_for};
 ghost use Rattle.store_objects.specs.Standing.{IsSound, StandsFor};
@@ -16,11 +17,11 @@ ghost use Rattle.store_objects.specs.Walking.{Serves};
 ghost use Rattle.store_objects.specs.declared.purses.Target.TheVariants.{File};
 
 use crate::replies::value;
-use kabi_types::{Control, Script};
+use kabi_types::Script;
 use kheap_slabs::Purse;
 use posix_defs::Turned;
 use proc_files::{FileBuffer, pwrite_file, write_file};
-use store_objects::{Objects, go_on};
+use store_objects::{Caller, Objects, go_on};
 
 /// Writes n bytes of memory to the file that a number is open on, at the description's offset, or at the file's end where it was
 /// opened so (O_APPEND), as many as there is room for; the offset moves behind them. Tells how many. No part of it was done before,
@@ -30,26 +31,27 @@ use store_objects::{Objects, go_on};
 /// behind the greatest size, ENOSPC where there is no room for one byte.
 ///
 /// <https://pubs.opengroup.org/onlinepubs/9699919799/functions/write.html>
+#[inline(never)]
 pub fn write(
     script: &Script,
     objects: &mut Objects,
     purse: &mut Purse,
     buffer: &mut FileBuffer,
-    pid: u32,
-    control: Control,
+    caller: &Caller,
     fd: i64,
     addr: i64,
     n: i64,
 ) -> Turned
     requires stands { (world : World) × StandsFor script.now objects.old world × IsSound world.plain }
-    requires runs { Runs objects.old pid control }
-    requires on { IsOnNode objects.old.heap objects.old.procs pid fd }
+    requires runs { Runs objects.old caller.now.place.pid caller.now.control }
+    requires placed { IsPlaced objects.old.procs caller.now.place }
+    requires on { IsOnNode objects.old.heap objects.old.procs caller.now.place.pid fd }
     requires right { argument_fault (Call.Write fd addr n 0) ≡ None }
     requires may { MayFetch objects.old.heap purse.old }
     requires needed { purse.old.left ≡ need_for File (need_of (Call.Write fd addr n 0)) }
     ensures kept { AreKept script.now objects.new }
     ensures paid { IsPaid objects.old.heap purse.old objects.new.heap purse.new }
-    ensures does { Serves script.now objects.old pid (Call.Write fd addr n 0) (λ plain. write script.now plain pid fd addr n 0) result objects.new }
+    ensures does { Serves script.now objects.old caller.now.place.pid (Call.Write fd addr n 0) (λ plain. write script.now plain caller.now.place.pid fd addr n 0) result objects.new }
 {
     objects.heap_is_well_formed();
     let moved = write_file(
@@ -58,12 +60,12 @@ pub fn write(
         &objects.procs,
         &mut objects.tree,
         buffer,
-        pid,
+        caller.place,
         fd,
         addr,
         n,
     );
-    go_on(script, objects, pid, control, value(moved))
+    go_on(script, objects, caller, value(moved))
 }
 
 /// Writes n bytes of memory to the file that a number is open on, at a place of it, whatever O_APPEND says, as many as there is room
@@ -73,26 +75,27 @@ pub fn write(
 /// bytes isn't mapped, EFBIG where the place is at or behind the greatest size, ENOSPC where there is no room for one byte.
 ///
 /// <https://pubs.opengroup.org/onlinepubs/9699919799/functions/pwrite.html>
+#[inline(never)]
 pub fn pwrite(
     script: &Script,
     objects: &mut Objects,
     purse: &mut Purse,
     buffer: &mut FileBuffer,
-    pid: u32,
-    control: Control,
+    caller: &Caller,
     fd: i64,
     addr: i64,
     n: i64,
     at: i64,
 ) -> Turned
     requires stands { (world : World) × StandsFor script.now objects.old world × IsSound world.plain }
-    requires runs { Runs objects.old pid control }
+    requires runs { Runs objects.old caller.now.place.pid caller.now.control }
+    requires placed { IsPlaced objects.old.procs caller.now.place }
     requires right { argument_fault (Call.Pwrite fd addr n at) ≡ None }
     requires may { MayFetch objects.old.heap purse.old }
     requires needed { purse.old.left ≡ need_for File (need_of (Call.Pwrite fd addr n at)) }
     ensures kept { AreKept script.now objects.new }
     ensures paid { IsPaid objects.old.heap purse.old objects.new.heap purse.new }
-    ensures does { Serves script.now objects.old pid (Call.Pwrite fd addr n at) (λ plain. pwrite script.now plain pid fd addr n at) result objects.new }
+    ensures does { Serves script.now objects.old caller.now.place.pid (Call.Pwrite fd addr n at) (λ plain. pwrite script.now plain caller.now.place.pid fd addr n at) result objects.new }
 {
     objects.heap_is_well_formed();
     let moved = pwrite_file(
@@ -101,11 +104,11 @@ pub fn pwrite(
         &objects.procs,
         &mut objects.tree,
         buffer,
-        pid,
+        caller.place,
         fd,
         addr,
         n,
         at,
     );
-    go_on(script, objects, pid, control, value(moved))
+    go_on(script, objects, caller, value(moved))
 }

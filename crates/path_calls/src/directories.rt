@@ -1,6 +1,6 @@
 //! Directories that are made and that go: `mkdir` and `rmdir`.
 
-ghost use Rattle.std.specs.Prelude.{◌≡◌, ◌≤◌, ◌<◌, ◌^◌, None};
+ghost use Rattle.std.specs.Prelude.{◌≡◌, ◌<◌, ◌^◌, None};
 ghost use Rattle.std.specs.List.{All};
 ghost use Rattle.kabi_types.specs.Arguments.{argument_fault};
 ghost use Rattle.kabi_types.specs.declared.calls.Call.{Call};
@@ -9,41 +9,43 @@ ghost use Rattle.memfs_ops.specs.FileTree.{MayWalk};
 ghost use Rattle.posix_defs.specs.Calls.OnNames.{mkdir, rmdir};
 ghost use Rattle.posix_defs.specs.Needs.{need_of};
 ghost use Rattle.posix_defs.specs.World.{World};
+ghost use Rattle.proc_table.specs.Table.{IsPlaced};
 ghost use Rattle.store_objects.specs.Objects.{AreKept, Runs};
 ghost use Rattle.store_objects.specs.Standing.{StandsFor};
 ghost use Rattle.store_objects.specs.Walking.{Reaches};
 
 use crate::replies::done;
-use kabi_types::{Control, Script};
+use kabi_types::Script;
 use kheap_slabs::Purse;
 use posix_defs::Turned;
-use store_objects::{Objects, directory_of, go_on};
+use store_objects::{Caller, Objects, directory_of, go_on};
 
 /// Makes a directory without entries. EEXIST where something is under its name, ENOSPC where there is no room, else the faults of
 /// its path.
 ///
 /// <https://pubs.opengroup.org/onlinepubs/9699919799/functions/mkdir.html>
+#[inline(never)]
 pub fn mkdir(
     script: &Script,
     objects: &mut Objects,
     purse: &mut Purse,
-    pid: u32,
-    control: Control,
+    caller: &Caller,
     path: &[u8],
 ) -> Turned
     requires stands { (world : World) × StandsFor script.now objects.old world }
-    requires runs { Runs objects.old pid control }
+    requires runs { Runs objects.old caller.now.place.pid caller.now.control }
+    requires placed { IsPlaced objects.old.procs caller.now.place }
     requires right { argument_fault (Call.Mkdir path.now) ≡ None }
     requires bytes { All (λ byte. (0 < byte) × (byte < 2 ^ 8)) path.now }
     requires may { MayWalk objects.old.heap purse.old }
     requires needed { purse.old.left ≡ need_of (Call.Mkdir path.now) }
     ensures kept { AreKept script.now objects.new }
     ensures paid { IsPaid objects.old.heap purse.old objects.new.heap purse.new }
-    ensures does { Reaches script.now objects.old pid (Call.Mkdir path.now) (λ plain. mkdir script.now plain pid path.now) result objects.new }
+    ensures does { Reaches script.now objects.old caller.now.place.pid (Call.Mkdir path.now) (λ plain. mkdir script.now plain caller.now.place.pid path.now) result objects.new }
 {
-    let cwd = directory_of(objects, pid);
+    let cwd = directory_of(objects, caller.place);
     let made = objects.tree.make_dir(&mut objects.heap, purse, cwd, path);
-    go_on(script, objects, pid, control, done(made))
+    go_on(script, objects, caller, done(made))
 }
 
 /// Takes a directory without entries away. EINVAL and ENOTEMPTY where its path ends in `.` and `..`, ENOTEMPTY where it has entries,
@@ -55,22 +57,22 @@ pub fn rmdir(
     script: &Script,
     objects: &mut Objects,
     purse: &mut Purse,
-    pid: u32,
-    control: Control,
+    caller: &Caller,
     path: &[u8],
 ) -> Turned
     requires stands { (world : World) × StandsFor script.now objects.old world }
-    requires runs { Runs objects.old pid control }
+    requires runs { Runs objects.old caller.now.place.pid caller.now.control }
+    requires placed { IsPlaced objects.old.procs caller.now.place }
     requires right { argument_fault (Call.Rmdir path.now) ≡ None }
     requires may { MayWalk objects.old.heap purse.old }
     requires needed { purse.old.left ≡ need_of (Call.Rmdir path.now) }
     ensures kept { AreKept script.now objects.new }
     ensures paid { IsPaid objects.old.heap purse.old objects.new.heap purse.new }
-    ensures does { Reaches script.now objects.old pid (Call.Rmdir path.now) (λ plain. rmdir script.now plain pid path.now) result objects.new }
+    ensures does { Reaches script.now objects.old caller.now.place.pid (Call.Rmdir path.now) (λ plain. rmdir script.now plain caller.now.place.pid path.now) result objects.new }
 {
-    let cwd = directory_of(objects, pid);
+    let cwd = directory_of(objects, caller.place);
     let gone = objects
         .tree
         .remove_dir(&mut objects.heap, purse, cwd, path);
-    go_on(script, objects, pid, control, done(gone))
+    go_on(script, objects, caller, done(gone))
 }

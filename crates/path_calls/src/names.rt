@@ -1,6 +1,6 @@
 //! Names that go, and that nodes get: `unlink`, `link` and `rename`.
 
-ghost use Rattle.std.specs.Prelude.{◌≡◌, ◌≤◌, ◌<◌, ◌^◌, None};
+ghost use Rattle.std.specs.Prelude.{◌≡◌, ◌<◌, ◌^◌, None};
 ghost use Rattle.std.specs.List.{All};
 ghost use Rattle.kabi_types.specs.Arguments.{argument_fault};
 ghost use Rattle.kabi_types.specs.declared.calls.Call.{Call};
@@ -9,45 +9,47 @@ ghost use Rattle.memfs_ops.specs.FileTree.{MayWalk};
 ghost use Rattle.posix_defs.specs.Calls.OnNames.{link, rename, unlink};
 ghost use Rattle.posix_defs.specs.Needs.{need_of};
 ghost use Rattle.posix_defs.specs.World.{World};
+ghost use Rattle.proc_table.specs.Table.{IsPlaced};
 ghost use Rattle.store_objects.specs.Objects.{AreKept, Runs};
 ghost use Rattle.store_objects.specs.Standing.{IsSound, StandsFor};
 ghost use Rattle.store_objects.specs.Walking.{Reaches, Serves};
 
 use crate::replies::{done, freed, gone_reply};
-use kabi_types::{Control, Script};
+use kabi_types::Script;
 use kheap_slabs::Purse;
 use posix_defs::Turned;
 use proc_files::name_freed;
-use store_objects::{Objects, directory_of, go_on};
+use store_objects::{Caller, Objects, directory_of, go_on};
 
 /// Takes a name away, and with the last one its node, but for a file that a description opens. A socket that was bound to the node
 /// keeps no name. EPERM where it is a directory, ENOENT where the name is free, else the faults of its path.
 ///
 /// <https://pubs.opengroup.org/onlinepubs/9699919799/functions/unlink.html>
+#[inline(never)]
 pub fn unlink(
     script: &Script,
     objects: &mut Objects,
     purse: &mut Purse,
-    pid: u32,
-    control: Control,
+    caller: &Caller,
     path: &[u8],
 ) -> Turned
     requires stands { (world : World) × StandsFor script.now objects.old world × IsSound world.plain }
-    requires runs { Runs objects.old pid control }
+    requires runs { Runs objects.old caller.now.place.pid caller.now.control }
+    requires placed { IsPlaced objects.old.procs caller.now.place }
     requires right { argument_fault (Call.Unlink path.now) ≡ None }
     requires may { MayWalk objects.old.heap purse.old }
     requires needed { purse.old.left ≡ need_of (Call.Unlink path.now) }
     ensures kept { AreKept script.now objects.new }
     ensures paid { IsPaid objects.old.heap purse.old objects.new.heap purse.new }
-    ensures does { Serves script.now objects.old pid (Call.Unlink path.now) (λ plain. unlink script.now plain pid path.now) result objects.new }
+    ensures does { Serves script.now objects.old caller.now.place.pid (Call.Unlink path.now) (λ plain. unlink script.now plain caller.now.place.pid path.now) result objects.new }
 {
-    let cwd = directory_of(objects, pid);
+    let cwd = directory_of(objects, caller.place);
     let gone = objects
         .tree
         .remove_name(&mut objects.heap, purse, cwd, path);
     objects.heap_is_well_formed();
     name_freed(&mut objects.heap, &mut objects.names, freed(&gone));
-    go_on(script, objects, pid, control, gone_reply(gone))
+    go_on(script, objects, caller, gone_reply(gone))
 }
 
 /// Gives a node that is no directory a further name. EPERM where it is one, EEXIST where something is under the new name, ENOENT
@@ -55,30 +57,31 @@ pub fn unlink(
 /// paths.
 ///
 /// <https://pubs.opengroup.org/onlinepubs/9699919799/functions/link.html>
+#[inline(never)]
 pub fn link(
     script: &Script,
     objects: &mut Objects,
     purse: &mut Purse,
-    pid: u32,
-    control: Control,
+    caller: &Caller,
     old: &[u8],
     new: &[u8],
 ) -> Turned
     requires stands { (world : World) × StandsFor script.now objects.old world }
-    requires runs { Runs objects.old pid control }
+    requires runs { Runs objects.old caller.now.place.pid caller.now.control }
+    requires placed { IsPlaced objects.old.procs caller.now.place }
     requires right { argument_fault (Call.Link old.now new.now) ≡ None }
     requires bytes { All (λ byte. (0 < byte) × (byte < 2 ^ 8)) new.now }
     requires may { MayWalk objects.old.heap purse.old }
     requires needed { purse.old.left ≡ need_of (Call.Link old.now new.now) }
     ensures kept { AreKept script.now objects.new }
     ensures paid { IsPaid objects.old.heap purse.old objects.new.heap purse.new }
-    ensures does { Reaches script.now objects.old pid (Call.Link old.now new.now) (λ plain. link script.now plain pid old.now new.now) result objects.new }
+    ensures does { Reaches script.now objects.old caller.now.place.pid (Call.Link old.now new.now) (λ plain. link script.now plain caller.now.place.pid old.now new.now) result objects.new }
 {
-    let cwd = directory_of(objects, pid);
+    let cwd = directory_of(objects, caller.place);
     let linked = objects
         .tree
         .link_name(&mut objects.heap, purse, cwd, old, new);
-    go_on(script, objects, pid, control, done(linked))
+    go_on(script, objects, caller, done(linked))
 }
 
 /// Gives the node of one path the name of another, which loses the node that it had; a socket that was bound to that one keeps no
@@ -93,26 +96,26 @@ pub fn rename(
     script: &Script,
     objects: &mut Objects,
     purse: &mut Purse,
-    pid: u32,
-    control: Control,
+    caller: &Caller,
     old: &[u8],
     new: &[u8],
 ) -> Turned
     requires stands { (world : World) × StandsFor script.now objects.old world × IsSound world.plain }
-    requires runs { Runs objects.old pid control }
+    requires runs { Runs objects.old caller.now.place.pid caller.now.control }
+    requires placed { IsPlaced objects.old.procs caller.now.place }
     requires right { argument_fault (Call.Rename old.now new.now) ≡ None }
     requires bytes { All (λ byte. (0 < byte) × (byte < 2 ^ 8)) new.now }
     requires may { MayWalk objects.old.heap purse.old }
     requires needed { purse.old.left ≡ need_of (Call.Rename old.now new.now) }
     ensures kept { AreKept script.now objects.new }
     ensures paid { IsPaid objects.old.heap purse.old objects.new.heap purse.new }
-    ensures does { Serves script.now objects.old pid (Call.Rename old.now new.now) (λ plain. rename script.now plain pid old.now new.now) result objects.new }
+    ensures does { Serves script.now objects.old caller.now.place.pid (Call.Rename old.now new.now) (λ plain. rename script.now plain caller.now.place.pid old.now new.now) result objects.new }
 {
-    let cwd = directory_of(objects, pid);
+    let cwd = directory_of(objects, caller.place);
     let renamed = objects
         .tree
         .rename_name(&mut objects.heap, purse, cwd, old, new);
     objects.heap_is_well_formed();
     name_freed(&mut objects.heap, &mut objects.names, freed(&renamed));
-    go_on(script, objects, pid, control, gone_reply(renamed))
+    go_on(script, objects, caller, gone_reply(renamed))
 }

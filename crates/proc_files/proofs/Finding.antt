@@ -16,7 +16,7 @@ use Rattle.proc_numbers.specs.Having.{AreListed, places_in}
 use Rattle.proc_numbers.specs.Naming.{named_by, places_of}
 use Rattle.proc_numbers.proofs.Listing.{found_before}
 use Rattle.proc_table.proofs.PlaceLemmas.{key_of-proc, some_same}
-use Rattle.proc_files.specs.Reading.{IsOffNodes, IsOnNode}
+use Rattle.proc_numbers.specs.Found.{IsOffNodes, IsOnNode}
 
 pub tells_target : (numbers : Numbers) (files : Files) (what : Target) → is_some (node_in what) ≡ is_some (node_of files (target_in numbers what))
 tells_target numbers files (target.Inode number) = refl

@@ -33,7 +33,7 @@ use Rattle.proc_table.proofs.PlaceLemmas.{some_same}
 use Rattle.proc_numbers.specs.Found.{opened_in}
 use Rattle.proc_numbers.specs.declared.lookups.Found.{Found}
 use Rattle.proc_numbers.proofs.NamedOpen.{described_so}
-use Rattle.proc_files.specs.Reading.{IsOnNode}
+use Rattle.proc_numbers.specs.Found.{IsOnNode}
 use Rattle.proc_files.specs.Holding.{CachesStay, HoldFiles, HoldSome, IsHeldIn}
 use Rattle.proc_files.specs.Holders.{AreOpenNodes, holders, IsOpenNode, times}
 use Rattle.proc_files.proofs.Moved.{have_moved, with_it}

@@ -10,6 +10,7 @@ pub mod WriteAnswers
 pub mod Puts
 pub mod Closings
 pub mod Closed
+pub mod OneClosed
 pub mod Written
 pub mod Lengths
 pub mod WriteLeads

@@ -1,7 +1,7 @@
 -- A number names a description that is open: heap, table, tree and names go on standing for files.
-use Rattle.std.proofs.Common.{◌≡◌, ℕ, ◌+◌, List, Option, ap, subst, sym}
+use Rattle.std.proofs.Common.{◌≡◌, ◌≤◌, ℕ, ◌+◌, List, Option, ap, subst, sym, arith}
 use Rattle.kheap_slabs.specs.declared.objects.Sock.{Sock}
-use Rattle.kheap_slabs.specs.Heap.{Heap}
+use Rattle.kheap_slabs.specs.Heap.{Heap, live_bytes}
 use Rattle.memfs_ops.specs.FileTree.{TreeView}
 use Rattle.open_laws.specs.Placed.{Numbers}
 use Rattle.posix_defs.specs.Files.Descriptors.{Descriptor}
@@ -14,6 +14,9 @@ use Rattle.proc_files.proofs.Holding.{same_pins, stands_on}
 use Rattle.proc_files.proofs.Openings.{same_nodes}
 use Rattle.proc_files.specs.Names.{AreBound, name_of}
 use Rattle.proc_files.specs.NameHolding.{HoldNames}
+use Rattle.kheap_laws.proofs.PaidLemmas.{IsPaid-bytes}
+use Rattle.kheap_slabs.specs.Paid.{CanPay, IsPaid}
+use Rattle.kheap_slabs.specs.Purse.{Purse, left_bytes}
 
 -- a share leaves the caches
 caches_shared : (old new : Heap) → new ≡ record old { procs = new.procs; descs = new.descs } → CachesStay old new
@@ -42,3 +45,12 @@ hold_named numbers others old new kept fs names files pid fd descriptor beside h
   named = record { bound = hold.named.bound; waiting = hold.named.waiting };
   places = hold.places;
 }
+
+-- what another purse may spend is there still where one was used and is as it was
+pub can_pay_beside : (old new : Heap) (before after purse : Purse) → IsPaid old before new after → after ≡ before → CanPay old purse → CanPay new purse
+can_pay_beside old new before after purse paid same can =
+    let bytes : live_bytes new + left_bytes after ≤ live_bytes old + left_bytes before = IsPaid-bytes old new before after paid in
+    let left : left_bytes after ≡ left_bytes before = ap left_bytes same in
+    let size : new.heap ≡ old.heap = paid.heap in
+    let room : live_bytes old + left_bytes purse ≤ old.heap = can in
+    omega (arith, bytes, left, size, room)

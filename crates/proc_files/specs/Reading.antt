@@ -1,5 +1,5 @@
 -- Bytes of a node that are put in a process's memory, and which machine a call leads to.
-use Rattle.std.specs.Prelude.{ℕ, ◌+◌, ◌-◌, ◌/◌, ◌<◌, ◌≤◌, ◌≡◌, ℤ, Bool, true, List, Option, None, Some, IsSome, Result, Ok, Err}
+use Rattle.std.specs.Prelude.{ℕ, ◌+◌, ◌-◌, ◌/◌, ◌<◌, ◌≤◌, ◌≡◌, ℤ, Bool, true, List, Option, Some, Result, Ok, Err}
 use Rattle.std.specs.List.{AllByRecursion}
 use Rattle.kabi_types.specs.Arguments.{count_of}
 use Rattle.kabi_types.specs.declared.calls.Call.{Call}
@@ -17,7 +17,6 @@ use Rattle.memfs_file.specs.Ranges.{asked_to_read}
 use Rattle.cached_disk.specs.Lent.{IsCached}
 use Rattle.memfs_ops.specs.Fetching.{Fetches, IsFile}
 use Rattle.memfs_ops.specs.FileTree.{Stands, TreeView}
-use Rattle.open_laws.specs.Described.{node_in}
 use Rattle.page_space.specs.Entries.{IsMappedRange}
 use Rattle.page_space.specs.Putting.{Puts}
 use Rattle.open_laws.specs.Placed.{Numbers}
@@ -37,16 +36,6 @@ use Rattle.proc_numbers.specs.Standing.{StandsFor}
 use Rattle.proc_table.specs.Standing.{IsTable}
 use Rattle.proc_table.specs.Table.{TableView}
 use Rattle.proc_files.specs.Holding.{HoldFiles}
-
--- a number of a process that is open is open on a node
-abbrev pub IsOnNode : Heap → TableView → ℕ → ℤ → Type 0
-IsOnNode h kept pid fd =
-    (held : HeldDescriptor) (desc : Desc) → named_by h kept pid fd ≡ Some held → object h.descs held.desc ≡ Some desc → IsSome (node_in desc.target)
-
--- it is open on a pipe or a socket
-abbrev pub IsOffNodes : Heap → TableView → ℕ → ℤ → Type 0
-IsOffNodes h kept pid fd =
-    (held : HeldDescriptor) (desc : Desc) → named_by h kept pid fd ≡ Some held → object h.descs held.desc ≡ Some desc → node_in desc.target ≡ None
 
 -- ---- ranges of memory
 

@@ -1,6 +1,6 @@
 //! `bind`.
 
-ghost use Rattle.std.specs.Prelude.{◌≡◌, ◌<◌, ◌≤◌, ◌^◌, ℕ, [], IsSome, OnErr, length};
+ghost use Rattle.std.specs.Prelude.{◌≡◌, ◌<◌, ◌≤◌, ◌^◌, ℕ, [], OnErr, length};
 ghost use Rattle.std.specs.List.{All};
 ghost use Rattle.cached_disk.specs.TreeLent.{with_cached};
 ghost use Rattle.kabi_types.specs.Arguments.{path_fault};
@@ -12,7 +12,7 @@ ghost use Rattle.open_laws.specs.Placed.{Numbers};
 ghost use Rattle.posix_defs.specs.Calls.OnSockets.{bind};
 ghost use Rattle.posix_defs.specs.Plain.{Plain};
 ghost use Rattle.posix_defs.specs.Process.{directory_of as plain_directory};
-ghost use Rattle.proc_table.specs.Table.{key_of};
+ghost use Rattle.proc_table.specs.Table.{IsPlaced};
 ghost use Rattle.proc_numbers.specs.Having.{AreListed};
 ghost use Rattle.proc_numbers.specs.Queues.{QueuesStand};
 ghost use Rattle.proc_numbers.specs.Answering.{zero_of};
@@ -26,7 +26,7 @@ use kabi_types::Errno;
 use kheap_slabs::{KHeap, Purse};
 use memfs_ops::FileTree;
 use proc_numbers::socket_of;
-use proc_table::ProcTable;
+use proc_table::{Place, ProcTable};
 use usock_core::can_bind;
 
 /// The socket that a number of a process is open on gets a new name in the tree of files.
@@ -42,22 +42,22 @@ pub fn bind_number(
     procs: &ProcTable,
     tree: &mut FileTree,
     names: &mut BoundTable,
-    pid: u32,
+    place: Place,
     fd: i64,
     path: &[u8],
 ) -> Result<(), Errno>
     requires listed { AreListed heap.old procs.now }
     requires owners { HasItsOwners heap.old [] }
-    requires there { IsSome (key_of procs.now.listed pid) }
-    requires hold { WorksInSome heap.old procs.now tree.old names.old pid }
+    requires there { IsPlaced procs.now place }
+    requires hold { WorksInSome heap.old procs.now tree.old names.old place.pid }
     requires path { path_fault path.now ≡ None }
     requires bytes { All (λ byte. (0 < byte) × (byte < 2 ^ 8)) path.now }
     requires may { MayWalk heap.old purse.old }
     ensures answers { (numbers : Numbers) (others : ℕ → ℕ) (script : Script) (plain : Plain)
         → HoldNames numbers others heap.old procs.now tree.old names.old plain.files
-        → WorksAt heap.old procs.now pid (plain_directory plain.table pid)
-        → AnswersNaming numbers others heap.new procs.now tree.new names.new script plain pid
-        (bind script plain pid fd path.now) (zero_of result) }
+        → WorksAt heap.old procs.now place.pid (plain_directory plain.table place.pid)
+        → AnswersNaming numbers others heap.new procs.now tree.new names.new script plain place.pid
+        (bind script plain place.pid fd path.now) (zero_of result) }
     ensures listed { AreListed heap.new procs.now }
     ensures owners { HasItsOwners heap.new [] }
     ensures changes { NamesChange heap.old heap.new }
@@ -69,9 +69,9 @@ pub fn bind_number(
     ensures fills { HasFills heap.new purse.new }
     ensures reads { tree.old.disk.reads ≤ tree.new.disk.reads }
 {
-    let found = socket_of(heap, procs, pid, fd)?;
+    let found = socket_of(heap, procs, place, fd)?;
     can_bind(heap, found.key)?;
-    let cwd = directory_of(heap, procs, pid);
+    let cwd = directory_of(heap, procs, place);
     let node = tree.bind_name(heap, purse, cwd, path)?;
     give_name(heap, names, found.key, node);
     Ok(())

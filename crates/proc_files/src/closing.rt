@@ -1,6 +1,6 @@
 //! `close`, and what is closed with a number, where a socket may lose its name.
 
-ghost use Rattle.std.specs.Prelude.{◌≡◌, ◌<◌, ◌≤◌, ℕ, [], IfSome, IsSome, None, OnErr, length};
+ghost use Rattle.std.specs.Prelude.{◌≡◌, ◌<◌, ◌≤◌, ℕ, [], IfSome, None, OnErr, length};
 ghost use Rattle.std.specs.List.{Contains};
 ghost use Rattle.kabi_types.specs.declared.scripts.Script.{Script};
 ghost use Rattle.kheap_slabs.specs.Paid.{IsPaid, TakesNothing};
@@ -13,7 +13,7 @@ ghost use Rattle.posix_defs.specs.Files.Closing.{after_close};
 ghost use Rattle.posix_defs.specs.Files.State.{Files};
 ghost use Rattle.posix_defs.specs.Plain.{Plain};
 ghost use Rattle.kabi_types.specs.Arguments.{most_descriptors};
-ghost use Rattle.proc_table.specs.Table.{key_of};
+ghost use Rattle.proc_table.specs.Table.{IsPlaced};
 ghost use Rattle.proc_numbers.specs.Having.{AreListed, node_closed};
 ghost use Rattle.proc_numbers.specs.Naming.{named_at, named_by};
 ghost use Rattle.proc_numbers.specs.Queues.{QueuesStand};
@@ -29,8 +29,8 @@ use bound_table::BoundTable;
 use kabi_types::Errno;
 use kheap_slabs::{KHeap, Purse, Target};
 use memfs_ops::FileTree;
-use proc_numbers::{count_of, descriptor_of, places_of};
-use proc_table::ProcTable;
+use proc_numbers::{close_one, count_of, descriptor_of, places_of};
+use proc_table::{Place, ProcTable};
 
 /// A process closes a number, whatever it is open on. With the last descriptor that names it a description goes, and what it was
 /// open on is closed; a file without links goes with the last description of it, and a socket has no name when it goes.
@@ -45,38 +45,41 @@ pub fn close_number(
     procs: &ProcTable,
     tree: &mut FileTree,
     names: &mut BoundTable,
-    pid: u32,
+    place: Place,
     fd: i64,
 ) -> Result<(), Errno>
     requires listed { AreListed heap.old procs.now }
     requires owners { HasItsOwners heap.old [] }
-    requires there { IsSome (key_of procs.now.listed pid) }
+    requires there { IsPlaced procs.now place }
     requires hold { HoldSomeNames heap.old procs.now tree.old names.old }
     requires may { MayClose heap.old purse.old }
     ensures answers { (numbers : Numbers) (others : ℕ → ℕ) (script : Script) (plain : Plain)
         → HoldNames numbers others heap.old procs.now tree.old names.old plain.files
-        → AnswersNaming numbers others heap.new procs.now tree.new names.new script plain pid (close script plain pid fd) (zero_of result) }
+        → AnswersNaming numbers others heap.new procs.now tree.new names.new script plain place.pid (close script plain place.pid fd) (zero_of result) }
     ensures listed { AreListed heap.new procs.now }
     ensures owners { HasItsOwners heap.new [] }
     ensures hold { HoldSomeNames heap.new procs.now tree.new names.new }
-    ensures changes { ChangesHolding heap.old heap.new procs.now pid }
+    ensures changes { ChangesHolding heap.old heap.new procs.now place.pid }
     ensures places { length names.new ≡ length names.old }
     ensures queues { QueuesStand heap.old heap.new }
     ensures unchanged { OnErr result ((heap.new ≡ heap.old) × (tree.new ≡ tree.old) × (names.new ≡ names.old)) }
     ensures same { purse.new ≡ purse.old }
     ensures paid { IsPaid heap.old purse.old heap.new purse.new }
     ensures reads { tree.old.disk.reads ≤ tree.new.disk.reads }
-    ensures stays { node_closed heap.old.descs (named_by heap.old procs.now pid fd) ≡ None → tree.new ≡ tree.old }
+    ensures stays { node_closed heap.old.descs (named_by heap.old procs.now place.pid fd) ≡ None → tree.new ≡ tree.old }
 {
-    let Some(_held) = descriptor_of(heap, procs, pid, fd) else {
+    let Some(_held) = descriptor_of(heap, procs, place, fd) else {
         return Err(Errno::EBADF);
     };
     let number = count_of(fd) as u32;
-    close_open(heap, purse, procs, tree, names, pid, number);
+    close_open(heap, purse, procs, tree, names, place, number);
     Ok(())
 }
 
-/// A process has a number open no more, whatever it was open on. One that isn't open changes nothing.
+/// A process has a number open no more, whatever it was open on: `close`, `dup2`, `exec` and the end of a process close by this.
+///
+/// A socket that goes has no name before. With the last descriptor that names it a description goes, and what it was open on is
+/// closed; a file without links goes with the last description of it. A number that isn't open changes nothing.
 ///
 /// The purse pays for the blocks that this asks for, and is then as it was.
 pub(crate) fn close_open(
@@ -85,46 +88,49 @@ pub(crate) fn close_open(
     procs: &ProcTable,
     tree: &mut FileTree,
     names: &mut BoundTable,
-    pid: u32,
+    place: Place,
     fd: u32,
 )
     requires listed { AreListed heap.old procs.now }
     requires owners { HasItsOwners heap.old [] }
-    requires there { IsSome (key_of procs.now.listed pid) }
+    requires there { IsPlaced procs.now place }
     requires number { fd < most_descriptors }
     requires hold { HoldSomeNames heap.old procs.now tree.old names.old }
     requires may { MayClose heap.old purse.old }
     ensures closed { (numbers : Numbers) (others : ℕ → ℕ) (files : Files)
         → HoldNames numbers others heap.old procs.now tree.old names.old files
-        → HoldNames numbers others heap.new procs.now tree.new names.new (after_close files pid fd) }
+        → HoldNames numbers others heap.new procs.now tree.new names.new (after_close files place.pid fd) }
     ensures listed { AreListed heap.new procs.now }
     ensures owners { HasItsOwners heap.new [] }
     ensures hold { HoldSomeNames heap.new procs.now tree.new names.new }
-    ensures closes { ClosesHolding heap.old heap.new procs.now pid fd }
+    ensures closes { ClosesHolding heap.old heap.new procs.now place.pid fd }
     ensures places { length names.new ≡ length names.old }
     ensures queues { QueuesStand heap.old heap.new }
     ensures same { purse.new ≡ purse.old }
     ensures may { MayClose heap.new purse.new }
     ensures paid { IsPaid heap.old purse.old heap.new purse.new }
     ensures reads { tree.old.disk.reads ≤ tree.new.disk.reads }
-    ensures stays { node_closed heap.old.descs (named_at heap.old procs.now pid fd) ≡ None → tree.new ≡ tree.old }
+    ensures stays { node_closed heap.old.descs (named_at heap.old procs.now place.pid fd) ≡ None → tree.new ≡ tree.old }
     ensures cached { KeepsCached tree.old tree.new }
 {
-    unname_going(heap, procs, names, pid, fd);
-    crate::node_closing::close_unbound(heap, purse, procs, tree, pid, fd);
+    unname_going(heap, procs, names, place, fd);
+    let Some(node) = close_one(heap, procs, place, fd) else {
+        return;
+    };
+    tree.close_node(heap, purse, node);
 }
 
 // The socket that goes with a number of a process, if one does, has no name from now on.
-fn unname_going(heap: &mut KHeap, procs: &ProcTable, names: &mut BoundTable, pid: u32, fd: u32)
+fn unname_going(heap: &mut KHeap, procs: &ProcTable, names: &mut BoundTable, place: Place, fd: u32)
     requires listed { AreListed heap.old procs.now }
     requires owners { HasItsOwners heap.old [] }
-    requires there { IsSome (key_of procs.now.listed pid) }
+    requires there { IsPlaced procs.now place }
     requires number { fd < most_descriptors }
     requires bound { AreBound (name_of heap.old.socks) names.old }
     ensures hold { (numbers : Numbers) (others : ℕ → ℕ) (fs : TreeView) (files : Files)
         → HoldNames numbers others heap.old procs.now fs names.old files
         → HoldNames numbers others heap.new procs.now fs names.new
-        (unnamed numbers files (socket_going heap.old.descs (named_at heap.old procs.now pid fd))) }
+        (unnamed numbers files (socket_going heap.old.descs (named_at heap.old procs.now place.pid fd))) }
     ensures owners { HasItsOwners heap.new [] }
     ensures places { length names.new ≡ length names.old }
     ensures beside { heap.new
@@ -132,7 +138,7 @@ fn unname_going(heap: &mut KHeap, procs: &ProcTable, names: &mut BoundTable, pid
     ensures queues { QueuesStand heap.old heap.new }
     ensures takes { TakesNothing heap.old heap.new }
 {
-    let Some(key) = socket_going(heap, procs, pid, fd) else {
+    let Some(key) = socket_going(heap, procs, place, fd) else {
         return;
     };
     let Some(node) = heap.get_sock(key).node else {
@@ -142,15 +148,15 @@ fn unname_going(heap: &mut KHeap, procs: &ProcTable, names: &mut BoundTable, pid
 }
 
 // The socket that goes with a number of a process, if one does.
-fn socket_going(heap: &KHeap, procs: &ProcTable, pid: u32, fd: u32) -> Option<u32>
+fn socket_going(heap: &KHeap, procs: &ProcTable, place: Place, fd: u32) -> Option<u32>
     requires listed { AreListed heap.now procs.now }
     requires owners { HasItsOwners heap.now [] }
-    requires there { IsSome (key_of procs.now.listed pid) }
+    requires there { IsPlaced procs.now place }
     requires number { fd < most_descriptors }
-    ensures going { result ≡ socket_going heap.now.descs (named_at heap.now procs.now pid fd) }
+    ensures going { result ≡ socket_going heap.now.descs (named_at heap.now procs.now place.pid fd) }
     ensures there { IfSome result (Contains (socks_named heap.now.descs)) }
 {
-    let places = places_of(heap, procs, pid);
+    let places = places_of(heap, procs, place);
     let held = places[fd as usize]?;
     let desc = heap.get_desc(held.desc);
     if desc.count == 1 {

@@ -1,6 +1,6 @@
 //! `connect`.
 
-ghost use Rattle.std.specs.Prelude.{◌≡◌, ◌<◌, ◌≤◌, ℕ, [], List, Option, None, IsOk, IsSome, OnErr, OnOk};
+ghost use Rattle.std.specs.Prelude.{◌≡◌, ◌<◌, ◌≤◌, ℕ, [], List, Option, None, IsOk, OnErr, OnOk};
 ghost use Rattle.std.specs.Option.{ForSome};
 ghost use Rattle.kabi_types.specs.Arguments.{path_fault};
 ghost use Rattle.kabi_types.specs.declared.scripts.Script.{Script};
@@ -16,7 +16,7 @@ ghost use Rattle.posix_defs.specs.Plain.{Plain};
 ghost use Rattle.posix_defs.specs.Process.{directory_of as plain_directory};
 ghost use Rattle.posix_defs.specs.Sockets.{Sockets};
 ghost use Rattle.posix_defs.specs.Tree.{Tree};
-ghost use Rattle.proc_table.specs.Table.{key_of};
+ghost use Rattle.proc_table.specs.Table.{IsPlaced};
 ghost use Rattle.proc_numbers.specs.Having.{AreListed};
 ghost use Rattle.proc_numbers.specs.Queues.{QueuesStand};
 ghost use Rattle.proc_numbers.specs.Answering.{zero_of};
@@ -31,7 +31,7 @@ use kabi_types::Errno;
 use kheap_slabs::{KHeap, Purse, SockState};
 use memfs_ops::FileTree;
 use proc_numbers::socket_of;
-use proc_table::ProcTable;
+use proc_table::{Place, ProcTable};
 use usock_core::{can_connect, connect};
 
 /// The socket that a number of a process is open on is connected to a new one, which waits behind the others for the socket that
@@ -50,22 +50,22 @@ pub fn connect_number(
     procs: &ProcTable,
     tree: &mut FileTree,
     names: &BoundTable,
-    pid: u32,
+    place: Place,
     fd: i64,
     path: &[u8],
 ) -> Result<(), Errno>
     requires listed { AreListed heap.old procs.now }
     requires owners { HasItsOwners heap.old [] }
-    requires there { IsSome (key_of procs.now.listed pid) }
-    requires hold { WorksInSome heap.old procs.now tree.old names.now pid }
+    requires there { IsPlaced procs.now place }
+    requires hold { WorksInSome heap.old procs.now tree.old names.now place.pid }
     requires path { path_fault path.now ≡ None }
     requires may { MayWalk heap.old purse.old }
     requires left { 0 < purse.old.left.sock }
     ensures answers { (numbers : Numbers) (others : ℕ → ℕ) (script : Script) (plain : Plain)
         → HoldNames numbers others heap.old procs.now tree.old names.now plain.files
-        → WorksAt heap.old procs.now pid (plain_directory plain.table pid)
-        → AnswersConnecting numbers others heap.old heap.new procs.now tree.new names.now script plain pid
-        (plain_connect script plain pid fd path.now) (zero_of result) }
+        → WorksAt heap.old procs.now place.pid (plain_directory plain.table place.pid)
+        → AnswersConnecting numbers others heap.old heap.new procs.now tree.new names.now script plain place.pid
+        (plain_connect script plain place.pid fd path.now) (zero_of result) }
     ensures listed { AreListed heap.new procs.now }
     ensures owners { HasItsOwners heap.new [] }
     ensures changes { NamesChange heap.old heap.new }
@@ -76,19 +76,19 @@ pub fn connect_number(
     ensures reads { tree.old.disk.reads ≤ tree.new.disk.reads }
     ensures bytes { tree.new.disk.blocks ≡ tree.old.disk.blocks }
     ensures saved { (plain : Tree) (pins : ℕ → ℕ) (directory : ℕ) → Stands heap.old tree.old plain pins
-        → WorksAt heap.old procs.now pid directory
+        → WorksAt heap.old procs.now place.pid directory
         → KnowsWay (in_call heap.old purse.old tree.old) plain directory path.now
         → tree.new.disk ≡ tree.old.disk }
     ensures kept { (plain : Tree) (pins : ℕ → ℕ) (directory : ℕ) → Stands heap.old tree.old plain pins
-        → WorksAt heap.old procs.now pid directory
+        → WorksAt heap.old procs.now place.pid directory
         → OnOk result (KeepsLed tree.new (resolve plain directory path.now)) }
     ensures found { (plain : Tree) (pins : ℕ → ℕ) (directory : ℕ) → Stands heap.old tree.old plain pins
-        → WorksAt heap.old procs.now pid directory
+        → WorksAt heap.old procs.now place.pid directory
         → OnOk result (IsOk (node_led (resolve plain directory path.now))) }
 {
-    let found = socket_of(heap, procs, pid, fd)?;
+    let found = socket_of(heap, procs, place, fd)?;
     can_connect(heap, found.key)?;
-    let cwd = directory_of(heap, procs, pid);
+    let cwd = directory_of(heap, procs, place);
     let node = tree.find_name(heap, purse, cwd, path)?;
     let listener = listener_under(heap, names, node);
     connect(heap, purse, found.key, listener)

@@ -1,6 +1,6 @@
 //! What a process has open is closed at its end, and by `exec`.
 
-ghost use Rattle.std.specs.Prelude.{◌≡◌, ◌<◌, ◌≤◌, ℕ, [], IsSome, false, if◌then◌else◌, is_none, length, true};
+ghost use Rattle.std.specs.Prelude.{◌≡◌, ◌<◌, ◌≤◌, ℕ, [], false, if◌then◌else◌, is_none, length, true};
 ghost use Rattle.std.specs.List.{list_all};
 ghost use Rattle.kheap_slabs.specs.Paid.{IsPaid};
 ghost use Rattle.memfs_ops.specs.Closing.{KeepsCached};
@@ -11,7 +11,7 @@ ghost use Rattle.posix_defs.specs.Files.State.{Files};
 ghost use Rattle.posix_defs.specs.Reaching.{ends_node};
 ghost use Rattle.kabi_types.specs.Arguments.{most_descriptors};
 ghost use Rattle.proc_table.specs.Procs.{no_descriptors};
-ghost use Rattle.proc_table.specs.Table.{key_of};
+ghost use Rattle.proc_table.specs.Table.{IsPlaced};
 ghost use Rattle.proc_numbers.specs.Having.{AreListed};
 ghost use Rattle.proc_numbers.specs.Naming.{places_of};
 ghost use Rattle.proc_numbers.specs.Queues.{QueuesStand};
@@ -27,7 +27,7 @@ use kabi_types::MOST_DESCRIPTORS;
 use kheap_slabs::{Descriptor, KHeap, Purse};
 use memfs_ops::FileTree;
 use proc_numbers::places_of;
-use proc_table::ProcTable;
+use proc_table::{Place, ProcTable};
 
 /// A process has nothing open any more: it closes all its numbers, the lowest first, as one does that ends. A file without links
 /// goes with the last description of it; where no description of a node goes, the tree is as it was.
@@ -41,20 +41,20 @@ pub fn close_each(
     procs: &ProcTable,
     tree: &mut FileTree,
     names: &mut BoundTable,
-    pid: u32,
+    place: Place,
 )
     requires listed { AreListed heap.old procs.now }
     requires owners { HasItsOwners heap.old [] }
-    requires there { IsSome (key_of procs.now.listed pid) }
+    requires there { IsPlaced procs.now place }
     requires hold { HoldSomeNames heap.old procs.now tree.old names.old }
     requires may { MayClose heap.old purse.old }
     ensures closed { (numbers : Numbers) (others : ℕ → ℕ) (files : Files)
         → HoldNames numbers others heap.old procs.now tree.old names.old files
-        → HoldNames numbers others heap.new procs.now tree.new names.new (after_end_of files pid) }
+        → HoldNames numbers others heap.new procs.now tree.new names.new (after_end_of files place.pid) }
     ensures listed { AreListed heap.new procs.now }
     ensures owners { HasItsOwners heap.new [] }
     ensures hold { HoldSomeNames heap.new procs.now tree.new names.new }
-    ensures closes { ClosesEach heap.old heap.new procs.now pid }
+    ensures closes { ClosesEach heap.old heap.new procs.now place.pid }
     ensures places { length names.new ≡ length names.old }
     ensures queues { QueuesStand heap.old heap.new }
     ensures same { purse.new ≡ purse.old }
@@ -62,15 +62,15 @@ pub fn close_each(
     ensures paid { IsPaid heap.old purse.old heap.new purse.new }
     ensures reads { tree.old.disk.reads ≤ tree.new.disk.reads }
     ensures stays { (numbers : Numbers) (others : ℕ → ℕ) (files : Files)
-        → HoldNames numbers others heap.old procs.now tree.old names.old files → ends_node files (after_end_of files pid) ≡ false
+        → HoldNames numbers others heap.old procs.now tree.old names.old files → ends_node files (after_end_of files place.pid) ≡ false
         → tree.new ≡ tree.old }
 {
     // Most processes that end have nothing open.
-    if has_none_open(heap, procs, pid) {
+    if has_none_open(heap, procs, place) {
         return;
     }
     let marks = all_marks();
-    close_marked(heap, purse, procs, tree, names, pid, &marks);
+    close_marked(heap, purse, procs, tree, names, place, &marks);
     is_well_formed(heap);
 }
 
@@ -86,20 +86,20 @@ pub fn close_at_exec(
     procs: &ProcTable,
     tree: &mut FileTree,
     names: &mut BoundTable,
-    pid: u32,
+    place: Place,
 )
     requires listed { AreListed heap.old procs.now }
     requires owners { HasItsOwners heap.old [] }
-    requires there { IsSome (key_of procs.now.listed pid) }
+    requires there { IsPlaced procs.now place }
     requires hold { HoldSomeNames heap.old procs.now tree.old names.old }
     requires may { MayClose heap.old purse.old }
     ensures closed { (numbers : Numbers) (others : ℕ → ℕ) (files : Files)
         → HoldNames numbers others heap.old procs.now tree.old names.old files
-        → HoldNames numbers others heap.new procs.now tree.new names.new (after_exec_of files pid) }
+        → HoldNames numbers others heap.new procs.now tree.new names.new (after_exec_of files place.pid) }
     ensures listed { AreListed heap.new procs.now }
     ensures owners { HasItsOwners heap.new [] }
     ensures hold { HoldSomeNames heap.new procs.now tree.new names.new }
-    ensures changes { ChangesHolding heap.old heap.new procs.now pid }
+    ensures changes { ChangesHolding heap.old heap.new procs.now place.pid }
     ensures places { length names.new ≡ length names.old }
     ensures queues { QueuesStand heap.old heap.new }
     ensures same { purse.new ≡ purse.old }
@@ -107,23 +107,23 @@ pub fn close_at_exec(
     ensures paid { IsPaid heap.old purse.old heap.new purse.new }
     ensures reads { tree.old.disk.reads ≤ tree.new.disk.reads }
     ensures stays { (numbers : Numbers) (others : ℕ → ℕ) (files : Files)
-        → HoldNames numbers others heap.old procs.now tree.old names.old files → ends_node files (after_exec_of files pid) ≡ false
+        → HoldNames numbers others heap.old procs.now tree.old names.old files → ends_node files (after_exec_of files place.pid) ≡ false
         → tree.new ≡ tree.old }
     ensures cached { KeepsCached tree.old tree.new }
 {
-    let places = places_of(heap, procs, pid);
+    let places = places_of(heap, procs, place);
     let marks = marks_of(&places);
-    close_marked(heap, purse, procs, tree, names, pid, &marks);
+    close_marked(heap, purse, procs, tree, names, place, &marks);
 }
 
 // Whether nothing is open in a process.
-fn has_none_open(heap: &KHeap, procs: &ProcTable, pid: u32) -> bool
+fn has_none_open(heap: &KHeap, procs: &ProcTable, place: Place) -> bool
     requires listed { AreListed heap.now procs.now }
-    requires there { IsSome (key_of procs.now.listed pid) }
-    ensures all { result ≡ list_all is_none (places_of heap.now procs.now pid) }
-    ensures none { result ≡ true → places_of heap.now procs.now pid ≡ no_descriptors }
+    requires there { IsPlaced procs.now place }
+    ensures all { result ≡ list_all is_none (places_of heap.now procs.now place.pid) }
+    ensures none { result ≡ true → places_of heap.now procs.now place.pid ≡ no_descriptors }
 {
-    let places = places_of(heap, procs, pid);
+    let places = places_of(heap, procs, place);
     are_none(&places)
 }
 
@@ -176,21 +176,21 @@ fn close_marked(
     procs: &ProcTable,
     tree: &mut FileTree,
     names: &mut BoundTable,
-    pid: u32,
+    place: Place,
     marks: &[bool; 32],
 )
     requires listed { AreListed heap.old procs.now }
     requires owners { HasItsOwners heap.old [] }
-    requires there { IsSome (key_of procs.now.listed pid) }
+    requires there { IsPlaced procs.now place }
     requires hold { HoldSomeNames heap.old procs.now tree.old names.old }
     requires may { MayClose heap.old purse.old }
     ensures closed { (numbers : Numbers) (others : ℕ → ℕ) (files : Files)
         → HoldNames numbers others heap.old procs.now tree.old names.old files
-        → HoldNames numbers others heap.new procs.now tree.new names.new (closed_where (is_marked marks.now) files pid most_descriptors) }
+        → HoldNames numbers others heap.new procs.now tree.new names.new (closed_where (is_marked marks.now) files place.pid most_descriptors) }
     ensures listed { AreListed heap.new procs.now }
     ensures owners { HasItsOwners heap.new [] }
     ensures hold { HoldSomeNames heap.new procs.now tree.new names.new }
-    ensures closes { ClosesMarked heap.old heap.new procs.now pid (is_marked marks.now) most_descriptors }
+    ensures closes { ClosesMarked heap.old heap.new procs.now place.pid (is_marked marks.now) most_descriptors }
     ensures places { length names.new ≡ length names.old }
     ensures queues { QueuesStand heap.old heap.new }
     ensures same { purse.new ≡ purse.old }
@@ -199,16 +199,16 @@ fn close_marked(
     ensures reads { tree.old.disk.reads ≤ tree.new.disk.reads }
     ensures goes { (numbers : Numbers) (others : ℕ → ℕ) (files : Files)
         → HoldNames numbers others heap.old procs.now tree.old names.old files
-        → OnlyGoes files (closed_where (is_marked marks.now) files pid most_descriptors) }
+        → OnlyGoes files (closed_where (is_marked marks.now) files place.pid most_descriptors) }
     ensures stays { (numbers : Numbers) (others : ℕ → ℕ) (files : Files)
         → HoldNames numbers others heap.old procs.now tree.old names.old files
-        → ((number : ℕ) → openings (closed_where (is_marked marks.now) files pid most_descriptors) number ≡ openings files number)
+        → ((number : ℕ) → openings (closed_where (is_marked marks.now) files place.pid most_descriptors) number ≡ openings files number)
         → tree.new ≡ tree.old }
     ensures cached { KeepsCached tree.old tree.new }
 {
     for fd in 0..MOST_DESCRIPTORS {
         let marked = mark_at(marks, fd);
-        close_if(heap, purse, procs, tree, names, pid, fd, marked);
+        close_if(heap, purse, procs, tree, names, place, fd, marked);
     }
 }
 
@@ -219,23 +219,23 @@ fn close_if(
     procs: &ProcTable,
     tree: &mut FileTree,
     names: &mut BoundTable,
-    pid: u32,
+    place: Place,
     fd: u32,
     marked: bool,
 )
     requires listed { AreListed heap.old procs.now }
     requires owners { HasItsOwners heap.old [] }
-    requires there { IsSome (key_of procs.now.listed pid) }
+    requires there { IsPlaced procs.now place }
     requires number { fd < most_descriptors }
     requires hold { HoldSomeNames heap.old procs.now tree.old names.old }
     requires may { MayClose heap.old purse.old }
     ensures closed { (numbers : Numbers) (others : ℕ → ℕ) (files : Files)
         → HoldNames numbers others heap.old procs.now tree.old names.old files
-        → HoldNames numbers others heap.new procs.now tree.new names.new (if marked then after_close files pid fd else files) }
+        → HoldNames numbers others heap.new procs.now tree.new names.new (if marked then after_close files place.pid fd else files) }
     ensures listed { AreListed heap.new procs.now }
     ensures owners { HasItsOwners heap.new [] }
     ensures hold { HoldSomeNames heap.new procs.now tree.new names.new }
-    ensures closes { ClosesIf heap.old heap.new procs.now pid fd marked }
+    ensures closes { ClosesIf heap.old heap.new procs.now place.pid fd marked }
     ensures places { length names.new ≡ length names.old }
     ensures queues { QueuesStand heap.old heap.new }
     ensures same { purse.new ≡ purse.old }
@@ -244,15 +244,15 @@ fn close_if(
     ensures reads { tree.old.disk.reads ≤ tree.new.disk.reads }
     ensures goes { (numbers : Numbers) (others : ℕ → ℕ) (files : Files)
         → HoldNames numbers others heap.old procs.now tree.old names.old files
-        → OnlyGoes files (if marked then after_close files pid fd else files) }
+        → OnlyGoes files (if marked then after_close files place.pid fd else files) }
     ensures stays { (numbers : Numbers) (others : ℕ → ℕ) (files : Files)
         → HoldNames numbers others heap.old procs.now tree.old names.old files
-        → ((number : ℕ) → openings (if marked then after_close files pid fd else files) number ≡ openings files number)
+        → ((number : ℕ) → openings (if marked then after_close files place.pid fd else files) number ≡ openings files number)
         → tree.new ≡ tree.old }
     ensures cached { KeepsCached tree.old tree.new }
 {
     if !marked {
         return;
     }
-    close_open(heap, purse, procs, tree, names, pid, fd);
+    close_open(heap, purse, procs, tree, names, place, fd);
 }

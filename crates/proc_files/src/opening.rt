@@ -1,6 +1,6 @@
 //! `open`.
 
-ghost use Rattle.std.specs.Prelude.{◌≡◌, ◌-◌, ◌<◌, ◌≤◌, ◌^◌, ℕ, ℤ, List, [], ◌∷◌, IfSome, IsSome, None, OnErr, OnOk, Some, false, true};
+ghost use Rattle.std.specs.Prelude.{◌≡◌, ◌-◌, ◌<◌, ◌≤◌, ◌^◌, ℕ, ℤ, List, [], ◌∷◌, IfSome, None, OnErr, OnOk, Some, false, true};
 ghost use Rattle.std.specs.List.{All};
 ghost use Rattle.kabi_types.specs.Arguments.{argument_fault, most_descriptors};
 ghost use Rattle.kabi_types.specs.declared.calls.Call.{Call};
@@ -24,7 +24,7 @@ ghost use Rattle.posix_defs.specs.Process.{Table, directory_of};
 ghost use Rattle.posix_defs.specs.Tree.{Tree};
 ghost use Rattle.proc_table.specs.Procs.{proc_of};
 ghost use Rattle.proc_table.specs.Standing.{IsTable};
-ghost use Rattle.proc_table.specs.Table.{key_of, processes};
+ghost use Rattle.proc_table.specs.Table.{IsPlaced, processes};
 ghost use Rattle.proc_numbers.specs.Having.{AreListed, HaveOpen};
 ghost use Rattle.proc_numbers.specs.Naming.{ChangesNumbers, named_at};
 ghost use Rattle.proc_numbers.specs.Queues.{QueuesStand};
@@ -39,7 +39,7 @@ use kabi_types::{Class, Errno, OpenFlags};
 use kheap_slabs::{Access, Desc, DescFlags, Descriptor, KHeap, Purse, Target};
 use memfs_ops::{FileTree, Opening};
 use proc_numbers::{open_one, places_of};
-use proc_table::ProcTable;
+use proc_table::{Place, ProcTable};
 
 /// The flags of `open` that are the description's and the number's: access modes, O_APPEND, O_NONBLOCK and O_CLOEXEC.
 const O_WRONLY: u64 = 1;
@@ -65,14 +65,14 @@ pub fn open_path(
     purse: &mut Purse,
     procs: &ProcTable,
     tree: &mut FileTree,
-    pid: u32,
+    place: Place,
     path: &[u8],
     flags: i64,
 ) -> Result<u32, Errno>
     requires listed { AreListed heap.old procs.now }
     requires owners { HasItsOwners heap.old [] }
-    requires there { IsSome (key_of procs.now.listed pid) }
-    requires works { WorksSomewhere heap.old procs.now tree.old pid }
+    requires there { IsPlaced procs.now place }
+    requires works { WorksSomewhere heap.old procs.now tree.old place.pid }
     requires right { argument_fault (Call.OpenFile path.now flags) ≡ None }
     requires bytes { All (λ byte. (0 < byte) × (byte < 2 ^ 8)) path.now }
     requires may { MayWalk heap.old purse.old }
@@ -80,31 +80,31 @@ pub fn open_path(
     ensures answers { (numbers : Numbers) (others : ℕ → ℕ) (script : Script) (plain : Plain)
         → IsTable heap.old procs.now plain.table
         → HoldFiles numbers others heap.old procs.now tree.old plain.files
-        → AnswersAnew numbers others heap.old heap.new procs.now tree.new script plain pid (open_file script plain pid path.now flags) (value_of result) }
+        → AnswersAnew numbers others heap.old heap.new procs.now tree.new script plain place.pid (open_file script plain place.pid path.now flags) (value_of result) }
     ensures listed { AreListed heap.new procs.now }
     ensures owners { HasItsOwners heap.new [] }
     ensures hold { HoldSome heap.new procs.now tree.new }
-    ensures changes { ChangesHolding heap.old heap.new procs.now pid }
+    ensures changes { ChangesHolding heap.old heap.new procs.now place.pid }
     ensures queues { QueuesStand heap.old heap.new }
     ensures socks { heap.new.socks ≡ heap.old.socks }
     ensures paid { IsPaid heap.old purse.old heap.new purse.new }
     ensures fills { HasFills heap.new purse.new }
     ensures reads { tree.old.disk.reads ≤ tree.new.disk.reads }
-    ensures saved { (proc : Proc) (plain : Tree) (pins : ℕ → ℕ) → proc_of (processes heap.old procs.now) pid ≡ Some proc
+    ensures saved { (proc : Proc) (plain : Tree) (pins : ℕ → ℕ) → proc_of (processes heap.old procs.now) place.pid ≡ Some proc
         → Stands heap.old tree.old plain pins → KnowsWay (in_call heap.old purse.old tree.old) plain proc.cwd path.now
         → has_flag flags o_trunc ≡ false → tree.new.disk ≡ tree.old.disk }
-    ensures kept { (proc : Proc) (plain : Tree) (pins : ℕ → ℕ) → proc_of (processes heap.old procs.now) pid ≡ Some proc
+    ensures kept { (proc : Proc) (plain : Tree) (pins : ℕ → ℕ) → proc_of (processes heap.old procs.now) place.pid ≡ Some proc
         → Stands heap.old tree.old plain pins → OnOk result (KeepsLast tree.new (resolve plain proc.cwd path.now)) }
 {
-    let Some(fd) = lowest_free(heap, procs, pid) else {
+    let Some(fd) = lowest_free(heap, procs, place) else {
         return Err(Errno::EMFILE);
     };
-    let cwd = directory_of(heap, procs, pid);
+    let cwd = directory_of(heap, procs, place);
     let how = asked_by(flags);
     is_well_formed(heap);
     match tree.open_node(heap, purse, cwd, path, how) {
         Ok(node) => {
-            open_new(heap, purse, procs, pid, fd, node, flags);
+            open_new(heap, purse, procs, place, fd, node, flags);
             Ok(fd)
         }
         Err(errno) => Err(errno),
@@ -127,24 +127,24 @@ fn open_new(
     heap: &mut KHeap,
     purse: &mut Purse,
     procs: &ProcTable,
-    pid: u32,
+    place: Place,
     fd: u32,
     node: u32,
     flags: i64,
 )
     requires listed { AreListed heap.old procs.now }
     requires owners { HasItsOwners heap.old [] }
-    requires there { IsSome (key_of procs.now.listed pid) }
+    requires there { IsPlaced procs.now place }
     requires number { fd < most_descriptors }
-    requires free { named_at heap.old procs.now pid fd ≡ None }
+    requires free { named_at heap.old procs.now place.pid fd ≡ None }
     requires pays { CanPay heap.old purse.old }
     requires fills { HasFills heap.old purse.old }
     requires left { 0 < purse.old.left.desc }
     ensures opened { (numbers : Numbers) (files : Files) → HaveOpen numbers heap.old procs.now files
-        → HaveAnew numbers heap.old heap.new procs.now (opened_as files pid fd (has_flag flags o_cloexec) (description_for node flags)) }
+        → HaveAnew numbers heap.old heap.new procs.now (opened_as files place.pid fd (has_flag flags o_cloexec) (description_for node flags)) }
     ensures listed { AreListed heap.new procs.now }
     ensures owners { HasItsOwners heap.new [] }
-    ensures changes { ChangesNumbers heap.old heap.new procs.now pid }
+    ensures changes { ChangesNumbers heap.old heap.new procs.now place.pid }
     ensures stay { CachesStay heap.old heap.new }
     ensures queues { QueuesStand heap.old heap.new }
     ensures socks { heap.new.socks ≡ heap.old.socks }
@@ -156,32 +156,29 @@ fn open_new(
         desc,
         close_on_exec: has_flag(flags, O_CLOEXEC),
     };
-    open_one(heap, procs, pid, fd, descriptor);
+    open_one(heap, purse, procs, place, fd, descriptor);
 }
 
 // The lowest number of a process that is free.
-fn lowest_free(heap: &KHeap, procs: &ProcTable, pid: u32) -> Option<u32>
+fn lowest_free(heap: &KHeap, procs: &ProcTable, place: Place) -> Option<u32>
     requires listed { AreListed heap.now procs.now }
-    requires there { IsSome (key_of procs.now.listed pid) }
+    requires there { IsPlaced procs.now place }
     ensures lowest { (numbers : Numbers) (files : Files) → HaveOpen numbers heap.now procs.now files
-        → lowest_free_from (descriptors_of files pid) 0 ≡ result }
-    ensures free { IfSome result (λ fd. (fd < most_descriptors) × (0 ≤ fd) × (named_at heap.now procs.now pid fd ≡ None)) }
+        → lowest_free_from (descriptors_of files place.pid) 0 ≡ result }
+    ensures free { IfSome result (λ fd. (fd < most_descriptors) × (0 ≤ fd) × (named_at heap.now procs.now place.pid fd ≡ None)) }
 {
-    let descs = Descs::of(places_of(heap, procs, pid));
+    let descs = Descs::of(places_of(heap, procs, place));
     descs.lowest(0)
 }
 
 /// The directory that a process works in.
-pub(crate) fn directory_of(heap: &KHeap, procs: &ProcTable, pid: u32) -> u32
+pub(crate) fn directory_of(heap: &KHeap, procs: &ProcTable, place: Place) -> u32
     requires listed { AreListed heap.now procs.now }
-    requires there { IsSome (key_of procs.now.listed pid) }
-    ensures works { (proc : Proc) → proc_of (processes heap.now procs.now) pid ≡ Some proc → result ≡ proc.cwd }
-    ensures plain { (table : Table) → IsTable heap.now procs.now table → directory_of table pid ≡ result }
+    requires there { IsPlaced procs.now place }
+    ensures works { (proc : Proc) → proc_of (processes heap.now procs.now) place.pid ≡ Some proc → result ≡ proc.cwd }
+    ensures plain { (table : Table) → IsTable heap.now procs.now table → directory_of table place.pid ≡ result }
 {
-    let Some(key) = procs.key_of(pid) else {
-        unreachable!();
-    };
-    heap.get_proc(key).cwd
+    procs.at(heap, place).cwd
 }
 
 // A new description of a node, as the flags ask, which one descriptor in hand names. Its key.

@@ -1,6 +1,6 @@
 //! `read` and `pread` of files, and `readdir`.
 
-ghost use Rattle.std.specs.Prelude.{◌≡◌, ◌/◌, ◌-◌, ◌+◌, ◌%◌, ◌≤◌, ◌<◌, ℕ, None, Some, IsSome, length};
+ghost use Rattle.std.specs.Prelude.{◌≡◌, ◌/◌, ◌-◌, ◌+◌, ◌%◌, ◌≤◌, ◌<◌, ℕ, None, Some, length};
 ghost use Rattle.std.specs.List.{AllByRecursion};
 ghost use Rattle.kabi_types.specs.Arguments.{argument_fault, count_of};
 ghost use Rattle.kabi_types.specs.declared.calls.Call.{Call};
@@ -26,11 +26,12 @@ ghost use Rattle.posix_defs.specs.SoundDisk.{HasNode};
 ghost use Rattle.posix_defs.specs.Tree.{Tree};
 ghost use Rattle.proc_numbers.specs.Answering.{value_of};
 ghost use Rattle.proc_table.specs.Procs.{IsAlive};
-ghost use Rattle.proc_table.specs.Table.{processes};
+ghost use Rattle.proc_table.specs.Table.{IsPlaced, processes};
 ghost use Rattle.proc_numbers.specs.Standing.{IsKept, StandsFor};
 ghost use Rattle.proc_files.specs.Answering.{StaysOffNodes};
 ghost use Rattle.proc_files.specs.Holding.{HoldFiles, HoldSome};
-ghost use Rattle.proc_files.specs.Reading.{HoldsDirectory, HoldsFile, IsOnNode, KeepsRead, LeadsHolding, ReadsNode, SavesRead, moved_by};
+ghost use Rattle.proc_numbers.specs.Found.{IsOnNode};
+ghost use Rattle.proc_files.specs.Reading.{HoldsDirectory, HoldsFile, KeepsRead, LeadsHolding, ReadsNode, SavesRead, moved_by};
 
 use crate::nodes::{is_directory, may_read, move_to};
 use crate::spaces::{FileBuffer, Range, range_of};
@@ -38,7 +39,7 @@ use kabi_types::Errno;
 use kheap_slabs::{KHeap, Purse, Target};
 use memfs_ops::FileTree;
 use proc_numbers::{count_of, opened};
-use proc_table::ProcTable;
+use proc_table::{Place, ProcTable};
 
 /// Reads at most n bytes of the file that a number is open on into a process's memory, from the description's offset on, as many
 /// as are there; the offset moves behind them. How many; none at the file's end.
@@ -51,23 +52,24 @@ pub fn read_file(
     procs: &ProcTable,
     tree: &mut FileTree,
     buffer: &mut FileBuffer,
-    pid: u32,
+    place: Place,
     fd: i64,
     addr: i64,
     n: i64,
 ) -> Result<u32, Errno>
     requires kept { IsKept heap.old procs.now }
-    requires alive { IsAlive (processes heap.old procs.now) pid }
+    requires alive { IsAlive (processes heap.old procs.now) place.pid }
+    requires there { IsPlaced procs.now place }
     requires hold { HoldSome heap.old procs.now tree.old }
-    requires on { IsOnNode heap.old procs.now pid fd }
+    requires on { IsOnNode heap.old procs.now place.pid fd }
     requires right { argument_fault (Call.Read fd addr n) ≡ None }
     requires may { MayFetch heap.old purse.old }
     requires left { pages_touched (count_of addr) (count_of n) ≤ purse.old.left.page }
     ensures leads { (script : Script) (numbers : Numbers) (others : ℕ → ℕ) (plain : Plain) (account : Account)
         → StandsFor numbers heap.old procs.now plain account
         → HoldFiles numbers others heap.old procs.now tree.old plain.files
-        → LeadsHolding script numbers others heap.new procs.now tree.new plain account pid (Call.Read fd addr n)
-        (read script plain pid fd addr n) (value_of result) }
+        → LeadsHolding script numbers others heap.new procs.now tree.new plain account place.pid (Call.Read fd addr n)
+        (read script plain place.pid fd addr n) (value_of result) }
     ensures kept { IsKept heap.new procs.now }
     ensures beside { heap.new ≡ record heap.old {
       nodes = heap.new.nodes;
@@ -78,11 +80,11 @@ pub fn read_file(
     } }
     ensures paid { IsPaid heap.old purse.old heap.new purse.new }
     ensures reads { tree.old.disk.reads ≤ tree.new.disk.reads }
-    ensures stays { StaysOffNodes heap.old procs.now pid fd tree.old tree.new }
-    ensures saved { SavesRead heap.old procs.now pid fd tree.old tree.new (λ (desc : HeldDesc). desc.offset) (moved_by result) }
-    ensures last { KeepsRead heap.old procs.now pid fd tree.old tree.new (λ (desc : HeldDesc). desc.offset) (moved_by result) }
+    ensures stays { StaysOffNodes heap.old procs.now place.pid fd tree.old tree.new }
+    ensures saved { SavesRead heap.old procs.now place.pid fd tree.old tree.new (λ (desc : HeldDesc). desc.offset) (moved_by result) }
+    ensures last { KeepsRead heap.old procs.now place.pid fd tree.old tree.new (λ (desc : HeldDesc). desc.offset) (moved_by result) }
 {
-    let Some(found) = opened(heap, procs, pid, fd) else {
+    let Some(found) = opened(heap, procs, place, fd) else {
         return Err(Errno::EBADF);
     };
     if !may_read(found.desc.access) {
@@ -95,7 +97,7 @@ pub fn read_file(
     if is_directory(&info) {
         return Err(Errno::EISDIR);
     }
-    let Some(mut range) = range_of(heap, procs, pid, addr, n) else {
+    let Some(mut range) = range_of(heap, procs, place, addr, n) else {
         return Err(Errno::EFAULT);
     };
     if range.is_empty() {
@@ -154,14 +156,15 @@ pub fn pread_file(
     procs: &ProcTable,
     tree: &mut FileTree,
     buffer: &mut FileBuffer,
-    pid: u32,
+    place: Place,
     fd: i64,
     addr: i64,
     n: i64,
     at: i64,
 ) -> Result<u32, Errno>
     requires kept { IsKept heap.old procs.now }
-    requires alive { IsAlive (processes heap.old procs.now) pid }
+    requires alive { IsAlive (processes heap.old procs.now) place.pid }
+    requires there { IsPlaced procs.now place }
     requires hold { HoldSome heap.old procs.now tree.old }
     requires right { argument_fault (Call.Pread fd addr n at) ≡ None }
     requires may { MayFetch heap.old purse.old }
@@ -169,8 +172,8 @@ pub fn pread_file(
     ensures leads { (script : Script) (numbers : Numbers) (others : ℕ → ℕ) (plain : Plain) (account : Account)
         → StandsFor numbers heap.old procs.now plain account
         → HoldFiles numbers others heap.old procs.now tree.old plain.files
-        → LeadsHolding script numbers others heap.new procs.now tree.new plain account pid (Call.Pread fd addr n at)
-        (pread script plain pid fd addr n at) (value_of result) }
+        → LeadsHolding script numbers others heap.new procs.now tree.new plain account place.pid (Call.Pread fd addr n at)
+        (pread script plain place.pid fd addr n at) (value_of result) }
     ensures kept { IsKept heap.new procs.now }
     ensures beside { heap.new ≡ record heap.old {
       nodes = heap.new.nodes;
@@ -180,11 +183,11 @@ pub fn pread_file(
     } }
     ensures paid { IsPaid heap.old purse.old heap.new purse.new }
     ensures reads { tree.old.disk.reads ≤ tree.new.disk.reads }
-    ensures stays { StaysOffNodes heap.old procs.now pid fd tree.old tree.new }
-    ensures saved { SavesRead heap.old procs.now pid fd tree.old tree.new (λ (desc : HeldDesc). count_of at) (moved_by result) }
-    ensures last { KeepsRead heap.old procs.now pid fd tree.old tree.new (λ (desc : HeldDesc). count_of at) (moved_by result) }
+    ensures stays { StaysOffNodes heap.old procs.now place.pid fd tree.old tree.new }
+    ensures saved { SavesRead heap.old procs.now place.pid fd tree.old tree.new (λ (desc : HeldDesc). count_of at) (moved_by result) }
+    ensures last { KeepsRead heap.old procs.now place.pid fd tree.old tree.new (λ (desc : HeldDesc). count_of at) (moved_by result) }
 {
-    let Some(found) = opened(heap, procs, pid, fd) else {
+    let Some(found) = opened(heap, procs, place, fd) else {
         return Err(Errno::EBADF);
     };
     if !may_read(found.desc.access) {
@@ -197,7 +200,7 @@ pub fn pread_file(
     if is_directory(&info) {
         return Err(Errno::EISDIR);
     }
-    let Some(mut range) = range_of(heap, procs, pid, addr, n) else {
+    let Some(mut range) = range_of(heap, procs, place, addr, n) else {
         return Err(Errno::EFAULT);
     };
     if range.is_empty() {
@@ -217,13 +220,14 @@ pub fn read_entries(
     procs: &ProcTable,
     tree: &mut FileTree,
     buffer: &mut FileBuffer,
-    pid: u32,
+    place: Place,
     fd: i64,
     addr: i64,
     n: i64,
 ) -> Result<u32, Errno>
     requires kept { IsKept heap.old procs.now }
-    requires alive { IsAlive (processes heap.old procs.now) pid }
+    requires alive { IsAlive (processes heap.old procs.now) place.pid }
+    requires there { IsPlaced procs.now place }
     requires hold { HoldSome heap.old procs.now tree.old }
     requires right { argument_fault (Call.Readdir fd addr n) ≡ None }
     requires may { MayFetch heap.old purse.old }
@@ -231,8 +235,8 @@ pub fn read_entries(
     ensures leads { (script : Script) (numbers : Numbers) (others : ℕ → ℕ) (plain : Plain) (account : Account)
         → StandsFor numbers heap.old procs.now plain account
         → HoldFiles numbers others heap.old procs.now tree.old plain.files
-        → LeadsHolding script numbers others heap.new procs.now tree.new plain account pid (Call.Readdir fd addr n)
-        (readdir script plain pid fd addr n) (value_of result) }
+        → LeadsHolding script numbers others heap.new procs.now tree.new plain account place.pid (Call.Readdir fd addr n)
+        (readdir script plain place.pid fd addr n) (value_of result) }
     ensures kept { IsKept heap.new procs.now }
     ensures beside { heap.new ≡ record heap.old {
       nodes = heap.new.nodes;
@@ -243,11 +247,11 @@ pub fn read_entries(
     } }
     ensures paid { IsPaid heap.old purse.old heap.new purse.new }
     ensures reads { tree.old.disk.reads ≤ tree.new.disk.reads }
-    ensures stays { StaysOffNodes heap.old procs.now pid fd tree.old tree.new }
-    ensures saved { SavesRead heap.old procs.now pid fd tree.old tree.new (λ (desc : HeldDesc). desc.offset) (moved_by result) }
-    ensures last { KeepsRead heap.old procs.now pid fd tree.old tree.new (λ (desc : HeldDesc). desc.offset) (moved_by result) }
+    ensures stays { StaysOffNodes heap.old procs.now place.pid fd tree.old tree.new }
+    ensures saved { SavesRead heap.old procs.now place.pid fd tree.old tree.new (λ (desc : HeldDesc). desc.offset) (moved_by result) }
+    ensures last { KeepsRead heap.old procs.now place.pid fd tree.old tree.new (λ (desc : HeldDesc). desc.offset) (moved_by result) }
 {
-    let Some(found) = opened(heap, procs, pid, fd) else {
+    let Some(found) = opened(heap, procs, place, fd) else {
         return Err(Errno::EBADF);
     };
     let Target::Inode(node) = found.desc.target else {
@@ -257,7 +261,7 @@ pub fn read_entries(
     if !is_directory(&info) {
         return Err(Errno::ENOTDIR);
     }
-    let Some(mut range) = range_of(heap, procs, pid, addr, n) else {
+    let Some(mut range) = range_of(heap, procs, place, addr, n) else {
         return Err(Errno::EFAULT);
     };
     let at = found.desc.offset;

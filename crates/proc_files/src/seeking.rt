@@ -1,6 +1,6 @@
 //! `lseek`.
 
-ghost use Rattle.std.specs.Prelude.{◌≡◌, ◌<◌, ℕ, zero, suc, [], IfOk, IsSome, OnErr, Some, Result, Ok, Err, nat_lt, if◌then◌else◌, pos, ◌+ℤ◌, ◌-◌};
+ghost use Rattle.std.specs.Prelude.{◌≡◌, ◌<◌, ℕ, zero, suc, [], IfOk, OnErr, Some, Result, Ok, Err, nat_lt, if◌then◌else◌, pos, ◌+ℤ◌, ◌-◌};
 ghost use Rattle.kabi_types.specs.declared.scripts.Script.{Script};
 ghost use Rattle.kabi_types.specs.Arguments.{count_of};
 ghost use Rattle.kabi_types.specs.declared.errnos.Errno.{Errno as Fault};
@@ -14,7 +14,7 @@ ghost use Rattle.posix_defs.specs.Calls.OnFiles.{is_between_entries, lseek};
 ghost use Rattle.posix_defs.specs.PathCalls.{stat_info};
 ghost use Rattle.posix_defs.specs.Plain.{Plain};
 ghost use Rattle.posix_defs.specs.Tree.{Tree, is_directory as plain_is_directory};
-ghost use Rattle.proc_table.specs.Table.{key_of};
+ghost use Rattle.proc_table.specs.Table.{IsPlaced};
 ghost use Rattle.proc_numbers.specs.Having.{AreListed};
 ghost use Rattle.proc_numbers.specs.Answering.{value_of};
 ghost use Rattle.proc_files.specs.Answering.{AnswersHolding, StaysOffNodes};
@@ -26,7 +26,7 @@ use kabi_types::{Errno, StatInfo};
 use kheap_slabs::{KHeap, Target};
 use memfs_ops::FileTree;
 use proc_numbers::{Found, count_of, opened};
-use proc_table::ProcTable;
+use proc_table::{Place, ProcTable};
 
 /// The greatest offset.
 const GREATEST: u64 = 9223372036854775807;
@@ -45,28 +45,28 @@ pub fn seek_number(
     heap: &mut KHeap,
     procs: &ProcTable,
     tree: &mut FileTree,
-    pid: u32,
+    place: Place,
     fd: i64,
     offset: i64,
     whence: i64,
 ) -> Result<u64, Errno>
     requires listed { AreListed heap.old procs.now }
     requires owners { HasItsOwners heap.old [] }
-    requires there { IsSome (key_of procs.now.listed pid) }
+    requires there { IsPlaced procs.now place }
     requires hold { HoldSome heap.old procs.now tree.old }
     ensures answers { (numbers : Numbers) (others : ℕ → ℕ) (script : Script) (plain : Plain)
         → HoldFiles numbers others heap.old procs.now tree.old plain.files
-        → AnswersHolding numbers others heap.new procs.now tree.new script plain pid (lseek script plain pid fd offset whence) (value_of result) }
+        → AnswersHolding numbers others heap.new procs.now tree.new script plain place.pid (lseek script plain place.pid fd offset whence) (value_of result) }
     ensures listed { AreListed heap.new procs.now }
     ensures owners { HasItsOwners heap.new [] }
     ensures hold { HoldSome heap.new procs.now tree.new }
     ensures beside { heap.new ≡ record heap.old { descs = heap.new.descs } }
     ensures unchanged { OnErr result (heap.new ≡ heap.old) }
     ensures used { IsUsed tree.old tree.new }
-    ensures stays { StaysOffNodes heap.old procs.now pid fd tree.old tree.new }
+    ensures stays { StaysOffNodes heap.old procs.now place.pid fd tree.old tree.new }
     ensures takes { TakesNothing heap.old heap.new }
 {
-    let Some(found) = opened(heap, procs, pid, fd) else {
+    let Some(found) = opened(heap, procs, place, fd) else {
         return Err(Errno::EBADF);
     };
     let Target::Inode(node) = found.desc.target else {

@@ -1,13 +1,13 @@
 //! `dup2`.
 
-ghost use Rattle.std.specs.Prelude.{◌≡◌, ◌≤◌, ℕ, [], IsSome, None, OnErr, length};
+ghost use Rattle.std.specs.Prelude.{◌≡◌, ◌≤◌, ℕ, [], None, OnErr, length};
 ghost use Rattle.kabi_types.specs.declared.scripts.Script.{Script};
-ghost use Rattle.kheap_slabs.specs.Paid.{IsPaid};
+ghost use Rattle.kheap_slabs.specs.Paid.{CanPay, IsPaid};
 ghost use Rattle.open_laws.specs.Owned.{HasItsOwners};
 ghost use Rattle.open_laws.specs.Placed.{Numbers};
 ghost use Rattle.posix_defs.specs.Calls.OnDescriptors.{dup2};
 ghost use Rattle.posix_defs.specs.Plain.{Plain};
-ghost use Rattle.proc_table.specs.Table.{key_of};
+ghost use Rattle.proc_table.specs.Table.{IsPlaced};
 ghost use Rattle.proc_numbers.specs.Having.{AreListed};
 ghost use Rattle.proc_numbers.specs.Queues.{QueuesStand};
 ghost use Rattle.proc_numbers.specs.Answering.{node_replaced, value_of};
@@ -22,46 +22,50 @@ use kabi_types::Errno;
 use kheap_slabs::{KHeap, Purse};
 use memfs_ops::FileTree;
 use proc_numbers::{count_of, descriptor_of, may_be_descriptor, share_at};
-use proc_table::ProcTable;
+use proc_table::{Place, ProcTable};
 
 /// A number of a process names the same description as another, and what it named before is closed, whatever that was open on.
 /// The number. Where both are the same number nothing is changed.
 ///
-/// The purse pays for the blocks that a close asks for, and is then as it was. EBADF where the other isn't open, or where a
-/// descriptor can't have the number; nothing is changed then.
+/// The purse pays for what a number takes, which is nothing, and what is kept back for closings for the blocks that a close asks
+/// for; both are then as they were. EBADF where the other isn't open, or where a descriptor can't have the number; nothing is
+/// changed then.
 ///
 /// <https://pubs.opengroup.org/onlinepubs/9699919799/functions/dup.html>
 pub fn dup_number(
     heap: &mut KHeap,
     purse: &mut Purse,
+    back: &mut Purse,
     procs: &ProcTable,
     tree: &mut FileTree,
     names: &mut BoundTable,
-    pid: u32,
+    place: Place,
     fd: i64,
     to: i64,
 ) -> Result<u32, Errno>
     requires listed { AreListed heap.old procs.now }
     requires owners { HasItsOwners heap.old [] }
-    requires there { IsSome (key_of procs.now.listed pid) }
+    requires there { IsPlaced procs.now place }
     requires hold { HoldSomeNames heap.old procs.now tree.old names.old }
-    requires may { MayClose heap.old purse.old }
+    requires pays { CanPay heap.old purse.old }
+    requires may { MayClose heap.old back.old }
     ensures answers { (numbers : Numbers) (others : ℕ → ℕ) (script : Script) (plain : Plain)
         → HoldNames numbers others heap.old procs.now tree.old names.old plain.files
-        → AnswersNaming numbers others heap.new procs.now tree.new names.new script plain pid (dup2 script plain pid fd to) (value_of result) }
+        → AnswersNaming numbers others heap.new procs.now tree.new names.new script plain place.pid (dup2 script plain place.pid fd to) (value_of result) }
     ensures listed { AreListed heap.new procs.now }
     ensures owners { HasItsOwners heap.new [] }
     ensures hold { HoldSomeNames heap.new procs.now tree.new names.new }
-    ensures changes { ChangesHolding heap.old heap.new procs.now pid }
+    ensures changes { ChangesHolding heap.old heap.new procs.now place.pid }
     ensures places { length names.new ≡ length names.old }
     ensures queues { QueuesStand heap.old heap.new }
     ensures unchanged { OnErr result ((heap.new ≡ heap.old) × (tree.new ≡ tree.old) × (names.new ≡ names.old)) }
-    ensures same { purse.new ≡ purse.old }
-    ensures paid { IsPaid heap.old purse.old heap.new purse.new }
+    ensures spent { purse.new ≡ purse.old }
+    ensures same { back.new ≡ back.old }
+    ensures paid { IsPaid heap.old back.old heap.new back.new }
     ensures reads { tree.old.disk.reads ≤ tree.new.disk.reads }
-    ensures stays { node_replaced heap.old procs.now pid fd to ≡ None → tree.new ≡ tree.old }
+    ensures stays { node_replaced heap.old procs.now place.pid fd to ≡ None → tree.new ≡ tree.old }
 {
-    let Some(held) = descriptor_of(heap, procs, pid, fd) else {
+    let Some(held) = descriptor_of(heap, procs, place, fd) else {
         return Err(Errno::EBADF);
     };
     if !may_be_descriptor(to) {
@@ -73,7 +77,7 @@ pub fn dup_number(
         return Ok(number);
     }
     is_well_formed(heap);
-    close_open(heap, purse, procs, tree, names, pid, number);
-    share_at(heap, procs, pid, number, held.desc);
+    close_open(heap, back, procs, tree, names, place, number);
+    share_at(heap, purse, procs, place, number, held.desc);
     Ok(number)
 }

@@ -1,6 +1,6 @@
 //! `ftruncate`.
 
-ghost use Rattle.std.specs.Prelude.{◌≡◌, ℕ, [], IsSome, OnErr};
+ghost use Rattle.std.specs.Prelude.{◌≡◌, ℕ, [], OnErr};
 ghost use Rattle.kabi_types.specs.Arguments.{count_of};
 ghost use Rattle.kabi_types.specs.declared.scripts.Script.{Script};
 ghost use Rattle.memfs_ops.specs.Fetching.{MayFetch};
@@ -9,7 +9,7 @@ ghost use Rattle.open_laws.specs.Owned.{HasItsOwners};
 ghost use Rattle.open_laws.specs.Placed.{Numbers};
 ghost use Rattle.posix_defs.specs.Calls.OnFiles.{ftruncate};
 ghost use Rattle.posix_defs.specs.Plain.{Plain};
-ghost use Rattle.proc_table.specs.Table.{key_of};
+ghost use Rattle.proc_table.specs.Table.{IsPlaced};
 ghost use Rattle.proc_numbers.specs.Having.{AreListed};
 ghost use Rattle.proc_numbers.specs.Answering.{zero_of};
 ghost use Rattle.proc_files.specs.Answering.{AnswersHolding, StaysOffNodes};
@@ -20,7 +20,7 @@ use kabi_types::Errno;
 use kheap_slabs::{KHeap, Purse, Target};
 use memfs_ops::FileTree;
 use proc_numbers::{count_of, opened};
-use proc_table::ProcTable;
+use proc_table::{Place, ProcTable};
 
 /// The file that a number is open on gets another size; what it grows by is zeros.
 ///
@@ -33,25 +33,25 @@ pub fn size_number(
     purse: &mut Purse,
     procs: &ProcTable,
     tree: &mut FileTree,
-    pid: u32,
+    place: Place,
     fd: i64,
     size: i64,
 ) -> Result<(), Errno>
     requires listed { AreListed heap.old procs.now }
     requires owners { HasItsOwners heap.old [] }
-    requires there { IsSome (key_of procs.now.listed pid) }
+    requires there { IsPlaced procs.now place }
     requires hold { HoldSome heap.old procs.now tree.old }
     requires may { MayFetch heap.old purse.old }
     ensures answers { (numbers : Numbers) (others : ℕ → ℕ) (script : Script) (plain : Plain)
         → HoldFiles numbers others heap.old procs.now tree.old plain.files
-        → AnswersHolding numbers others heap.new procs.now tree.new script plain pid (ftruncate script plain pid fd size) (zero_of result) }
+        → AnswersHolding numbers others heap.new procs.now tree.new script plain place.pid (ftruncate script plain place.pid fd size) (zero_of result) }
     ensures listed { AreListed heap.new procs.now }
     ensures owners { HasItsOwners heap.new [] }
     ensures hold { HoldSome heap.new procs.now tree.new }
     ensures pays { Pays heap.old heap.new purse.old purse.new tree.old tree.new }
-    ensures stays { StaysOffNodes heap.old procs.now pid fd tree.old tree.new }
+    ensures stays { StaysOffNodes heap.old procs.now place.pid fd tree.old tree.new }
 {
-    let Some(found) = opened(heap, procs, pid, fd) else {
+    let Some(found) = opened(heap, procs, place, fd) else {
         return Err(Errno::EBADF);
     };
     let Target::Inode(node) = found.desc.target else {

@@ -3,7 +3,7 @@
 ghost use Rattle.std.specs.Prelude.{◌≡◌, ◌==◌, ◌+◌, ◌<◌, ◌≤◌, IfSome, None, is_some};
 ghost use Rattle.kabi_types.specs.Arguments.{count_of, range_fault};
 ghost use Rattle.proc_table.specs.Procs.{IsAlive};
-ghost use Rattle.proc_table.specs.Table.{processes};
+ghost use Rattle.proc_table.specs.Table.{IsPlaced, processes};
 ghost use Rattle.proc_numbers.specs.Spaces.{HasSpace};
 ghost use Rattle.proc_numbers.specs.Standing.{IsKept};
 ghost use Rattle.proc_files.specs.Reading.{HasRange, TellsMapped};
@@ -11,7 +11,7 @@ ghost use Rattle.proc_files.specs.Reading.{HasRange, TellsMapped};
 use kheap_slabs::KHeap;
 use page_space::Space;
 use proc_numbers::count_of;
-use proc_table::ProcTable;
+use proc_table::{Place, ProcTable};
 
 /// The most bytes that one call moves.
 pub const MOST_MOVED: usize = 32767;
@@ -43,20 +43,21 @@ impl Range {
 pub(crate) fn range_of(
     heap: &KHeap,
     procs: &ProcTable,
-    pid: u32,
+    place: Place,
     addr: i64,
     n: i64,
 ) -> Option<Range>
     requires kept { IsKept heap.now procs.now }
-    requires alive { IsAlive (processes heap.now procs.now) pid }
+    requires alive { IsAlive (processes heap.now procs.now) place.pid }
+    requires there { IsPlaced procs.now place }
     requires right { range_fault addr (count_of n) ≡ None }
     requires few { count_of n ≤ 32767 }
-    ensures tells { TellsMapped heap.now procs.now pid addr (count_of n) (is_some result) }
-    ensures range { IfSome result (λ range. HasRange heap.now procs.now pid addr (count_of n) range.space range.start range.count) }
+    ensures tells { TellsMapped heap.now procs.now place.pid addr (count_of n) (is_some result) }
+    ensures range { IfSome result (λ range. HasRange heap.now procs.now place.pid addr (count_of n) range.space range.start range.count) }
 {
     let count = count_of(n) as u32;
     let start = start_of(addr, count);
-    let space = space_of(heap, procs, pid);
+    let space = space_of(heap, procs, place);
     if space.mapped(heap, start, count) {
         Some(Range {
             space,
@@ -69,15 +70,13 @@ pub(crate) fn range_of(
 }
 
 // The address space of a process that runs.
-fn space_of(heap: &KHeap, procs: &ProcTable, pid: u32) -> Space
+fn space_of(heap: &KHeap, procs: &ProcTable, place: Place) -> Space
     requires kept { IsKept heap.now procs.now }
-    requires alive { IsAlive (processes heap.now procs.now) pid }
-    ensures { HasSpace heap.now procs.now pid result }
+    requires alive { IsAlive (processes heap.now procs.now) place.pid }
+    requires there { IsPlaced procs.now place }
+    ensures { HasSpace heap.now procs.now place.pid result }
 {
-    let Some(key) = procs.key_of(pid) else {
-        unreachable!();
-    };
-    Space::of(heap.get_proc(key).nodes)
+    Space::of(procs.at(heap, place).nodes)
 }
 
 // Where a range of so many bytes begins. No bytes lie anywhere, so a range of none begins at 0.

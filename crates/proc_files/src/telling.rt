@@ -1,6 +1,6 @@
 //! `fstat`.
 
-ghost use Rattle.std.specs.Prelude.{◌≡◌, ℕ, [], IsSome, None};
+ghost use Rattle.std.specs.Prelude.{◌≡◌, ℕ, [], None};
 ghost use Rattle.kabi_types.specs.declared.scripts.Script.{Script};
 ghost use Rattle.memfs_ops.specs.FileTree.{IsUsed, Stands};
 ghost use Rattle.open_laws.specs.Described.{node_in, target_in};
@@ -9,7 +9,7 @@ ghost use Rattle.open_laws.specs.Placed.{Numbers};
 ghost use Rattle.posix_defs.specs.Calls.OnFiles.{fstat, info_of, without_node};
 ghost use Rattle.posix_defs.specs.Plain.{Plain};
 ghost use Rattle.posix_defs.specs.Tree.{Tree};
-ghost use Rattle.proc_table.specs.Table.{key_of};
+ghost use Rattle.proc_table.specs.Table.{IsPlaced};
 ghost use Rattle.proc_numbers.specs.Having.{AreListed};
 ghost use Rattle.proc_numbers.specs.Answering.{stat_of};
 ghost use Rattle.proc_files.specs.Answering.{AnswersHolding, StaysOffNodes};
@@ -19,7 +19,7 @@ use kabi_types::{Errno, NodeKind, StatInfo};
 use kheap_slabs::{KHeap, Target};
 use memfs_ops::FileTree;
 use proc_numbers::opened;
-use proc_table::ProcTable;
+use proc_table::{Place, ProcTable};
 
 /// What a number of a process is open on: all of a file or a directory, and of a pipe or a socket only that it is one.
 ///
@@ -30,21 +30,21 @@ pub fn stat_number(
     heap: &KHeap,
     procs: &ProcTable,
     tree: &mut FileTree,
-    pid: u32,
+    place: Place,
     fd: i64,
 ) -> Result<StatInfo, Errno>
     requires listed { AreListed heap.now procs.now }
     requires owners { HasItsOwners heap.now [] }
-    requires there { IsSome (key_of procs.now.listed pid) }
+    requires there { IsPlaced procs.now place }
     requires hold { HoldSome heap.now procs.now tree.old }
     ensures answers { (numbers : Numbers) (others : ℕ → ℕ) (script : Script) (plain : Plain)
         → HoldFiles numbers others heap.now procs.now tree.old plain.files
-        → AnswersHolding numbers others heap.now procs.now tree.new script plain pid (fstat script plain pid fd) (stat_of result) }
+        → AnswersHolding numbers others heap.now procs.now tree.new script plain place.pid (fstat script plain place.pid fd) (stat_of result) }
     ensures hold { HoldSome heap.now procs.now tree.new }
     ensures used { IsUsed tree.old tree.new }
-    ensures stays { StaysOffNodes heap.now procs.now pid fd tree.old tree.new }
+    ensures stays { StaysOffNodes heap.now procs.now place.pid fd tree.old tree.new }
 {
-    let Some(found) = opened(heap, procs, pid, fd) else {
+    let Some(found) = opened(heap, procs, place, fd) else {
         return Err(Errno::EBADF);
     };
     Ok(info_of(heap, tree, found.desc.target))

@@ -19,11 +19,12 @@ ghost use Rattle.posix_defs.specs.Tree.{Tree, size_at};
 ghost use Rattle.posix_defs.specs.TreeChanges.{write as tree_write};
 ghost use Rattle.proc_numbers.specs.Answering.{value_of};
 ghost use Rattle.proc_table.specs.Procs.{IsAlive};
-ghost use Rattle.proc_table.specs.Table.{processes};
+ghost use Rattle.proc_table.specs.Table.{IsPlaced, processes};
 ghost use Rattle.proc_numbers.specs.Standing.{IsKept, StandsFor};
 ghost use Rattle.proc_files.specs.Answering.{StaysOffNodes};
 ghost use Rattle.proc_files.specs.Holding.{HoldFiles, HoldSome};
-ghost use Rattle.proc_files.specs.Reading.{HoldsFile, IsOnNode, LeadsHolding};
+ghost use Rattle.proc_numbers.specs.Found.{IsOnNode};
+ghost use Rattle.proc_files.specs.Reading.{HoldsFile, LeadsHolding};
 
 use crate::nodes::{is_directory, may_write, move_to};
 use crate::spaces::{FileBuffer, Range, range_of};
@@ -31,7 +32,7 @@ use kabi_types::Errno;
 use kheap_slabs::{Desc, KHeap, Purse, Target};
 use memfs_ops::FileTree;
 use proc_numbers::{count_of, opened};
-use proc_table::ProcTable;
+use proc_table::{Place, ProcTable};
 
 /// Writes n bytes of a process's memory to the file that a number is open on, at the description's offset, or at the file's end where
 /// it was opened so (O_APPEND), as many as there is room for; the offset moves behind them. How many.
@@ -44,22 +45,23 @@ pub fn write_file(
     procs: &ProcTable,
     tree: &mut FileTree,
     buffer: &mut FileBuffer,
-    pid: u32,
+    place: Place,
     fd: i64,
     addr: i64,
     n: i64,
 ) -> Result<u32, Errno>
     requires kept { IsKept heap.old procs.now }
-    requires alive { IsAlive (processes heap.old procs.now) pid }
+    requires alive { IsAlive (processes heap.old procs.now) place.pid }
+    requires there { IsPlaced procs.now place }
     requires hold { HoldSome heap.old procs.now tree.old }
-    requires on { IsOnNode heap.old procs.now pid fd }
+    requires on { IsOnNode heap.old procs.now place.pid fd }
     requires right { argument_fault (Call.Write fd addr n 0) ≡ None }
     requires may { MayFetch heap.old purse.old }
     ensures leads { (script : Script) (numbers : Numbers) (others : ℕ → ℕ) (plain : Plain) (account : Account)
         → StandsFor numbers heap.old procs.now plain account
         → HoldFiles numbers others heap.old procs.now tree.old plain.files
-        → LeadsHolding script numbers others heap.new procs.now tree.new plain account pid (Call.Write fd addr n 0)
-        (write script plain pid fd addr n 0) (value_of result) }
+        → LeadsHolding script numbers others heap.new procs.now tree.new plain account place.pid (Call.Write fd addr n 0)
+        (write script plain place.pid fd addr n 0) (value_of result) }
     ensures kept { IsKept heap.new procs.now }
     ensures beside { heap.new ≡ record heap.old {
       descs = heap.new.descs;
@@ -70,9 +72,9 @@ pub fn write_file(
     } }
     ensures paid { IsPaid heap.old purse.old heap.new purse.new }
     ensures reads { tree.old.disk.reads ≤ tree.new.disk.reads }
-    ensures stays { StaysOffNodes heap.old procs.now pid fd tree.old tree.new }
+    ensures stays { StaysOffNodes heap.old procs.now place.pid fd tree.old tree.new }
 {
-    let Some(found) = opened(heap, procs, pid, fd) else {
+    let Some(found) = opened(heap, procs, place, fd) else {
         return Err(Errno::EBADF);
     };
     if !may_write(found.desc.access) {
@@ -81,7 +83,7 @@ pub fn write_file(
     let Target::Inode(node) = found.desc.target else {
         unreachable!();
     };
-    let Some(range) = range_of(heap, procs, pid, addr, n) else {
+    let Some(range) = range_of(heap, procs, place, addr, n) else {
         return Err(Errno::EFAULT);
     };
     if range.is_empty() {
@@ -109,22 +111,23 @@ pub fn pwrite_file(
     procs: &ProcTable,
     tree: &mut FileTree,
     buffer: &mut FileBuffer,
-    pid: u32,
+    place: Place,
     fd: i64,
     addr: i64,
     n: i64,
     at: i64,
 ) -> Result<u32, Errno>
     requires kept { IsKept heap.old procs.now }
-    requires alive { IsAlive (processes heap.old procs.now) pid }
+    requires alive { IsAlive (processes heap.old procs.now) place.pid }
+    requires there { IsPlaced procs.now place }
     requires hold { HoldSome heap.old procs.now tree.old }
     requires right { argument_fault (Call.Pwrite fd addr n at) ≡ None }
     requires may { MayFetch heap.old purse.old }
     ensures leads { (script : Script) (numbers : Numbers) (others : ℕ → ℕ) (plain : Plain) (account : Account)
         → StandsFor numbers heap.old procs.now plain account
         → HoldFiles numbers others heap.old procs.now tree.old plain.files
-        → LeadsHolding script numbers others heap.new procs.now tree.new plain account pid (Call.Pwrite fd addr n at)
-        (pwrite script plain pid fd addr n at) (value_of result) }
+        → LeadsHolding script numbers others heap.new procs.now tree.new plain account place.pid (Call.Pwrite fd addr n at)
+        (pwrite script plain place.pid fd addr n at) (value_of result) }
     ensures kept { IsKept heap.new procs.now }
     ensures beside { heap.new ≡ record heap.old {
       vnodes = heap.new.vnodes;
@@ -134,9 +137,9 @@ pub fn pwrite_file(
     } }
     ensures paid { IsPaid heap.old purse.old heap.new purse.new }
     ensures reads { tree.old.disk.reads ≤ tree.new.disk.reads }
-    ensures stays { StaysOffNodes heap.old procs.now pid fd tree.old tree.new }
+    ensures stays { StaysOffNodes heap.old procs.now place.pid fd tree.old tree.new }
 {
-    let Some(found) = opened(heap, procs, pid, fd) else {
+    let Some(found) = opened(heap, procs, place, fd) else {
         return Err(Errno::EBADF);
     };
     if !may_write(found.desc.access) {
@@ -149,7 +152,7 @@ pub fn pwrite_file(
     if is_directory(&info) {
         return Err(Errno::EISDIR);
     }
-    let Some(range) = range_of(heap, procs, pid, addr, n) else {
+    let Some(range) = range_of(heap, procs, place, addr, n) else {
         return Err(Errno::EFAULT);
     };
     if range.is_empty() {

@@ -14,7 +14,7 @@ use Rattle.open_laws.proofs.GoingLemmas.{boot_owners, held_open_on}
 use Rattle.proc_table.specs.Moves.{TableMoves}
 use Rattle.proc_table.specs.Procs.{first_proc, no_nodes}
 use Rattle.proc_table.specs.Table.{AreStored, TableView, key_of, keys_of, no_table, processes, procs_at, with_procs}
-use Rattle.proc_table.specs.declared.places.Listed.{Listed}
+use Rattle.proc_table.specs.declared.places.Place.{Place}
 use Rattle.proc_table.proofs.PlaceLemmas.{eqb_same, some_same, stored_is}
 use Rattle.proc_numbers.specs.Having.{AreListed}
 use Rattle.proc_numbers.proofs.Sums.{some_adds}
@@ -39,13 +39,13 @@ one_space (Some first ∷ objects) (suc key) proc is only = absurd (let e : 0 �
 
 -- ---- the table
 
-pub record Alone (objects : List (Option Proc)) (places : List Listed) : Type 0 where
-  pub place : Listed
+pub record Alone (objects : List (Option Proc)) (places : List Place) : Type 0 where
+  pub place : Place
   pub listed : places ≡ place ∷ []
   pub there : object objects place.key ≡ Some first_proc
   pub pid : place.pid ≡ 1
 
-alone : (objects : List (Option Proc)) (places : List Listed) → AreStored objects places → procs_at objects places ≡ first_proc ∷ [] → Alone objects places
+alone : (objects : List (Option Proc)) (places : List Place) → AreStored objects places → procs_at objects places ≡ first_proc ∷ [] → Alone objects places
 alone objects [] stored is = absurd (let e : [] ≡ first_proc ∷ [] = is in cc)
 alone objects (place ∷ places) stored is =
     let at = stored_is objects place stored.0 in
@@ -54,12 +54,12 @@ alone objects (place ∷ places) stored is =
     let rest : procs_at objects places ≡ [] = cc in
     record {
       place = place;
-      listed = ap (λ (more : List Listed). place ∷ more) (none_more places stored.1 rest);
+      listed = ap (λ (more : List Place). place ∷ more) (none_more places stored.1 rest);
       there = at.is ∙ ap (λ (p : Proc). Some p) same;
       pid = sym at.pid ∙ ap (λ (p : Proc). p.pid) same;
     }
   where
-    none_more : (places : List Listed) → AreStored objects places → procs_at objects places ≡ [] → places ≡ []
+    none_more : (places : List Place) → AreStored objects places → procs_at objects places ≡ [] → places ≡ []
     none_more [] stored is = refl
     none_more (other ∷ places) stored is =
         let at = stored_is objects other stored.0 in
@@ -92,7 +92,7 @@ module _ (bytes : ℕ) (old new : Heap) (kept : TableView) (empty : old ≡ empt
   outside other apart = moved.keys.outside other apart ∙ ap (λ (h : Heap). object h.procs other) empty ∙ no_object (bytes / size class.Proc) other
 
   is_it : (other : ℕ) → Contains (keys_of kept.listed) other → other ≡ its.place.key
-  is_it other among = sym (Contains-single its.place.key other (subst (λ (l : List Listed). Contains (keys_of l) other) its.listed among))
+  is_it other among = sym (Contains-single its.place.key other (subst (λ (l : List Place). Contains (keys_of l) other) its.listed among))
 
   listed_if : (other : ℕ) → InUse new.procs other → Contains (keys_of kept.listed) other
   listed_if other used = by_key (contains_or_not (keys_of kept.listed) other)
@@ -108,12 +108,12 @@ module _ (bytes : ℕ) (old new : Heap) (kept : TableView) (empty : old ≡ empt
     all = record {
       used = λ key among. ap is_some (ap (object new.procs) (is_it key among) ∙ its.there);
       listed = listed_if;
-      once = λ i j below within same. absurd (let long : length (keys_of kept.listed) ≡ 1 = ap (λ (l : List Listed). length (keys_of l)) its.listed in omega (arith, below, within, long));
+      once = λ i j below within same. absurd (let long : length (keys_of kept.listed) ≡ 1 = ap (λ (l : List Place). length (keys_of l)) its.listed in omega (arith, below, within, long));
     };
   }
 
   pub boot_there : IsSome (key_of kept.listed 1)
-  boot_there = ap is_some (ap (λ (l : List Listed). key_of l 1) its.listed ∙ ap (λ b. cond b (Some its.place.key) None) (eqb_same its.place.pid 1 its.pid))
+  boot_there = ap is_some (ap (λ (l : List Place). key_of l 1) its.listed ∙ ap (λ b. cond b (Some its.place.key) None) (eqb_same its.place.pid 1 its.pid))
 
   owns_now : OwnsItsObjects new
   owns_now =

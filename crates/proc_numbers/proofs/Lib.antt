@@ -27,8 +27,6 @@ pub mod Remembering
 pub mod RightBytes
 pub mod Taking
 pub mod Putting
-pub mod ReadCall
-pub mod WriteCall
 pub mod Capped
 pub mod Took
 pub mod Fetching
@@ -41,3 +39,6 @@ pub mod Moved
 pub mod SocketReads
 pub mod SocketWrites
 pub mod StillUsed
+pub mod EndLemmas
+pub mod ReadCall
+pub mod WriteCall

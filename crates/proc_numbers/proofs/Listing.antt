@@ -10,11 +10,11 @@ use Rattle.kheap_slabs.specs.declared.objects.Proc.{Proc}
 use Rattle.kheap_slabs.specs.Keys.{AreKeysOf}
 use Rattle.proc_table.specs.Procs.{proc_of}
 use Rattle.proc_table.specs.Table.{AreBetween, AreStored, key_of, keys_of, procs_at}
-use Rattle.proc_table.specs.declared.places.Listed.{Listed}
+use Rattle.proc_table.specs.declared.places.Place.{Place}
 use Rattle.proc_table.proofs.PlaceLemmas.{Contains-cases, IsAt, eqb_other, eqb_same, key_of-none, key_of-proc, none_not_some, some_same, stored_is}
 
 -- a pid that has a place is above those before, and not above the last
-pub pid_between : (places : List Listed) (before last pid key : ℕ) → AreBetween before places last → key_of places pid ≡ Some key → (before < pid) × (pid ≤ last)
+pub pid_between : (places : List Place) (before last pid key : ℕ) → AreBetween before places last → key_of places pid ≡ Some key → (before < pid) × (pid ≤ last)
 pid_between [] before last pid key between is = cc
 pid_between (place ∷ places) before last pid key between is = elim (eqb_tells place.pid pid) [
   | inl same ↦ (
@@ -26,12 +26,12 @@ pid_between (place ∷ places) before last pid key between is = elim (eqb_tells 
       (let first : before < place.pid = between.0 in let more : place.pid < pid = rest.0 in omega (arith, first, more), rest.1)
 ]
   where
-    above : (places : List Listed) (before : ℕ) → AreBetween before places last → before ≤ last
+    above : (places : List Place) (before : ℕ) → AreBetween before places last → before ≤ last
     above [] before between = between
     above (place ∷ places) before between = let more = above places place.pid between.1 in let first : before < place.pid = between.0 in omega (arith, first, more)
 
 -- each key of the table is that of a pid
-pub key_listed : (places : List Listed) (before last key : ℕ) → AreBetween before places last → Contains (keys_of places) key → (pid : ℕ) × (key_of places pid ≡ Some key)
+pub key_listed : (places : List Place) (before last key : ℕ) → AreBetween before places last → Contains (keys_of places) key → (pid : ℕ) × (key_of places pid ≡ Some key)
 key_listed [] before last key between there = absurd (omega (arith, there.1))
 key_listed (place ∷ places) before last key between there = elim (Contains-cases place.key key (keys_of places) there) [
   | inl same ↦ (place.pid, ap (λ b. cond b (Some place.key) (key_of places place.pid)) (eqb_same place.pid place.pid refl) ∙ ap Some same)
@@ -44,12 +44,12 @@ key_listed (place ∷ places) before last key between there = elim (Contains-cas
 ]
 
 -- The process of a pid, and its key.
-pub record Found (objects : List (Option Proc)) (places : List Listed) (pid : ℕ) (proc : Proc) : Type 0 where
+pub record Found (objects : List (Option Proc)) (places : List Place) (pid : ℕ) (proc : Proc) : Type 0 where
   pub key : ℕ
   pub named : key_of places pid ≡ Some key
   pub there : object objects key ≡ Some proc
 
-pub found_by_pid : (objects : List (Option Proc)) (places : List Listed) (pid : ℕ) (proc : Proc) → AreStored objects places → proc_of (procs_at objects places) pid ≡ Some proc
+pub found_by_pid : (objects : List (Option Proc)) (places : List Place) (pid : ℕ) (proc : Proc) → AreStored objects places → proc_of (procs_at objects places) pid ≡ Some proc
     → Found objects places pid proc
 found_by_pid objects places pid proc stored is = by_key (key_of places pid) refl
   where
@@ -69,7 +69,7 @@ module _ (objects : List (Option Proc)) (key : ℕ) (proc now : Proc) (there : o
   put_other other apart = get_or-set_other objects key other (Some now) None apart
 
   -- each place has its process still
-  pub stored_still : (places : List Listed) → AreStored objects places → AreStored (put objects key now) places
+  pub stored_still : (places : List Place) → AreStored objects places → AreStored (put objects key now) places
   stored_still [] stored = tt
   stored_still (place ∷ places) stored = (here (eqb_tells place.key key), stored_still places stored.1)
     where
@@ -97,7 +97,7 @@ module _ (objects : List (Option Proc)) (key : ℕ) (proc now : Proc) (there : o
       from other (inl same) used = ap is_some (ap (object objects) same.1 ∙ there)
       from other (inr apart) used = subst IsSome (put_other other apart.1) used
 
-  module _ (places : List Listed) (pid : ℕ) (stored : AreStored objects places) (named : key_of places pid ≡ Some key) where
+  module _ (places : List Place) (pid : ℕ) (stored : AreStored objects places) (named : key_of places pid ≡ Some key) where
     its_pid : proc.pid ≡ pid
     its_pid =
         let it = key_of-proc objects places pid key stored named in

@@ -18,7 +18,7 @@ use Rattle.posix_defs.specs.Plain.{Plain}
 use Rattle.proc_table.specs.Procs.{IsAlive}
 use Rattle.proc_table.specs.Table.{AreStored, TableView, key_of, processes}
 use Rattle.proc_table.proofs.PlaceLemmas.{key_of-none, none_not_some}
-use Rattle.proc_numbers.specs.Found.{IsNamed, IsOnPipe, opened_in, pipe_in}
+use Rattle.proc_numbers.specs.Found.{opened_in}
 use Rattle.proc_numbers.specs.declared.lookups.Found.{Found}
 
 module _ (script : Script) (numbers : Numbers) (plain : Plain) (pid : ℕ) (fd : ℤ) (answer : Opened → Answer) where
@@ -42,17 +42,6 @@ pub pipe_of : (h : Heap) (key pipe : ℕ) (desc : Desc) → HasItsOwners h [] �
 pipe_of h key pipe desc owners is on =
     let there : IsThereFor h desc.access (target.Pipe pipe) = subst (IsThereFor h desc.access) on (owners.held.targets key desc is) in
     owners.held.stand pipe there.0
-
--- what a number names that is open on a pipe is a pipe
-pub only_pipe : (h : Heap) (kept : TableView) (pid : ℕ) (fd : ℤ) (found : Found) → IsOnPipe h kept pid fd → IsNamed h kept pid fd found → object h.descs found.key ≡ Some found.desc
-    → ((pipe : ℕ) → found.desc.target ≡ target.Pipe pipe → ⊥) → ⊥
-only_pipe h kept pid fd found on named is never =
-    by_target found.desc.target refl (on named.held found.desc named.is (ap (object h.descs) named.same ∙ is))
-  where
-    by_target : (what : Target) → found.desc.target ≡ what → IsSome (pipe_in what) → ⊥
-    by_target (target.Pipe pipe) at some = never pipe at
-    by_target (target.Inode number) at some = cc
-    by_target (target.Sock sock) at some = cc
 
 -- who runs is in the table
 pub alive_listed : (h : Heap) (kept : TableView) (pid : ℕ) → AreStored h.procs kept.listed → IsAlive (processes h kept) pid → IsSome (key_of kept.listed pid)

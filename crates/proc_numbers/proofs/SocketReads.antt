@@ -1,10 +1,9 @@
 -- What a read of a socket leads to.
-use Rattle.std.proofs.Common.{◌≡◌, ◌≢◌, ◌⊎◌, ℕ, zero, suc, ◌+◌, ◌-◌, ◌%◌, ◌<◌, ◌≤◌, ◌==◌, ◌++◌, Bool, true, false, cond, min, leb, ltb, ℤ, pos, List, [], ◌∷◌, take, drop, length, length-append, Option, None, Some, IsSome, refl, ap, sym, subst, ◌∙◌, arith, eq-eqb, ne_eqb, inl, inr}
+use Rattle.std.proofs.Common.{◌≡◌, ◌⊎◌, ℕ, zero, suc, ◌+◌, ◌-◌, ◌%◌, ◌<◌, ◌≤◌, ◌++◌, Bool, true, false, cond, min, leb, ltb, ℤ, pos, List, [], ◌∷◌, take, drop, length, length-append, Option, None, Some, IsSome, refl, ap, sym, subst, ◌∙◌, arith, inl, inr}
 use Rattle.std.proofs.lemmas.Bool.{cases_eq, ltb-true, ltb-false}
 use Rattle.std.proofs.lemmas.Bool.Decides.{leb_tells}
 use Rattle.std.proofs.lemmas.List.{length-take-le}
 use Rattle.std.specs.Option.{option_map}
-use Rattle.kabi_types.specs.declared.errnos.Errno.TheVariants.{EBADF, EFAULT}
 use Rattle.kabi_types.specs.Arguments.{count_of}
 use Rattle.kabi_types.specs.declared.calls.Call.{Call}
 use Rattle.kabi_types.specs.declared.calls.Call.TheVariants as call
@@ -18,20 +17,16 @@ use Rattle.kheap_slabs.proofs.ObjectLemmas.{object_of}
 use Rattle.kheap_slabs.specs.Heap.{Heap}
 use Rattle.kheap_slabs.specs.Owners.{with_space}
 use Rattle.kheap_slabs.specs.Paid.{TakesNothing}
-use Rattle.chunk_queue.specs.Moving.{would_wait}
 use Rattle.open_laws.specs.Socketed.{AreRenamed, stage_by}
 use Rattle.open_laws.proofs.SocketLemmas.{placed_at}
 use Rattle.page_space.specs.Contents.{IsOwnedWith, SpaceMoves}
 use Rattle.page_space.specs.Putting.{Puts}
 use Rattle.open_laws.specs.Placed.{Numbers}
 use Rattle.posix_defs.specs.Account.{Account, front_after}
-use Rattle.posix_defs.specs.Answer.{Answer, Blocked, failed, replied}
-use Rattle.posix_defs.specs.Calls.Reading.{of_bytes, put, read, read_from_socket, read_target, unless_directory}
-use Rattle.posix_defs.specs.Calls.Opened.{Opened, if_readable, on_open}
-use Rattle.posix_defs.specs.Files.Descriptions.{Target, OnSocket}
+use Rattle.posix_defs.specs.Answer.{Blocked, failed, replied}
+use Rattle.posix_defs.specs.Calls.Reading.{put, read, read_from_socket}
 use Rattle.posix_defs.specs.Files.State.{with_sockets}
-use Rattle.posix_defs.specs.Machine.{blocks}
-use Rattle.posix_defs.specs.Memory.{after_put, is_mapped_range, stored}
+use Rattle.posix_defs.specs.Memory.{after_put, stored}
 use Rattle.posix_defs.specs.MemoryCalls.{remembered}
 use Rattle.posix_defs.specs.Pipe.{Moving, Moves, Blocks, Fails, not_now}
 use Rattle.posix_defs.specs.Plain.{Plain, with_files}
@@ -56,11 +51,8 @@ use Rattle.proc_numbers.specs.Standing.{IsKept, Leads, StandsFor}
 use Rattle.proc_numbers.proofs.FrontsMoved.{front_moves, front_stays}
 use Rattle.proc_numbers.proofs.Leading.{leads_nowhere, leads_to_sleep}
 use Rattle.proc_numbers.proofs.Remembering.{account_put, fronts_put, kept_put, open_put, space_on, table_put}
-use Rattle.proc_numbers.proofs.RightBytes.{mapped_at}
 use Rattle.proc_numbers.proofs.Settled.{forgotten}
-use Rattle.proc_numbers.specs.Finding.{FindsFor, FindsToMove}
 use Rattle.proc_numbers.specs.SocketMoving.{ReadsSocket}
-use Rattle.proc_numbers.specs.declared.finding.OpenSocket.{OpenSocket}
 use Rattle.proc_numbers.specs.Owning.{SocketsChange}
 use Rattle.proc_numbers.proofs.Moved.{fronts_changed, kept_changed, open_changed, same_nodes, same_pages, same_procs, spaces_own}
 use Rattle.proc_numbers.proofs.Renaming.{renamed_by}
@@ -361,93 +353,3 @@ module _ (sockets : Sockets) (key : ℕ) (nonblock : Bool) (n count : ℕ) (link
 
 pub count_within : (sockets : Sockets) (key : ℕ) (nonblock : Bool) (n count : ℕ) → AreLinked sockets → 0 < n → Moves count ≡ sock_read sockets key nonblock (min n 4096) → count ≤ n
 count_within sockets key nonblock n count linked some answer = (read_moves sockets key nonblock n count linked some (sym (answer_is sockets key nonblock n count linked answer))).2
-
--- ---- the call
-
-pub read_refused : (script : Script) (numbers : Numbers) (plain : Plain) (pid : ℕ) (fd addr n : ℤ) → ((answer : Opened → Answer) → FindsToMove numbers script plain pid fd false answer None)
-    → read script plain pid fd addr n ≡ failed script plain pid EBADF
-unfolding read
-read_refused script numbers plain pid fd addr n finds =
-    finds (λ opened. unless_directory script plain pid opened (of_bytes script plain pid addr n (read_target script plain pid opened addr (count_of n) opened.is.target)))
-
-socket_blocks : (script : Script) (plain : Plain) (pid place : ℕ) (addr : ℤ) (moving : Moving) → blocks (read_from_socket script plain pid place addr moving) ≡ would_wait moving
-socket_blocks script plain pid place addr (Moves k) = refl
-socket_blocks script plain pid place addr Blocks = refl
-socket_blocks script plain pid place addr (Fails errno) = refl
-
--- A number that may be read is open on a socket.
-module _ (script : Script) (numbers : Numbers) (plain : Plain) (pid : ℕ) (fd addr n : ℤ) (on : OpenSocket)
-    (finds : (answer : Opened → Answer) → FindsFor numbers (on_open script plain pid fd (λ opened. if_readable script plain pid opened (answer opened))) answer on)
-    (start v : ℕ) (v_is : v ≡ count_of n) (begins : 0 < v → start ≡ count_of addr) where
-  abbrev at : ℕ
-  at = numbers.socks on.key
-
-  -- its answer, by whether its bytes are mapped
-  of_socket : ℕ → Answer
-  of_socket m = read_from_socket script plain pid at addr (sock_read plain.files.sockets at on.nonblock m)
-
-  of_opened : Opened → Answer
-  of_opened opened = unless_directory script plain pid opened (of_bytes script plain pid addr n (read_target script plain pid opened addr (count_of n) opened.is.target))
-
-  on_target : Opened → Target → Answer
-  on_target opened what = unless_directory script plain pid (record opened { is = record opened.is { target = what } })
-      (of_bytes script plain pid addr n (read_target script plain pid opened addr (count_of n) what))
-
-  on_socket : (opened : Opened) → opened.is.nonblock ≡ on.nonblock → on_target opened (OnSocket at) ≡ of_bytes script plain pid addr n (of_socket (count_of n))
-  unfolding of_socket on_target
-  on_socket opened waits =
-      ap (λ b. of_bytes script plain pid addr n (read_from_socket script plain pid at addr (sock_read plain.files.sockets at b (count_of n)))) waits
-
-  by_range : (b : Bool) → is_mapped_range (memory_of plain.table pid) start v ≡ b
-      → read script plain pid fd addr n ≡ cond b (cond (v == 0) (replied script plain pid (Val (pos 0))) (of_socket v)) (failed script plain pid EFAULT)
-  unfolding read of_opened on_target
-  by_range b tells =
-      let it = finds of_opened in
-      it.1
-      ∙ ap (on_target it.0) it.2
-      ∙ on_socket it.0 it.3
-      ∙ ap (λ t. cond t (cond (count_of n == 0) (replied script plain pid (Val (pos 0))) (of_socket (count_of n))) (failed script plain pid EFAULT))
-      (ap (is_mapped_range (memory_of plain.table pid) (count_of addr)) (sym v_is) ∙ sym (mapped_at (memory_of plain.table pid) start (count_of addr) v begins) ∙ tells)
-      ∙ ap (λ m. cond b (cond (m == 0) (replied script plain pid (Val (pos 0))) (of_socket m)) (failed script plain pid EFAULT)) (sym v_is)
-
-  pub read_unmapped : is_mapped_range (memory_of plain.table pid) start v ≡ false → read script plain pid fd addr n ≡ failed script plain pid EFAULT
-  read_unmapped tells = by_range false tells
-
-  pub read_nothing : is_mapped_range (memory_of plain.table pid) start v ≡ true → v ≡ 0 → read script plain pid fd addr n ≡ replied script plain pid (Val (pos 0))
-  read_nothing tells none = by_range true tells ∙ ap (λ b. cond b (replied script plain pid (Val (pos 0))) (of_socket v)) (eq-eqb v 0 none)
-
-  pub read_goes : is_mapped_range (memory_of plain.table pid) start v ≡ true → v ≢ 0
-      → read script plain pid fd addr n ≡ read_from_socket script plain pid at addr (sock_read plain.files.sockets at on.nonblock v)
-  unfolding of_socket
-  read_goes tells some = by_range true tells ∙ ap (λ b. cond b (replied script plain pid (Val (pos 0))) (of_socket v)) (ne_eqb v 0 some)
-
-  -- a read by key and by at
-  module _ (h : Heap) (kept : TableView) (account : Account) (stands : StandsFor numbers h kept plain account) (used : IsSome (sock_at stands.opened.opened.socketed.keyed on.key)) where
-    abbrev by_key : Sockets
-    by_key = stands.opened.opened.socketed.keyed
-
-    same_told : sock_read plain.files.sockets at on.nonblock v ≡ sock_read by_key on.key on.nonblock v
-    same_told = read_told numbers.socks by_key plain.files.sockets on.key on.nonblock v stands.opened.opened.socketed.stands.linked stands.opened.opened.socketed.renamed used
-
-    -- whether it would sleep
-    pub read_sleeps : is_mapped_range (memory_of plain.table pid) start v ≡ true → v ≢ 0 → (b : Bool) → b ≡ would_wait (sock_read by_key on.key on.nonblock v) → b ≡ blocks (read script plain pid fd addr n)
-    read_sleeps tells some b is =
-        is ∙ sym (ap would_wait same_told)
-        ∙ sym (ap blocks (read_goes tells some) ∙ socket_blocks script plain pid at addr (sock_read plain.files.sockets at on.nonblock v))
-
-    -- What it leads to once bytes have moved.
-    pub read_leads : is_mapped_range (memory_of plain.table pid) start v ≡ true → v ≢ 0 → (before : Purse) (new : Heap) (after : Purse) (space : List (Option ℕ)) → IsKept h kept → HasSpace h kept pid space → (told : Turned)
-        → told ≡ told_read (sock_read by_key on.key on.nonblock v)
-        → ((k : ℕ) → sock_read by_key on.key on.nonblock v ≡ Moves k → ReadsSocket h before new after space on.key start by_key k)
-        → UnlessMoves (sock_read by_key on.key on.nonblock v) (new ≡ h)
-        → Leads script numbers new kept plain account pid (call.Read fd addr n) (read script plain pid fd addr n) told
-    read_leads tells some before new after space is has told so reads refused =
-        subst (Leads script numbers new kept plain account pid (call.Read fd addr n) (read script plain pid fd addr n)) (sym so)
-        (subst (λ answer. Leads script numbers new kept plain account pid (call.Read fd addr n) answer (told_read (sock_read by_key on.key on.nonblock v)))
-        (sym (read_goes tells some ∙ ap (read_from_socket script plain pid at addr) same_told))
-        (leads_taken h before new after kept pid space on.key start v on.nonblock is has by_key stands.opened.opened.socketed.stands used script numbers plain account stands refl fd addr n
-        (begins (positive v some)) (positive v some) (sock_read by_key on.key on.nonblock v) refl reads refused))
-      where
-        positive : (m : ℕ) → m ≢ 0 → 0 < m
-        positive zero some = absurd (some refl)
-        positive (suc m) some = omega arith

@@ -1,35 +1,29 @@
 -- What a write to a socket leads to.
-use Rattle.std.proofs.Common.{◌≡◌, ◌≢◌, ◌⊎◌, ℕ, zero, suc, ◌+◌, ◌-◌, ◌<◌, ◌≤◌, ◌==◌, ◌++◌, Bool, true, false, cond, min, leb, ℤ, pos, List, [], take, length, Option, None, Some, IsSome, refl, ap, sym, subst, ◌∙◌, arith, eq-eqb, ne_eqb, inl, inr}
+use Rattle.std.proofs.Common.{◌≡◌, ◌⊎◌, ℕ, ◌+◌, ◌-◌, ◌<◌, ◌≤◌, ◌==◌, ◌++◌, Bool, true, false, cond, min, leb, ℤ, pos, List, [], take, length, Option, None, Some, IsSome, refl, ap, sym, subst, ◌∙◌, arith, ne_eqb, inl, inr}
 use Rattle.std.specs.Option.{option_map}
 use Rattle.std.proofs.lemmas.Bool.{cases_eq}
 use Rattle.std.proofs.lemmas.Bool.Decides.{leb_tells}
 use Rattle.std.proofs.lemmas.List.FromFn.{length-map-range_with_len}
-use Rattle.kabi_types.specs.Arguments.{count_of}
 use Rattle.kabi_types.specs.declared.calls.Call.{Call}
 use Rattle.kabi_types.specs.declared.calls.Call.TheVariants as call
 use Rattle.kabi_types.specs.declared.errnos.Errno.{Errno}
-use Rattle.kabi_types.specs.declared.errnos.Errno.TheVariants.{EBADF, EFAULT, ENOTCONN, EPIPE}
+use Rattle.kabi_types.specs.declared.errnos.Errno.TheVariants.{EPIPE}
 use Rattle.kabi_types.specs.declared.replies.Reply.TheVariants.{Fail, Val}
 use Rattle.kabi_types.specs.declared.scripts.Script.{Script}
 use Rattle.kheap_slabs.specs.Purse.{Purse}
 use Rattle.kheap_slabs.specs.Heap.{Heap}
-use Rattle.chunk_queue.specs.Moving.{moved_by, moving_of, would_wait}
+use Rattle.chunk_queue.specs.Moving.{moved_by, moving_of}
 use Rattle.chunk_queue.specs.declared.moved.Moved.{Moved}
 use Rattle.open_laws.specs.Socketed.{AreRenamed, stage_by}
 use Rattle.open_laws.proofs.SocketLemmas.{placed_at, placed_stage}
 use Rattle.open_laws.specs.Placed.{Numbers}
 use Rattle.posix_defs.specs.Account.{Account, account_on}
-use Rattle.posix_defs.specs.Answer.{Answer, Blocked, failed, replied}
-use Rattle.posix_defs.specs.Calls.Opened.{Opened, if_writable, on_open}
-use Rattle.posix_defs.specs.Calls.Reading.{of_bytes}
-use Rattle.posix_defs.specs.Calls.Writing.{did_part, put_in_queue, put_in_socket, stopped, write, write_queue, write_target}
-use Rattle.posix_defs.specs.Files.Descriptions.{Target, OnSocket}
-use Rattle.posix_defs.specs.Files.State.{Files, with_sockets}
-use Rattle.posix_defs.specs.Machine.{blocks}
-use Rattle.posix_defs.specs.Memory.{Memory, byte_at, is_mapped_range, loaded}
+use Rattle.posix_defs.specs.Answer.{Blocked, failed, replied}
+use Rattle.posix_defs.specs.Calls.Writing.{did_part, put_in_queue, put_in_socket, stopped, write, write_queue}
+use Rattle.posix_defs.specs.Files.State.{with_sockets}
+use Rattle.posix_defs.specs.Memory.{Memory, byte_at, loaded}
 use Rattle.posix_defs.specs.Pipe.{Moving, Moves, Blocks, Fails, not_now}
 use Rattle.posix_defs.specs.Plain.{Plain, with_files}
-use Rattle.posix_defs.specs.Process.{memory_of}
 use Rattle.posix_defs.specs.QueuePlace.{QueuePlace}
 use Rattle.posix_defs.specs.Socket.{Connected, Idle, Listening, Socket, Stage, is_connected, is_shut_read, peer_of}
 use Rattle.posix_defs.specs.SocketLinks.{AreLinked}
@@ -49,12 +43,10 @@ use Rattle.proc_numbers.specs.Standing.{IsKept, IsTold, Leads, StandsFor}
 use Rattle.proc_numbers.proofs.Capped.{loaded_taken, moved_same}
 use Rattle.proc_numbers.proofs.FrontsMoved.{front_stays}
 use Rattle.proc_numbers.proofs.Leading.{leads_nowhere, leads_to_sleep}
-use Rattle.proc_numbers.proofs.RightBytes.{loaded_at, mapped_at}
+use Rattle.proc_numbers.proofs.RightBytes.{loaded_at}
 use Rattle.proc_numbers.proofs.Settled.{forgotten}
-use Rattle.proc_numbers.specs.Finding.{FindsFor, FindsToMove}
 use Rattle.proc_numbers.specs.SocketMoving.{WritesSocket}
 use Rattle.proc_numbers.specs.Owning.{SocketsChange}
-use Rattle.proc_numbers.specs.declared.finding.OpenSocket.{OpenSocket}
 use Rattle.proc_numbers.proofs.Moved.{fronts_changed, kept_changed, open_changed, same_nodes, same_pages, same_procs}
 use Rattle.proc_numbers.proofs.SocketReads.{empty_place}
 use Rattle.proc_numbers.proofs.Renaming.{renamed_by}
@@ -313,131 +305,3 @@ module _ (script : Script) (numbers : Numbers) (old new : Heap) (kept : TableVie
   leads_written (Fails errno) writes refused =
       subst (λ (h : Heap). Leads script numbers h kept plain account pid which (stopped script plain pid done errno) (told_write nonblock n done (Fails errno))) (sym refused)
       (stops errno (done == 0))
-
--- ---- the call
-
-queue_blocks : (script : Script) (plain : Plain) (pid : ℕ) (nonblock : Bool) (n done : ℕ) (next : ℕ → Files) (moving : Moving) → blocks (write_queue script plain pid nonblock n done next moving) ≡ would_wait moving
-queue_blocks script plain pid nonblock n done next (Moves k) = go (k == n - done) nonblock
-  where
-    go : (all waits : Bool) → blocks (cond all (replied script (with_files plain (next k)) pid (Val (pos n)))
-        (cond waits (replied script (with_files plain (next k)) pid (Val (pos (done + k)))) (did_part (with_files plain (next k)) pid k))) ≡ false
-    go true waits = refl
-    go false true = refl
-    go false false = refl
-queue_blocks script plain pid nonblock n done next Blocks = refl
-queue_blocks script plain pid nonblock n done next (Fails errno) = go (done == 0)
-  where
-    go : (none : Bool) → blocks (cond none (failed script plain pid errno) (replied script plain pid (Val (pos done)))) ≡ false
-    go true = refl
-    go false = refl
-
-pub write_refused : (script : Script) (numbers : Numbers) (plain : Plain) (pid : ℕ) (fd addr n : ℤ) (done : ℕ) → ((answer : Opened → Answer) → FindsToMove numbers script plain pid fd true answer None)
-    → write script plain pid fd addr n done ≡ failed script plain pid EBADF
-unfolding write
-write_refused script numbers plain pid fd addr n done finds =
-    finds (λ opened. of_bytes script plain pid addr n (write_target script plain pid opened addr (count_of n) done opened.is.target))
-
--- A number that may be written is open on a socket.
-module _ (script : Script) (numbers : Numbers) (plain : Plain) (pid : ℕ) (fd addr n : ℤ) (done : ℕ) (on : OpenSocket)
-    (finds : (answer : Opened → Answer) → FindsFor numbers (on_open script plain pid fd (λ opened. if_writable script plain pid opened (answer opened))) answer on)
-    (start v : ℕ) (v_is : v ≡ count_of n) (begins : 0 < v → start ≡ count_of addr) where
-  abbrev at : ℕ
-  at = numbers.socks on.key
-
-  -- its answer where it is connected, by how many bytes it has and where they begin
-  of_connected : ℕ → ℕ → Answer
-  of_connected m from = write_queue script plain pid on.nonblock m done (put_in_socket plain.files at (loaded (memory_of plain.table pid) (from + done) (m - done)))
-      (sock_write plain.files.sockets at on.nonblock (m - done))
-
-  of_socket : ℕ → ℕ → Answer
-  of_socket m from = cond (is_connected (stage_at plain.files.sockets at)) (of_connected m from) (failed script plain pid ENOTCONN)
-
-  of_opened : Opened → Answer
-  of_opened opened = of_bytes script plain pid addr n (write_target script plain pid opened addr (count_of n) done opened.is.target)
-
-  on_target : Opened → Target → Answer
-  on_target opened what = of_bytes script plain pid addr n (write_target script plain pid opened addr (count_of n) done what)
-
-  on_socket : (opened : Opened) → opened.is.nonblock ≡ on.nonblock → on_target opened (OnSocket at) ≡ of_bytes script plain pid addr n (of_socket (count_of n) (count_of addr))
-  unfolding of_connected of_socket on_target
-  on_socket opened waits =
-      ap (λ b. of_bytes script plain pid addr n (cond (is_connected (stage_at plain.files.sockets at))
-      (write_queue script plain pid b (count_of n) done (put_in_socket plain.files at (loaded (memory_of plain.table pid) (count_of addr + done) (count_of n - done)))
-      (sock_write plain.files.sockets at b (count_of n - done))) (failed script plain pid ENOTCONN))) waits
-
-  by_range : (b : Bool) → is_mapped_range (memory_of plain.table pid) start v ≡ b
-      → write script plain pid fd addr n done ≡ cond b (cond (v == 0) (replied script plain pid (Val (pos 0))) (of_socket v (count_of addr))) (failed script plain pid EFAULT)
-  unfolding write of_opened on_target
-  by_range b tells =
-      let it = finds of_opened in
-      it.1
-      ∙ ap (on_target it.0) it.2
-      ∙ on_socket it.0 it.3
-      ∙ ap (λ t. cond t (cond (count_of n == 0) (replied script plain pid (Val (pos 0))) (of_socket (count_of n) (count_of addr))) (failed script plain pid EFAULT))
-      (ap (is_mapped_range (memory_of plain.table pid) (count_of addr)) (sym v_is) ∙ sym (mapped_at (memory_of plain.table pid) start (count_of addr) v begins) ∙ tells)
-      ∙ ap (λ m. cond b (cond (m == 0) (replied script plain pid (Val (pos 0))) (of_socket m (count_of addr))) (failed script plain pid EFAULT)) (sym v_is)
-
-  pub write_unmapped : is_mapped_range (memory_of plain.table pid) start v ≡ false → write script plain pid fd addr n done ≡ failed script plain pid EFAULT
-  write_unmapped tells = by_range false tells
-
-  pub write_nothing : is_mapped_range (memory_of plain.table pid) start v ≡ true → v ≡ 0 → write script plain pid fd addr n done ≡ replied script plain pid (Val (pos 0))
-  write_nothing tells none = by_range true tells ∙ ap (λ b. cond b (replied script plain pid (Val (pos 0))) (of_socket v (count_of addr))) (eq-eqb v 0 none)
-
-  positive : (m : ℕ) → m ≢ 0 → 0 < m
-  positive zero some = absurd (some refl)
-  positive (suc m) some = omega arith
-
-  goes : is_mapped_range (memory_of plain.table pid) start v ≡ true → v ≢ 0 → write script plain pid fd addr n done ≡ of_socket v start
-  goes tells some =
-      by_range true tells ∙ ap (λ b. cond b (replied script plain pid (Val (pos 0))) (of_socket v (count_of addr))) (ne_eqb v 0 some)
-      ∙ ap (of_socket v) (sym (begins (positive v some)))
-
-  connected_blocks : blocks (of_connected v start) ≡ would_wait (sock_write plain.files.sockets at on.nonblock (v - done))
-  unfolding of_connected
-  connected_blocks =
-      queue_blocks script plain pid on.nonblock v done (put_in_socket plain.files at (loaded (memory_of plain.table pid) (start + done) (v - done))) (sock_write plain.files.sockets at on.nonblock (v - done))
-
-  -- a write by key and by place
-  module _ (h : Heap) (kept : TableView) (account : Account) (stands : StandsFor numbers h kept plain account) (used : IsSome (sock_at stands.opened.opened.socketed.keyed on.key)) where
-    abbrev by_key : Sockets
-    by_key = stands.opened.opened.socketed.keyed
-
-    same_told : sock_write plain.files.sockets at on.nonblock (v - done) ≡ sock_write by_key on.key on.nonblock (v - done)
-    same_told = write_told numbers.socks by_key plain.files.sockets on.key stands.opened.opened.socketed.stands.linked stands.opened.opened.socketed.renamed used on.nonblock (v - done)
-
-    connected : (b : Bool) → is_connected (stage_at by_key on.key) ≡ b → of_socket v start ≡ cond b (of_connected v start) (failed script plain pid ENOTCONN)
-    unfolding of_socket
-    connected b is =
-        ap (λ t. cond t (of_connected v start) (failed script plain pid ENOTCONN))
-        (connected_told numbers.socks by_key plain.files.sockets on.key stands.opened.opened.socketed.stands.linked stands.opened.opened.socketed.renamed used ∙ is)
-
-    pub write_unconnected : is_mapped_range (memory_of plain.table pid) start v ≡ true → v ≢ 0 → is_connected (stage_at by_key on.key) ≡ false → write script plain pid fd addr n done ≡ failed script plain pid ENOTCONN
-    write_unconnected tells some is = goes tells some ∙ connected false is
-
-    -- whether it would sleep
-    pub write_sleeps : is_mapped_range (memory_of plain.table pid) start v ≡ true → v ≢ 0 → (b : Bool) → b ≡ would_wait (sock_write by_key on.key on.nonblock (v - done)) → b ≡ blocks (write script plain pid fd addr n done)
-    write_sleeps tells some b is = by_connected (is_connected (stage_at by_key on.key)) refl
-      where
-        never : (stage : Stage) → is_connected stage ≡ false → would_wait (write_in_stage by_key stage on.nonblock (v - done)) ≡ false
-        never Idle is_not = refl
-        never (Listening waiting) is_not = refl
-        never (Connected peer shut_read shut_write) is_not = cc
-
-        by_connected : (t : Bool) → is_connected (stage_at by_key on.key) ≡ t → b ≡ blocks (write script plain pid fd addr n done)
-        by_connected true t_is = is ∙ sym (ap would_wait same_told) ∙ sym (ap blocks (goes tells some ∙ connected true t_is) ∙ connected_blocks)
-        by_connected false t_is = is ∙ never (stage_at by_key on.key) t_is ∙ sym (ap blocks (write_unconnected tells some t_is))
-
-    -- What it leads to once its bytes have moved.
-    pub write_leads : is_mapped_range (memory_of plain.table pid) start v ≡ true → v ≢ 0 → is_connected (stage_at by_key on.key) ≡ true → (new : Heap) → IsKept h kept → (change : SocketsChange h new []) → (told : Turned)
-        → told ≡ told_write on.nonblock v done (sock_write by_key on.key on.nonblock (v - done))
-        → WritesSocket h new on.key by_key (loaded (memory_of plain.table pid) (start + done) (v - done)) (moved_in (sock_write by_key on.key on.nonblock (v - done)))
-        → UnlessMoves (sock_write by_key on.key on.nonblock (v - done)) (new ≡ h)
-        → Leads script numbers new kept plain account pid (call.Write fd addr n done) (write script plain pid fd addr n done) told
-    unfolding of_connected
-    write_leads tells some connected_so new is change told so writes refused =
-        subst (Leads script numbers new kept plain account pid (call.Write fd addr n done) (write script plain pid fd addr n done)) (sym so)
-        (subst (λ answer. Leads script numbers new kept plain account pid (call.Write fd addr n done) answer (told_write on.nonblock v done (sock_write by_key on.key on.nonblock (v - done))))
-        (sym (goes tells some ∙ connected true connected_so
-        ∙ ap (write_queue script plain pid on.nonblock v done (put_in_socket plain.files at (loaded (memory_of plain.table pid) (start + done) (v - done)))) same_told))
-        (leads_written script numbers h new kept plain account pid fd addr n done on.key is stands used on.nonblock v done (loaded (memory_of plain.table pid) (start + done) (v - done)) change
-        (sock_write by_key on.key on.nonblock (v - done)) writes refused))

@@ -1,5 +1,5 @@
 -- What the machine answers to a call on sockets, and what heap and table have open once one has changed.
-use Rattle.std.proofs.Common.{◌≡◌, ◌≢◌, ℕ, ℤ, pos, ◌+◌, ◌<◌, ◌++◌, Bool, true, false, cond, List, [], ◌∷◌, length, Option, None, Some, IsSome, is_some, refl, sym, ap, subst, ◌∙◌, arith, inl, inr, length-append, Contains}
+use Rattle.std.proofs.Common.{◌≡◌, ◌≢◌, ℕ, ℤ, pos, ◌+◌, ◌<◌, ◌++◌, Bool, true, false, List, [], ◌∷◌, length, Option, None, Some, IsSome, is_some, refl, sym, ap, subst, ◌∙◌, arith, inl, inr, length-append, Contains}
 use Rattle.std.proofs.lemmas.Bool.{cases_eq}
 use Rattle.std.proofs.lemmas.List.{get_or-set_other}
 use Rattle.std.specs.Prelude.{MatchResult, Result, Ok, Err, IsOk, is_ok}
@@ -14,14 +14,14 @@ use Rattle.kheap_slabs.specs.declared.objects.Target.{Target}
 use Rattle.kheap_slabs.specs.declared.objects.Target.TheVariants as target
 use Rattle.kheap_slabs.proofs.ObjectLemmas.{InUse-within, object_of}
 use Rattle.kheap_slabs.specs.Heap.{Heap}
-use Rattle.open_laws.specs.Described.{access_in, counted_in, target_in}
-use Rattle.open_laws.specs.Owned.{HasItsOwners, sock_in, sock_of, socks_named}
+use Rattle.open_laws.specs.Described.{counted_in, target_in}
+use Rattle.open_laws.specs.Owned.{HasItsOwners, sock_in, socks_named}
 use Rattle.open_laws.specs.Socketed.{AreRenamed}
 use Rattle.open_laws.proofs.OwnerLemmas.{named_by as sock_named_by}
 use Rattle.open_laws.specs.Placed.{Numbers, numbered}
 use Rattle.posix_defs.specs.Answer.{Answer, Blocked, failed, replied}
 use Rattle.posix_defs.specs.Calls.OnSockets.{accept as call_accept, accept_at, accepted_under, description_of, listen as call_listen, listen_at, on_socket, paired, paired_under, resocketed, shutdown as call_shutdown, shutdown_at, socket, socket_target, socketed, socketed_under, socketpair, unless_fault}
-use Rattle.posix_defs.specs.Calls.Opened.{Opened, on_open}
+use Rattle.posix_defs.specs.Calls.Opened.{Opened}
 use Rattle.posix_defs.specs.Files.Descriptors.{lowest_free_from, two_lowest_free}
 use Rattle.posix_defs.specs.Files.State.{Files, descriptors_of, with_open, with_sockets}
 use Rattle.posix_defs.specs.Machine.{blocks}
@@ -38,7 +38,7 @@ use Rattle.proc_numbers.specs.Naming.{named_by}
 use Rattle.proc_numbers.specs.Queues.{QueuesStand}
 use Rattle.proc_numbers.specs.Answering.{Answers, zero_of}
 use Rattle.proc_numbers.proofs.Answered.{on_it, on_nothing, refused}
-use Rattle.proc_numbers.specs.Finding.{FindsSocket, FindsToMove, IsOnSocket, if_movable, may_move}
+use Rattle.proc_numbers.specs.Finding.{FindsSocket}
 use Rattle.proc_numbers.specs.PipeOpening.{KeepsNumbers}
 use Rattle.proc_numbers.specs.SocketOpening.{with_both, with_desc, with_sock, with_socks}
 use Rattle.proc_numbers.specs.Owning.{SocketsChange}
@@ -73,14 +73,6 @@ module _ (numbers : Numbers) (h : Heap) (kept : TableView) (script : Script) (pl
 
 some_same : {X : Type 0} (o : Option X) (a b : X) → o ≡ Some a → o ≡ Some b → a ≡ b
 some_same o a b e f = cc
-
--- a number whose Desc is open on a socket is
-pub on_named_socket : (h : Heap) (kept : TableView) (pid : ℕ) (fd : ℤ) (held : HeldDescriptor) (desc : Desc) → named_by h kept pid fd ≡ Some held → object h.descs held.desc ≡ Some desc
-    → IsSome (sock_of desc.target) → IsOnSocket h kept pid fd
-on_named_socket h kept pid fd held desc is there on = λ also found also_is found_there.
-    let same = some_same (named_by h kept pid fd) held also is also_is in
-    subst (λ (d : Desc). IsSome (sock_of d.target))
-    (some_same (object h.descs held.desc) desc found there (ap (λ (d : HeldDescriptor). object h.descs d.desc) same ∙ found_there)) on
 
 -- a Desc that is open on a socket names it
 pub on_named : (h : Heap) (at key : ℕ) (desc : Desc) → object h.descs at ≡ Some desc → desc.target ≡ target.Sock key → Contains (socks_named h.descs) key
@@ -405,37 +397,6 @@ accept_sleeps numbers old kept script plain pid fd on owners named have finds_it
     ∙ ap (accepted_under script plain pid (numbers.socks on.key) lowest)
     (accept_told numbers.socks keyed.keyed plain.files.sockets on.key (keyed_there old [] on.key owners named keyed.keyed keyed.stands) keyed.renamed (is_some lowest) on.nonblock))
     ∙ blocks_by script plain pid (numbers.socks on.key) lowest numbers.socks accepting)
-
--- ---- who may read and write
-
-only_one : (what : Target) → IsSome (sock_of what) → ((key : ℕ) → what ≡ target.Sock key → ⊥) → ⊥
-only_one (target.Inode number) some never = cc
-only_one (target.Pipe pipe) some never = cc
-only_one (target.Sock key) some never = never key refl
-
-pub only_socket : (desc : Desc) → IsSome (sock_of desc.target) → ((key : ℕ) → desc.target ≡ target.Sock key → ⊥) → ⊥
-only_socket desc some never = only_one desc.target some never
-
-module _ (numbers : Numbers) (h : Heap) (kept : TableView) (script : Script) (plain : Plain) (pid : ℕ) (have : HaveOpen numbers h kept plain.files) (fd : ℤ) (writing : Bool) (answer : Opened → Answer) where
-  pub moves_nothing : named_by h kept pid fd ≡ None → FindsToMove numbers script plain pid fd writing answer None
-  moves_nothing none = on_nothing numbers h kept script plain pid have fd (λ opened. if_movable script plain pid writing opened (answer opened)) none
-
-  module _ (held : HeldDescriptor) (desc : Desc) (is : named_by h kept pid fd ≡ Some held) (there : object h.descs held.desc ≡ Some desc) where
-    abbrev this : Opened
-    this = record { place = numbers.descs held.desc; is = (counted_in numbers desc).is }
-
-    moves : (b : Bool) → may_move writing (access_in desc.access) ≡ b
-        → on_open script plain pid fd (λ opened. if_movable script plain pid writing opened (answer opened)) ≡ cond b (answer this) (failed script plain pid EBADF)
-    moves b tells =
-        on_it numbers h kept script plain pid have fd held desc is there (λ opened. if_movable script plain pid writing opened (answer opened))
-        ∙ ap (λ t. cond t (answer this) (failed script plain pid EBADF)) tells
-
-    pub finds_mover : (key : ℕ) (nonblock : Bool) → desc.target ≡ target.Sock key → nonblock ≡ desc.flags.nonblock → may_move writing (access_in desc.access) ≡ true
-        → FindsToMove numbers script plain pid fd writing answer (Some (record { key = key; nonblock = nonblock }))
-    finds_mover key nonblock on waits may = (this, moves true may, ap (target_in numbers) on, sym waits)
-
-    pub finds_no_mover : may_move writing (access_in desc.access) ≡ false → FindsToMove numbers script plain pid fd writing answer None
-    finds_no_mover may = moves false may
 
 pub waits_so : (script : Script) (plain : Plain) (pid listener : ℕ) (lowest : Option ℕ) → accepted_under script plain pid listener lowest Waits ≡ Blocked
 waits_so script plain pid listener (Some fd) = refl

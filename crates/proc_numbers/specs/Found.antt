@@ -3,10 +3,8 @@ use Rattle.std.specs.Prelude.{◌≡◌, ℕ, ℤ, pos, negsuc, List, Option, No
 use Rattle.kheap_slabs.specs.Objects.{object}
 use Rattle.kheap_slabs.specs.declared.objects.Desc.{Desc}
 use Rattle.kheap_slabs.specs.declared.objects.Descriptor.{Descriptor}
-use Rattle.kheap_slabs.specs.declared.objects.Target.{Target}
-use Rattle.kheap_slabs.specs.declared.objects.Target.TheVariants as target
 use Rattle.kheap_slabs.specs.Heap.{Heap}
-use Rattle.open_laws.specs.Described.{counted_in}
+use Rattle.open_laws.specs.Described.{counted_in, node_in}
 use Rattle.open_laws.specs.Placed.{Numbers}
 use Rattle.posix_defs.specs.Calls.Opened.{Opened}
 use Rattle.proc_table.specs.Table.{TableView}
@@ -22,16 +20,15 @@ held_at places (negsuc _) = None
 abbrev pub opened_in : Numbers → Found → Opened
 opened_in numbers found = record { place = numbers.descs found.key; is = (counted_in numbers found.desc).is }
 
--- the pipe that a target is
-abbrev pub pipe_in : Target → Option ℕ
-pipe_in (target.Inode number) = None
-pipe_in (target.Pipe key) = Some key
-pipe_in (target.Sock key) = None
+-- a number of a process that is open is open on a node
+abbrev pub IsOnNode : Heap → TableView → ℕ → ℤ → Type 0
+IsOnNode h kept pid fd =
+    (held : Descriptor) (desc : Desc) → named_by h kept pid fd ≡ Some held → object h.descs held.desc ≡ Some desc → IsSome (node_in desc.target)
 
--- a number of a process that is open is open on a pipe
-abbrev pub IsOnPipe : Heap → TableView → ℕ → ℤ → Type 0
-IsOnPipe h kept pid fd =
-    (held : Descriptor) (desc : Desc) → named_by h kept pid fd ≡ Some held → object h.descs held.desc ≡ Some desc → IsSome (pipe_in desc.target)
+-- it is open on a pipe or a socket
+abbrev pub IsOffNodes : Heap → TableView → ℕ → ℤ → Type 0
+IsOffNodes h kept pid fd =
+    (held : Descriptor) (desc : Desc) → named_by h kept pid fd ≡ Some held → object h.descs held.desc ≡ Some desc → node_in desc.target ≡ None
 
 -- The number is the one by which this Desc was found.
 pub record IsNamed (h : Heap) (kept : TableView) (pid : ℕ) (fd : ℤ) (found : Found) : Type 0 where

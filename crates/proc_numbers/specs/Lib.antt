@@ -11,3 +11,4 @@ pub mod Finding
 pub mod Owning
 pub mod SocketOpening
 pub mod SocketMoving
+pub mod QueueEnds

@@ -1,6 +1,6 @@
 //! `accept`.
 
-ghost use Rattle.std.specs.Prelude.{◌≡◌, ◌-◌, ◌<◌, ℕ, ℤ, [], IsSome, Ok};
+ghost use Rattle.std.specs.Prelude.{◌≡◌, ◌-◌, ◌<◌, ℕ, ℤ, [], Ok};
 ghost use Rattle.std.specs.List.{Contains};
 ghost use Rattle.kabi_types.specs.declared.scripts.Script.{Script};
 ghost use Rattle.kabi_types.specs.declared.classes.Class.TheVariants as class;
@@ -13,7 +13,7 @@ ghost use Rattle.posix_defs.specs.Calls.OnSockets.{accept as plain_accept};
 ghost use Rattle.posix_defs.specs.Calls.Opened.{Opened};
 ghost use Rattle.posix_defs.specs.Machine.{blocks};
 ghost use Rattle.posix_defs.specs.Plain.{Plain};
-ghost use Rattle.proc_table.specs.Table.{key_of};
+ghost use Rattle.proc_table.specs.Table.{IsPlaced};
 ghost use Rattle.proc_numbers.specs.Having.{AreListed, HaveOpen, OpensNoNode};
 ghost use Rattle.proc_numbers.specs.Naming.{ChangesNumbers};
 ghost use Rattle.proc_numbers.specs.Queues.{QueuesStand};
@@ -24,7 +24,7 @@ use crate::describing::open_on;
 use crate::finding::{OpenSocket, lowest_from, socket_of};
 use kabi_types::Errno;
 use kheap_slabs::{KHeap, Purse};
-use proc_table::ProcTable;
+use proc_table::{Place, ProcTable};
 use usock_core::{Accepted, accept};
 
 /// The lowest number of a process that is free names the socket that waited first for the one that a number is open on. That
@@ -38,20 +38,20 @@ pub fn accept_number(
     heap: &mut KHeap,
     purse: &mut Purse,
     procs: &ProcTable,
-    pid: u32,
+    place: Place,
     fd: i64,
 ) -> Result<Option<u32>, Errno>
     requires listed { AreListed heap.old procs.now }
     requires owners { HasItsOwners heap.old [] }
-    requires there { IsSome (key_of procs.now.listed pid) }
+    requires there { IsPlaced procs.now place }
     requires pays { CanPay heap.old purse.old }
     requires left { 0 < purse.old.left.desc }
     ensures answers { (numbers : Numbers) (script : Script) (plain : Plain) → HaveOpen numbers heap.old procs.now plain.files
-        → Accepts numbers heap.old heap.new procs.now script plain pid (plain_accept script plain pid fd) result }
+        → Accepts numbers heap.old heap.new procs.now script plain place.pid (plain_accept script plain place.pid fd) result }
     ensures nodes { OpensNoNode heap.old.descs → OpensNoNode heap.new.descs }
     ensures listed { AreListed heap.new procs.now }
     ensures owners { HasItsOwners heap.new [] }
-    ensures changes { ChangesNumbers heap.old heap.new procs.now pid }
+    ensures changes { ChangesNumbers heap.old heap.new procs.now place.pid }
     ensures still { StillUsed heap.old heap.new }
     ensures queues { QueuesStand heap.old heap.new }
     ensures unchanged { UnlessTaken result ((heap.new ≡ heap.old) × (purse.new ≡ purse.old)) }
@@ -60,24 +60,24 @@ pub fn accept_number(
     ensures spent { IfTaken result (purse.new
         ≡ record purse.old { left = with_count purse.old.left class.Desc (purse.old.left.desc - 1) }) }
 {
-    match socket_of(heap, procs, pid, fd) {
-        Ok(found) => accept_on(heap, purse, procs, pid, found),
+    match socket_of(heap, procs, place, fd) {
+        Ok(found) => accept_on(heap, purse, procs, place, found),
         Err(errno) => Err(errno),
     }
 }
 
 /// Whether an `accept` would have to wait.
-pub fn accept_waits(heap: &KHeap, procs: &ProcTable, pid: u32, fd: i64) -> bool
+pub fn accept_waits(heap: &KHeap, procs: &ProcTable, place: Place, fd: i64) -> bool
     requires listed { AreListed heap.now procs.now }
     requires owners { HasItsOwners heap.now [] }
-    requires there { IsSome (key_of procs.now.listed pid) }
+    requires there { IsPlaced procs.now place }
     ensures { (numbers : Numbers) (script : Script) (plain : Plain) → HaveOpen numbers heap.now procs.now plain.files
-        → result ≡ blocks (plain_accept script plain pid fd) }
+        → result ≡ blocks (plain_accept script plain place.pid fd) }
 {
-    let Ok(found) = socket_of(heap, procs, pid, fd) else {
+    let Ok(found) = socket_of(heap, procs, place, fd) else {
         return false;
     };
-    let lowest = lowest_from(heap, procs, pid, 0);
+    let lowest = lowest_from(heap, procs, place, 0);
     usock_core::accept_waits(heap, found.key, lowest.is_some(), found.nonblock)
 }
 
@@ -86,22 +86,22 @@ fn accept_on(
     heap: &mut KHeap,
     purse: &mut Purse,
     procs: &ProcTable,
-    pid: u32,
+    place: Place,
     on: OpenSocket,
 ) -> Result<Option<u32>, Errno>
     requires listed { AreListed heap.old procs.now }
     requires owners { HasItsOwners heap.old [] }
-    requires there { IsSome (key_of procs.now.listed pid) }
+    requires there { IsPlaced procs.now place }
     requires named { Contains (socks_named heap.old.descs) on.key }
     requires pays { CanPay heap.old purse.old }
     requires left { 0 < purse.old.left.desc }
     ensures answers { (numbers : Numbers) (script : Script) (plain : Plain) (fd : ℤ) → HaveOpen numbers heap.old procs.now plain.files
-        → ((answer : Opened → ℕ → Answer) → FindsSocket numbers script plain pid fd answer (Ok on))
-        → Accepts numbers heap.old heap.new procs.now script plain pid (plain_accept script plain pid fd) result }
+        → ((answer : Opened → ℕ → Answer) → FindsSocket numbers script plain place.pid fd answer (Ok on))
+        → Accepts numbers heap.old heap.new procs.now script plain place.pid (plain_accept script plain place.pid fd) result }
     ensures nodes { OpensNoNode heap.old.descs → OpensNoNode heap.new.descs }
     ensures listed { AreListed heap.new procs.now }
     ensures owners { HasItsOwners heap.new [] }
-    ensures changes { ChangesNumbers heap.old heap.new procs.now pid }
+    ensures changes { ChangesNumbers heap.old heap.new procs.now place.pid }
     ensures still { StillUsed heap.old heap.new }
     ensures queues { QueuesStand heap.old heap.new }
     ensures unchanged { UnlessTaken result ((heap.new ≡ heap.old) × (purse.new ≡ purse.old)) }
@@ -110,13 +110,13 @@ fn accept_on(
     ensures spent { IfTaken result (purse.new
         ≡ record purse.old { left = with_count purse.old.left class.Desc (purse.old.left.desc - 1) }) }
 {
-    let lowest = lowest_from(heap, procs, pid, 0);
+    let lowest = lowest_from(heap, procs, place, 0);
     match accept(heap, on.key, lowest.is_some(), on.nonblock) {
         Accepted::Took(taken) => {
             let Some(number) = lowest else {
                 unreachable!();
             };
-            open_on(heap, purse, procs, pid, number, taken);
+            open_on(heap, purse, procs, place, number, taken);
             Ok(Some(number))
         }
         Accepted::Blocked => Ok(None),

@@ -1,6 +1,6 @@
 //! A process closes what it has open.
 
-ghost use Rattle.std.specs.Prelude.{◌≡◌, ◌<◌, [], IsSome, None, Some, slice_index_or};
+ghost use Rattle.std.specs.Prelude.{◌≡◌, ◌<◌, [], None, Some, slice_index_or};
 ghost use Rattle.kheap_slabs.specs.declared.objects.Proc.{Proc as HeldProc};
 ghost use Rattle.kheap_slabs.specs.Heap.{IsWellFormed};
 ghost use Rattle.kheap_slabs.specs.Paid.{TakesNothing};
@@ -10,45 +10,42 @@ ghost use Rattle.posix_defs.specs.Files.Closing.{after_close};
 ghost use Rattle.posix_defs.specs.Files.State.{Files};
 ghost use Rattle.kabi_types.specs.Arguments.{most_descriptors};
 ghost use Rattle.proc_table.specs.Procs.{numbers_in, proc_of};
-ghost use Rattle.proc_table.specs.Table.{key_of, processes};
+ghost use Rattle.proc_table.specs.Table.{IsPlaced, processes};
 ghost use Rattle.proc_numbers.specs.Queues.{QueuesStand};
 ghost use Rattle.proc_numbers.specs.Having.{AreListed, ClosesNumber, HaveOpen, OpensNoNode, node_closed};
 
 use desc_table::drop_desc;
 use kheap_slabs::{KHeap, Proc};
-use proc_table::ProcTable;
+use proc_table::{Place, ProcTable};
 
 /// A process has a number open no more (POSIX close). With the last descriptor that names it a description goes, and what it was
 /// open on is closed; a number that isn't open changes nothing.
 ///
 /// The answer is the node whose pin the caller then drops; None where no description of a node has gone.
-pub fn close_one(heap: &mut KHeap, procs: &ProcTable, pid: u32, fd: u32) -> Option<u32>
+pub fn close_one(heap: &mut KHeap, procs: &ProcTable, place: Place, fd: u32) -> Option<u32>
     requires listed { AreListed heap.old procs.now }
     requires owners { HasItsOwners heap.old [] }
-    requires there { IsSome (key_of procs.now.listed pid) }
+    requires there { IsPlaced procs.now place }
     requires number { fd < most_descriptors }
     ensures closed { (numbers : Numbers) (files : Files) → HaveOpen numbers heap.old procs.now files
-        → HaveOpen numbers heap.new procs.now (after_close files pid fd) }
+        → HaveOpen numbers heap.new procs.now (after_close files place.pid fd) }
     ensures nodes { OpensNoNode heap.old.descs → OpensNoNode heap.new.descs }
     ensures listed { AreListed heap.new procs.now }
     ensures owners { HasItsOwners heap.new [] }
-    ensures closes { ClosesNumber heap.old heap.new procs.now pid fd }
-    ensures node { (proc : HeldProc) → proc_of (processes heap.old procs.now) pid ≡ Some proc
+    ensures closes { ClosesNumber heap.old heap.new procs.now place.pid fd }
+    ensures node { (proc : HeldProc) → proc_of (processes heap.old procs.now) place.pid ≡ Some proc
         → result ≡ node_closed heap.old.descs (slice_index_or (numbers_in heap.old proc) fd None) }
     ensures queues { QueuesStand heap.old heap.new }
     ensures takes { TakesNothing heap.old heap.new }
 {
-    let Some(key) = procs.key_of(pid) else {
-        unreachable!();
-    };
-    let proc = *heap.get_proc(key);
+    let proc = *procs.at(heap, place);
     let mut descriptors = proc.descriptors;
     let Some(descriptor) = descriptors[fd as usize] else {
         return None;
     };
     descriptors[fd as usize] = None;
     heap.set_proc(
-        key,
+        place.key,
         Proc {
             descriptors,
             ..proc

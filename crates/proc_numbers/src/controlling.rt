@@ -1,10 +1,10 @@
 //! `fcntl`.
 
-ghost use Rattle.std.specs.Prelude.{◌≡◌, ◌<◌, ◌≤◌, ℕ, List, [], IsSome, OnErr, Some};
+ghost use Rattle.std.specs.Prelude.{◌≡◌, ◌<◌, ◌≤◌, ℕ, List, [], OnErr, Some};
 ghost use Rattle.kabi_types.specs.declared.scripts.Script.{Script};
 ghost use Rattle.kheap_slabs.specs.Objects.{InUse, object};
 ghost use Rattle.kheap_slabs.specs.declared.objects.Desc.{Desc as HeldDesc};
-ghost use Rattle.kheap_slabs.specs.Paid.{TakesNothing};
+ghost use Rattle.kheap_slabs.specs.Paid.{CanPay, IsPaid, TakesNothing};
 ghost use Rattle.open_laws.specs.Described.{access_in, counted_in};
 ghost use Rattle.open_laws.specs.Owned.{HasItsOwners};
 ghost use Rattle.open_laws.specs.Placed.{Numbers};
@@ -12,7 +12,7 @@ ghost use Rattle.posix_defs.specs.Calls.OnDescriptors.{cloexec_bit, fcntl};
 ghost use Rattle.posix_defs.specs.Files.Descriptions.{access_bits, has_flag, o_append, o_nonblock, status_bits};
 ghost use Rattle.posix_defs.specs.Files.State.{Files, described_as};
 ghost use Rattle.posix_defs.specs.Plain.{Plain};
-ghost use Rattle.proc_table.specs.Table.{TableView, key_of};
+ghost use Rattle.proc_table.specs.Table.{IsPlaced, TableView};
 ghost use Rattle.proc_numbers.specs.Having.{AreListed, HaveOpen, OpensNoNode};
 ghost use Rattle.proc_numbers.specs.Naming.{ChangesNumbers};
 ghost use Rattle.proc_numbers.specs.Answering.{Answers, value_of, with_flags};
@@ -20,8 +20,8 @@ ghost use Rattle.proc_numbers.specs.Answering.{Answers, value_of, with_flags};
 use crate::opening::{count_of, descriptor_of, mark_one};
 use crate::sharing::share_lowest;
 use kabi_types::Errno;
-use kheap_slabs::{Access, Desc, DescFlags, KHeap};
-use proc_table::ProcTable;
+use kheap_slabs::{Access, Desc, DescFlags, KHeap, Purse};
+use proc_table::{Place, ProcTable};
 
 /// The commands of `fcntl`: a further number, a number's flags, and a description's flags.
 const F_DUPFD: u64 = 0;
@@ -47,41 +47,45 @@ const O_NONBLOCK: u32 = 2048;
 /// bit 0 of the argument. F_GETFL tells the access mode, O_APPEND and O_NONBLOCK, and F_SETFL sets the last two as they are in the
 /// argument, for all numbers that name the description.
 ///
-/// EBADF where the number isn't open, EMFILE where no number is free for F_DUPFD, EINVAL where the command isn't one of these;
-/// nothing is changed then.
+/// The purse pays for what a number takes, which is nothing. EBADF where the number isn't open, EMFILE where no number is free for
+/// F_DUPFD, EINVAL where the command isn't one of these; nothing is changed then.
 ///
 /// <https://pubs.opengroup.org/onlinepubs/9699919799/functions/fcntl.html>
 pub fn control(
     heap: &mut KHeap,
+    purse: &mut Purse,
     procs: &ProcTable,
-    pid: u32,
+    place: Place,
     fd: i64,
     cmd: i64,
     arg: i64,
 ) -> Result<u32, Errno>
     requires listed { AreListed heap.old procs.now }
     requires owners { HasItsOwners heap.old [] }
-    requires there { IsSome (key_of procs.now.listed pid) }
+    requires there { IsPlaced procs.now place }
+    requires pays { CanPay heap.old purse.old }
     ensures answers { (numbers : Numbers) (script : Script) (plain : Plain) → HaveOpen numbers heap.old procs.now plain.files
-        → Answers numbers heap.new procs.now script plain pid (fcntl script plain pid fd cmd arg) (value_of result) }
+        → Answers numbers heap.new procs.now script plain place.pid (fcntl script plain place.pid fd cmd arg) (value_of result) }
     ensures nodes { OpensNoNode heap.old.descs → OpensNoNode heap.new.descs }
     ensures listed { AreListed heap.new procs.now }
     ensures owners { HasItsOwners heap.new [] }
-    ensures changes { ChangesNumbers heap.old heap.new procs.now pid }
+    ensures changes { ChangesNumbers heap.old heap.new procs.now place.pid }
     ensures beside { heap.new ≡ record heap.old { procs = heap.new.procs; descs = heap.new.descs } }
     ensures unchanged { OnErr result (heap.new ≡ heap.old) }
     ensures takes { TakesNothing heap.old heap.new }
+    ensures paid { IsPaid heap.old purse.old heap.new purse.new }
+    ensures spent { purse.new ≡ purse.old }
 {
-    let Some(held) = descriptor_of(heap, procs, pid, fd) else {
+    let Some(held) = descriptor_of(heap, procs, place, fd) else {
         return Err(Errno::EBADF);
     };
     let number = count_of(fd) as u32;
     match count_of(cmd) {
-        F_DUPFD => share_lowest(heap, procs, pid, held.desc, count_of(arg)),
+        F_DUPFD => share_lowest(heap, purse, procs, place, held.desc, count_of(arg)),
         F_GETFD => Ok(bit(held.close_on_exec)),
         F_SETFD => {
             let cloexec = has_flag(arg, FD_CLOEXEC);
-            mark_one(heap, procs, pid, number, cloexec);
+            mark_one(heap, procs, place, number, cloexec);
             Ok(0)
         }
         F_GETFL => Ok(status_bits(heap.get_desc(held.desc))),

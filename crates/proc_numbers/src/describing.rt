@@ -1,6 +1,6 @@
 //! A description of a socket, and a number that names it.
 
-ghost use Rattle.std.specs.Prelude.{◌≡◌, ◌-◌, ◌<◌, ℕ, List, [], ◌∷◌, IsSome, None, false};
+ghost use Rattle.std.specs.Prelude.{◌≡◌, ◌-◌, ◌<◌, ℕ, List, [], ◌∷◌, None, false};
 ghost use Rattle.kabi_types.specs.declared.classes.Class.TheVariants as class;
 ghost use Rattle.kabi_types.specs.Counts.{with_count};
 ghost use Rattle.kheap_slabs.specs.Objects.{object, put};
@@ -10,7 +10,7 @@ ghost use Rattle.open_laws.specs.Placed.{Numbers};
 ghost use Rattle.posix_defs.specs.Calls.OnSockets.{description_of};
 ghost use Rattle.posix_defs.specs.Files.State.{Files, opened_as};
 ghost use Rattle.kabi_types.specs.Arguments.{most_descriptors};
-ghost use Rattle.proc_table.specs.Table.{TableView, key_of};
+ghost use Rattle.proc_table.specs.Table.{IsPlaced, TableView};
 ghost use Rattle.proc_numbers.specs.Having.{AreListed, HaveOpen, OpensNoNode};
 ghost use Rattle.proc_numbers.specs.Naming.{ChangesNumbers, named_at};
 ghost use Rattle.proc_numbers.specs.Queues.{QueuesStand};
@@ -20,31 +20,31 @@ ghost use Rattle.proc_numbers.specs.Owning.{HasOwnersBut, desc_on};
 use crate::opening::open_one;
 use kabi_types::Class;
 use kheap_slabs::{Access, Desc, DescFlags, Descriptor, KHeap, Purse, Target};
-use proc_table::ProcTable;
+use proc_table::{Place, ProcTable};
 
 // A number of a process that is free names from now on a new description of a socket that none was open on.
 pub(crate) fn open_on(
     heap: &mut KHeap,
     purse: &mut Purse,
     procs: &ProcTable,
-    pid: u32,
+    place: Place,
     fd: u32,
     sock: u32,
 )
     requires listed { AreListed heap.old procs.now }
-    requires there { IsSome (key_of procs.now.listed pid) }
+    requires there { IsPlaced procs.now place }
     requires named { CountsItsNames heap.old [] }
     requires number { fd < most_descriptors }
-    requires free { named_at heap.old procs.now pid fd ≡ None }
+    requires free { named_at heap.old procs.now place.pid fd ≡ None }
     requires pays { CanPay heap.old purse.old }
     requires left { 0 < purse.old.left.desc }
     ensures opened { (numbers : Numbers) (files : Files) → HaveOpen numbers heap.old procs.now files
         → OpensMore numbers heap.old heap.new procs.now files
-        (opened_as files pid fd false (description_of (numbers.socks sock))) }
+        (opened_as files place.pid fd false (description_of (numbers.socks sock))) }
     ensures owners { HasOwnersBut heap.old [] (sock ∷ []) → HasItsOwners heap.new [] }
     ensures nodes { OpensNoNode heap.old.descs → OpensNoNode heap.new.descs }
     ensures listed { AreListed heap.new procs.now }
-    ensures changes { ChangesNumbers heap.old heap.new procs.now pid }
+    ensures changes { ChangesNumbers heap.old heap.new procs.now place.pid }
     ensures socks { heap.new.socks ≡ heap.old.socks }
     ensures queues { QueuesStand heap.old heap.new }
     ensures paid { IsPaid heap.old purse.old heap.new purse.new }
@@ -55,8 +55,9 @@ pub(crate) fn open_on(
     let desc = describe(heap, purse, sock);
     open_one(
         heap,
+        purse,
         procs,
-        pid,
+        place,
         fd,
         Descriptor {
             desc,

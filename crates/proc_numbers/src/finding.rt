@@ -1,10 +1,9 @@
 //! What a call on a socket names, and which number of its caller is free.
 
-ghost use Rattle.std.specs.Prelude.{◌≡◌, ◌<◌, ◌≤◌, ℕ, [], IfOk, IfSome, IsSome, None, is_some, true};
+ghost use Rattle.std.specs.Prelude.{◌≡◌, ◌<◌, ◌≤◌, ℕ, [], IfOk, IfSome, None};
 ghost use Rattle.std.specs.List.{Contains};
 ghost use Rattle.kabi_types.specs.declared.scripts.Script.{Script};
-ghost use Rattle.open_laws.specs.Described.{access_in};
-ghost use Rattle.open_laws.specs.Owned.{HasItsOwners, sock_of, socks_named};
+ghost use Rattle.open_laws.specs.Owned.{HasItsOwners, socks_named};
 ghost use Rattle.open_laws.specs.Placed.{Numbers};
 ghost use Rattle.posix_defs.specs.Answer.{Answer};
 ghost use Rattle.posix_defs.specs.Calls.Opened.{Opened};
@@ -12,16 +11,16 @@ ghost use Rattle.posix_defs.specs.Files.Descriptors.{lowest_free_from};
 ghost use Rattle.posix_defs.specs.Files.State.{Files, descriptors_of};
 ghost use Rattle.posix_defs.specs.Plain.{Plain};
 ghost use Rattle.kabi_types.specs.Arguments.{most_descriptors};
-ghost use Rattle.proc_table.specs.Table.{key_of};
+ghost use Rattle.proc_table.specs.Table.{IsPlaced};
 ghost use Rattle.proc_numbers.specs.Having.{AreListed, HaveOpen};
 ghost use Rattle.proc_numbers.specs.Naming.{named_at};
-ghost use Rattle.proc_numbers.specs.Finding.{FindsSocket, FindsToMove, IsOnSocket, may_move as plain_may_move, socket_named};
+ghost use Rattle.proc_numbers.specs.Finding.{FindsSocket};
 
 use crate::opening::{descriptor_of, places_of};
 use desc_table::Descs;
 use kabi_types::Errno;
-use kheap_slabs::{Access, KHeap, Target};
-use proc_table::ProcTable;
+use kheap_slabs::{KHeap, Target};
+use proc_table::{Place, ProcTable};
 
 /// The socket that a number of a process is open on.
 #[derive(Clone, Copy)]
@@ -35,16 +34,21 @@ pub struct OpenSocket {
 /// The socket that a number of a process is open on.
 ///
 /// EBADF where the number isn't open, ENOTSOCK where it is open on something else.
-pub fn socket_of(heap: &KHeap, procs: &ProcTable, pid: u32, fd: i64) -> Result<OpenSocket, Errno>
+pub fn socket_of(
+    heap: &KHeap,
+    procs: &ProcTable,
+    place: Place,
+    fd: i64,
+) -> Result<OpenSocket, Errno>
     requires listed { AreListed heap.now procs.now }
     requires owners { HasItsOwners heap.now [] }
-    requires there { IsSome (key_of procs.now.listed pid) }
+    requires there { IsPlaced procs.now place }
     ensures found { (numbers : Numbers) (script : Script) (plain : Plain) (answer : Opened → ℕ → Answer)
         → HaveOpen numbers heap.now procs.now plain.files
-        → FindsSocket numbers script plain pid fd answer result }
+        → FindsSocket numbers script plain place.pid fd answer result }
     ensures there { IfOk result (λ found. Contains (socks_named heap.now.descs) found.key) }
 {
-    let Some(held) = descriptor_of(heap, procs, pid, fd) else {
+    let Some(held) = descriptor_of(heap, procs, place, fd) else {
         return Err(Errno::EBADF);
     };
     let desc = heap.get_desc(held.desc);
@@ -57,84 +61,14 @@ pub fn socket_of(heap: &KHeap, procs: &ProcTable, pid: u32, fd: i64) -> Result<O
     })
 }
 
-/// Whether a number of a process is open on a socket.
-pub fn is_on_socket(heap: &KHeap, procs: &ProcTable, pid: u32, fd: i64) -> bool
-    requires listed { AreListed heap.now procs.now }
-    requires owners { HasItsOwners heap.now [] }
-    requires there { IsSome (key_of procs.now.listed pid) }
-    ensures tells { result ≡ is_some (socket_named heap.now procs.now pid fd) }
-    ensures on { result ≡ true → IsOnSocket heap.now procs.now pid fd }
-{
-    let Some(held) = descriptor_of(heap, procs, pid, fd) else {
-        return false;
-    };
-    let desc = heap.get_desc(held.desc);
-    is_socket(desc.target)
-}
-
-// Whether a target is a socket.
-fn is_socket(target: Target) -> bool
-    ensures { result ≡ is_some (sock_of target) }
-{
-    match target {
-        Target::Sock(_) => true,
-        Target::Inode(_) | Target::Pipe(_) => false,
-    }
-}
-
 // The lowest number of a process at or above one that is free.
-pub(crate) fn lowest_from(heap: &KHeap, procs: &ProcTable, pid: u32, from: u32) -> Option<u32>
+pub(crate) fn lowest_from(heap: &KHeap, procs: &ProcTable, place: Place, from: u32) -> Option<u32>
     requires listed { AreListed heap.now procs.now }
-    requires there { IsSome (key_of procs.now.listed pid) }
+    requires there { IsPlaced procs.now place }
     ensures lowest { (numbers : Numbers) (files : Files) → HaveOpen numbers heap.now procs.now files
-        → lowest_free_from (descriptors_of files pid) from ≡ result }
-    ensures free { IfSome result (λ fd. (fd < most_descriptors) × (from ≤ fd) × (named_at heap.now procs.now pid fd ≡ None)) }
+        → lowest_free_from (descriptors_of files place.pid) from ≡ result }
+    ensures free { IfSome result (λ fd. (fd < most_descriptors) × (from ≤ fd) × (named_at heap.now procs.now place.pid fd ≡ None)) }
 {
-    let descs = Descs::of(places_of(heap, procs, pid));
+    let descs = Descs::of(places_of(heap, procs, place));
     descs.lowest(from)
-}
-
-// The socket that a number is open on which may be written, or read; None, which is EBADF, where it isn't open or not for this.
-pub(crate) fn mover_of(
-    heap: &KHeap,
-    procs: &ProcTable,
-    pid: u32,
-    fd: i64,
-    writing: bool,
-) -> Option<OpenSocket>
-    requires listed { AreListed heap.now procs.now }
-    requires owners { HasItsOwners heap.now [] }
-    requires there { IsSome (key_of procs.now.listed pid) }
-    requires on { IsOnSocket heap.now procs.now pid fd }
-    ensures found { (numbers : Numbers) (script : Script) (plain : Plain) (answer : Opened → Answer)
-        → HaveOpen numbers heap.now procs.now plain.files
-        → FindsToMove numbers script plain pid fd writing answer result }
-    ensures there { IfSome result (λ found. Contains (socks_named heap.now.descs) found.key) }
-{
-    let Some(held) = descriptor_of(heap, procs, pid, fd) else {
-        return None;
-    };
-    let desc = heap.get_desc(held.desc);
-    let Target::Sock(key) = desc.target else {
-        unreachable!();
-    };
-    if may_move(desc.access, writing) {
-        Some(OpenSocket {
-            key,
-            nonblock: desc.flags.nonblock,
-        })
-    } else {
-        None
-    }
-}
-
-// Whether what is opened so may be written, or read.
-fn may_move(access: Access, writing: bool) -> bool
-    ensures { result ≡ plain_may_move writing (access_in access) }
-{
-    match access {
-        Access::Read => !writing,
-        Access::Write => writing,
-        Access::Both => true,
-    }
 }

@@ -1,6 +1,6 @@
 //! What a number of a process names.
 
-ghost use Rattle.std.specs.Prelude.{◌≡◌, [], IfSome, IsSome, Some};
+ghost use Rattle.std.specs.Prelude.{◌≡◌, [], IfSome, Some};
 ghost use Rattle.std.specs.Option.{option_map};
 ghost use Rattle.kabi_types.specs.declared.scripts.Script.{Script};
 ghost use Rattle.kheap_slabs.specs.Objects.{object};
@@ -13,12 +13,12 @@ ghost use Rattle.posix_defs.specs.Files.Descriptions.{may_read as plain_may_read
 ghost use Rattle.posix_defs.specs.Files.State.{Files};
 ghost use Rattle.posix_defs.specs.Plain.{Plain};
 ghost use Rattle.proc_numbers.specs.Having.{AreListed, HaveOpen};
-ghost use Rattle.proc_table.specs.Table.{key_of};
+ghost use Rattle.proc_table.specs.Table.{IsPlaced};
 ghost use Rattle.proc_numbers.specs.Found.{IsNamed, held_at, opened_in};
 
 use kabi_types::MOST_DESCRIPTORS;
 use kheap_slabs::{Access, Desc, Descriptor, KHeap};
-use proc_table::ProcTable;
+use proc_table::{Place, ProcTable};
 
 /// What a number of a process names.
 #[derive(Clone, Copy)]
@@ -30,19 +30,16 @@ pub struct Found {
 }
 
 /// The description that a number of a process names; None where it isn't open.
-pub fn opened(heap: &KHeap, procs: &ProcTable, pid: u32, fd: i64) -> Option<Found>
+pub fn opened(heap: &KHeap, procs: &ProcTable, place: Place, fd: i64) -> Option<Found>
     requires listed { AreListed heap.now procs.now }
     requires owners { HasItsOwners heap.now [] }
-    requires there { IsSome (key_of procs.now.listed pid) }
+    requires there { IsPlaced procs.now place }
     ensures found { (numbers : Numbers) (files : Files) → HaveOpen numbers heap.now procs.now files
-        → opened_at files pid fd ≡ option_map (opened_in numbers) result }
+        → opened_at files place.pid fd ≡ option_map (opened_in numbers) result }
     ensures there { IfSome result (λ found. object heap.now.descs found.key ≡ Some found.desc) }
-    ensures named { IfSome result (IsNamed heap.now procs.now pid fd) }
+    ensures named { IfSome result (IsNamed heap.now procs.now place.pid fd) }
 {
-    let Some(key) = procs.key_of(pid) else {
-        unreachable!();
-    };
-    match held_at(&heap.get_proc(key).descriptors, fd) {
+    match held_at(&procs.at(heap, place).descriptors, fd) {
         Some(descriptor) => Some(Found {
             key: descriptor.desc,
             desc: *heap.get_desc(descriptor.desc),
@@ -52,36 +49,36 @@ pub fn opened(heap: &KHeap, procs: &ProcTable, pid: u32, fd: i64) -> Option<Foun
 }
 
 /// The same of a number that may be read; None, which is EBADF, where it isn't open or isn't open for reading.
-pub(crate) fn readable(heap: &KHeap, procs: &ProcTable, pid: u32, fd: i64) -> Option<Found>
+pub(crate) fn readable(heap: &KHeap, procs: &ProcTable, place: Place, fd: i64) -> Option<Found>
     requires listed { AreListed heap.now procs.now }
     requires owners { HasItsOwners heap.now [] }
-    requires there { IsSome (key_of procs.now.listed pid) }
+    requires there { IsPlaced procs.now place }
     ensures found { (numbers : Numbers) (script : Script) (plain : Plain) (answer : Opened → Answer)
         → HaveOpen numbers heap.now procs.now plain.files
-        → on_open script plain pid fd (λ opened. if_readable script plain pid opened (answer opened))
-        ≡ answer_on script plain pid answer (option_map (opened_in numbers) result) }
+        → on_open script plain place.pid fd (λ opened. if_readable script plain place.pid opened (answer opened))
+        ≡ answer_on script plain place.pid answer (option_map (opened_in numbers) result) }
     ensures there { IfSome result (λ found. object heap.now.descs found.key ≡ Some found.desc) }
-    ensures named { IfSome result (IsNamed heap.now procs.now pid fd) }
+    ensures named { IfSome result (IsNamed heap.now procs.now place.pid fd) }
 {
-    match opened(heap, procs, pid, fd) {
+    match opened(heap, procs, place, fd) {
         Some(found) if may_read(found.desc.access) => Some(found),
         _ => None,
     }
 }
 
 /// The same of a number that may be written; None, which is EBADF, where it isn't open or isn't open for writing.
-pub(crate) fn writable(heap: &KHeap, procs: &ProcTable, pid: u32, fd: i64) -> Option<Found>
+pub(crate) fn writable(heap: &KHeap, procs: &ProcTable, place: Place, fd: i64) -> Option<Found>
     requires listed { AreListed heap.now procs.now }
     requires owners { HasItsOwners heap.now [] }
-    requires there { IsSome (key_of procs.now.listed pid) }
+    requires there { IsPlaced procs.now place }
     ensures found { (numbers : Numbers) (script : Script) (plain : Plain) (answer : Opened → Answer)
         → HaveOpen numbers heap.now procs.now plain.files
-        → on_open script plain pid fd (λ opened. if_writable script plain pid opened (answer opened))
-        ≡ answer_on script plain pid answer (option_map (opened_in numbers) result) }
+        → on_open script plain place.pid fd (λ opened. if_writable script plain place.pid opened (answer opened))
+        ≡ answer_on script plain place.pid answer (option_map (opened_in numbers) result) }
     ensures there { IfSome result (λ found. object heap.now.descs found.key ≡ Some found.desc) }
-    ensures named { IfSome result (IsNamed heap.now procs.now pid fd) }
+    ensures named { IfSome result (IsNamed heap.now procs.now place.pid fd) }
 {
-    match opened(heap, procs, pid, fd) {
+    match opened(heap, procs, place, fd) {
         Some(found) if may_write(found.desc.access) => Some(found),
         _ => None,
     }

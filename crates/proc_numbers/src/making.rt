@@ -1,6 +1,6 @@
 //! `socket` and `socketpair`.
 
-ghost use Rattle.std.specs.Prelude.{◌≡◌, ◌-◌, ◌<◌, ◌≤◌, [], ◌∷◌, IsSome, OnErr, OnOk};
+ghost use Rattle.std.specs.Prelude.{◌≡◌, ◌-◌, ◌<◌, ◌≤◌, [], ◌∷◌, OnErr, OnOk};
 ghost use Rattle.kabi_types.specs.declared.scripts.Script.{Script};
 ghost use Rattle.kabi_types.specs.declared.classes.Class.TheVariants as class;
 ghost use Rattle.kabi_types.specs.Counts.{with_count};
@@ -10,7 +10,7 @@ ghost use Rattle.open_laws.specs.Placed.{Numbers};
 ghost use Rattle.posix_defs.specs.Calls.OnSockets.{socket, socketpair};
 ghost use Rattle.posix_defs.specs.Files.State.{Files};
 ghost use Rattle.posix_defs.specs.Plain.{Plain};
-ghost use Rattle.proc_table.specs.Table.{TableView, key_of};
+ghost use Rattle.proc_table.specs.Table.{IsPlaced, TableView};
 ghost use Rattle.proc_numbers.specs.Having.{AreListed, HaveOpen, OpensNoNode};
 ghost use Rattle.proc_numbers.specs.Naming.{ChangesNumbers};
 ghost use Rattle.proc_numbers.specs.Queues.{QueuesStand};
@@ -23,7 +23,7 @@ use crate::finding::lowest_from;
 use crate::opening::open_one;
 use kabi_types::Errno;
 use kheap_slabs::{Descriptor, KHeap, Purse};
-use proc_table::ProcTable;
+use proc_table::{Place, ProcTable};
 use usock_core::{sock_make, sock_pair};
 
 /// A new socket, which the lowest number of a process that is free names. That number.
@@ -35,20 +35,20 @@ pub fn make_socket(
     heap: &mut KHeap,
     purse: &mut Purse,
     procs: &ProcTable,
-    pid: u32,
+    place: Place,
 ) -> Result<u32, Errno>
     requires listed { AreListed heap.old procs.now }
     requires owners { HasItsOwners heap.old [] }
-    requires there { IsSome (key_of procs.now.listed pid) }
+    requires there { IsPlaced procs.now place }
     requires pays { CanPay heap.old purse.old }
     requires left_sock { 0 < purse.old.left.sock }
     requires left_desc { 0 < purse.old.left.desc }
     ensures answers { (numbers : Numbers) (script : Script) (plain : Plain) → HaveOpen numbers heap.old procs.now plain.files
-        → AnswersAnew numbers heap.old heap.new procs.now script plain pid (socket script plain pid) (value_of result) }
+        → AnswersAnew numbers heap.old heap.new procs.now script plain place.pid (socket script plain place.pid) (value_of result) }
     ensures nodes { OpensNoNode heap.old.descs → OpensNoNode heap.new.descs }
     ensures listed { AreListed heap.new procs.now }
     ensures owners { HasItsOwners heap.new [] }
-    ensures changes { ChangesNumbers heap.old heap.new procs.now pid }
+    ensures changes { ChangesNumbers heap.old heap.new procs.now place.pid }
     ensures still { StillUsed heap.old heap.new }
     ensures queues { QueuesStand heap.old heap.new }
     ensures unchanged { OnErr result ((heap.new ≡ heap.old) × (purse.new ≡ purse.old)) }
@@ -58,11 +58,11 @@ pub fn make_socket(
       left = with_count (with_count purse.old.left class.Sock (purse.old.left.sock - 1)) class.Desc (purse.old.left.desc - 1);
     }) }
 {
-    let Some(number) = lowest_from(heap, procs, pid, 0) else {
+    let Some(number) = lowest_from(heap, procs, place, 0) else {
         return Err(Errno::EMFILE);
     };
     let made = sock_make(heap, purse);
-    open_on(heap, purse, procs, pid, number, made);
+    open_on(heap, purse, procs, place, number, made);
     Ok(number)
 }
 
@@ -76,20 +76,20 @@ pub fn make_pair(
     heap: &mut KHeap,
     purse: &mut Purse,
     procs: &ProcTable,
-    pid: u32,
+    place: Place,
 ) -> Result<(u32, u32), Errno>
     requires listed { AreListed heap.old procs.now }
     requires owners { HasItsOwners heap.old [] }
-    requires there { IsSome (key_of procs.now.listed pid) }
+    requires there { IsPlaced procs.now place }
     requires pays { CanPay heap.old purse.old }
     requires left_socks { 2 ≤ purse.old.left.sock }
     requires left_descs { 2 ≤ purse.old.left.desc }
     ensures answers { (numbers : Numbers) (script : Script) (plain : Plain) → HaveOpen numbers heap.old procs.now plain.files
-        → AnswersAnew numbers heap.old heap.new procs.now script plain pid (socketpair script plain pid) (pair_of result) }
+        → AnswersAnew numbers heap.old heap.new procs.now script plain place.pid (socketpair script plain place.pid) (pair_of result) }
     ensures nodes { OpensNoNode heap.old.descs → OpensNoNode heap.new.descs }
     ensures listed { AreListed heap.new procs.now }
     ensures owners { HasItsOwners heap.new [] }
-    ensures changes { ChangesNumbers heap.old heap.new procs.now pid }
+    ensures changes { ChangesNumbers heap.old heap.new procs.now place.pid }
     ensures still { StillUsed heap.old heap.new }
     ensures queues { QueuesStand heap.old heap.new }
     ensures unchanged { OnErr result ((heap.new ≡ heap.old) × (purse.new ≡ purse.old)) }
@@ -99,11 +99,11 @@ pub fn make_pair(
       left = with_count (with_count purse.old.left class.Sock (purse.old.left.sock - 2)) class.Desc (purse.old.left.desc - 2);
     }) }
 {
-    let lowest = lowest_from(heap, procs, pid, 0);
+    let lowest = lowest_from(heap, procs, place, 0);
     let Some(first) = lowest else {
         return Err(Errno::EMFILE);
     };
-    let next = lowest_from(heap, procs, pid, first + 1);
+    let next = lowest_from(heap, procs, place, first + 1);
     let Some(second) = next else {
         return Err(Errno::EMFILE);
     };
@@ -116,8 +116,8 @@ pub fn make_pair(
         desc: ends.other,
         close_on_exec: false,
     };
-    open_one(heap, procs, pid, first, on_one);
-    open_one(heap, procs, pid, second, on_other);
+    open_one(heap, purse, procs, place, first, on_one);
+    open_one(heap, purse, procs, place, second, on_other);
     Ok((first, second))
 }
 

@@ -2,54 +2,51 @@
 
 ghost use Rattle.std.specs.Prelude.{◌≡◌, ◌<◌, ℕ, List, ◌∷◌, IsSome, None, Some, length};
 ghost use Rattle.kabi_types.specs.Arguments.{count_of, may_be_descriptor, most_descriptors};
-ghost use Rattle.kheap_slabs.specs.Paid.{TakesNothing};
+ghost use Rattle.kheap_slabs.specs.Paid.{CanPay, IsPaid, TakesNothing};
 ghost use Rattle.open_laws.specs.Open.{descriptor_by};
 ghost use Rattle.open_laws.specs.Owned.{HasItsOwners};
 ghost use Rattle.open_laws.specs.Placed.{Numbers};
 ghost use Rattle.posix_defs.specs.Calls.OnDescriptors.{cloexec_set};
 ghost use Rattle.posix_defs.specs.Files.Descriptors.{descriptor_at};
 ghost use Rattle.posix_defs.specs.Files.State.{Files, descriptors_of, with_open};
-ghost use Rattle.proc_table.specs.Table.{key_of};
+ghost use Rattle.proc_table.specs.Table.{IsPlaced};
 ghost use Rattle.proc_numbers.specs.Having.{AreListed, HaveOpen};
 ghost use Rattle.proc_numbers.specs.Naming.{ChangesNumbers, NamesNumber, named_at, named_by, places_of};
 
 use crate::closing::is_well_formed;
 use kabi_types::MOST_DESCRIPTORS;
-use kheap_slabs::{Descriptor, KHeap, Proc};
-use proc_table::ProcTable;
+use kheap_slabs::{Descriptor, KHeap, Proc, Purse};
+use proc_table::{Place, ProcTable};
 
 /// The descriptors of a process, by number.
-pub fn places_of(heap: &KHeap, procs: &ProcTable, pid: u32) -> [Option<Descriptor>; 32]
+pub fn places_of(heap: &KHeap, procs: &ProcTable, place: Place) -> [Option<Descriptor>; 32]
     requires listed { AreListed heap.now procs.now }
-    requires there { IsSome (key_of procs.now.listed pid) }
-    ensures places { result ≡ places_of heap.now procs.now pid }
-    ensures all { length (places_of heap.now procs.now pid) ≡ most_descriptors }
+    requires there { IsPlaced procs.now place }
+    ensures places { result ≡ places_of heap.now procs.now place.pid }
+    ensures all { length (places_of heap.now procs.now place.pid) ≡ most_descriptors }
 {
-    *places_in(heap, procs, pid)
+    *places_in(heap, procs, place)
 }
 
 // The same where they are kept: to take them out copies all of them.
-fn places_in<'a>(heap: &'a KHeap, procs: &ProcTable, pid: u32) -> &'a [Option<Descriptor>; 32]
+fn places_in<'a>(heap: &'a KHeap, procs: &ProcTable, place: Place) -> &'a [Option<Descriptor>; 32]
     requires listed { AreListed heap.now procs.now }
-    requires there { IsSome (key_of procs.now.listed pid) }
-    ensures places { result.now ≡ places_of heap.now procs.now pid }
-    ensures all { length (places_of heap.now procs.now pid) ≡ most_descriptors }
+    requires there { IsPlaced procs.now place }
+    ensures places { result.now ≡ places_of heap.now procs.now place.pid }
+    ensures all { length (places_of heap.now procs.now place.pid) ≡ most_descriptors }
 {
     is_well_formed(heap);
-    let Some(key) = procs.key_of(pid) else {
-        unreachable!();
-    };
-    &heap.get_proc(key).descriptors
+    &procs.at(heap, place).descriptors
 }
 
 /// What the number that a call has names; None where it isn't open, as no number below 0 or above 31 is.
-pub fn descriptor_of(heap: &KHeap, procs: &ProcTable, pid: u32, fd: i64) -> Option<Descriptor>
+pub fn descriptor_of(heap: &KHeap, procs: &ProcTable, place: Place, fd: i64) -> Option<Descriptor>
     requires listed { AreListed heap.now procs.now }
-    requires there { IsSome (key_of procs.now.listed pid) }
-    ensures held { result ≡ named_by heap.now procs.now pid fd }
+    requires there { IsPlaced procs.now place }
+    ensures held { result ≡ named_by heap.now procs.now place.pid fd }
     ensures within { IsSome result → count_of fd < most_descriptors }
 {
-    let places = places_in(heap, procs, pid);
+    let places = places_in(heap, procs, place);
     if may_be_descriptor(fd) {
         places[count_of(fd) as usize]
     } else {
@@ -73,37 +70,49 @@ pub fn count_of(number: i64) -> u64
 
 /// A number of a process that isn't open names an open description from now on, which counts this descriptor already: it was
 /// in hand.
-pub fn open_one(heap: &mut KHeap, procs: &ProcTable, pid: u32, fd: u32, descriptor: Descriptor)
+///
+/// The purse pays for what a number takes, which is nothing.
+pub fn open_one(
+    heap: &mut KHeap,
+    _purse: &mut Purse,
+    procs: &ProcTable,
+    place: Place,
+    fd: u32,
+    descriptor: Descriptor,
+)
     requires listed { AreListed heap.old procs.now }
-    requires there { IsSome (key_of procs.now.listed pid) }
+    requires there { IsPlaced procs.now place }
+    requires pays { CanPay heap.old _purse.old }
     requires number { fd < most_descriptors }
-    requires free { named_at heap.old procs.now pid fd ≡ None }
+    requires free { named_at heap.old procs.now place.pid fd ≡ None }
     ensures opened { (numbers : Numbers) (files : Files) → HaveOpen numbers heap.old procs.now files
-        → HaveOpen numbers heap.new procs.now (with_open files pid fd (Some (descriptor_by numbers.descs descriptor))) }
+        → HaveOpen numbers heap.new procs.now (with_open files place.pid fd (Some (descriptor_by numbers.descs descriptor))) }
     ensures listed { AreListed heap.new procs.now }
     ensures owners { (hand : List ℕ) → HasItsOwners heap.old (descriptor.desc ∷ hand) → HasItsOwners heap.new hand }
-    ensures names { NamesNumber heap.old heap.new procs.now pid fd descriptor }
+    ensures names { NamesNumber heap.old heap.new procs.now place.pid fd descriptor }
     ensures takes { TakesNothing heap.old heap.new }
+    ensures paid { IsPaid heap.old _purse.old heap.new _purse.new }
+    ensures spent { _purse.new ≡ _purse.old }
 {
-    put_number(heap, procs, pid, fd, descriptor);
+    put_number(heap, procs, place, fd, descriptor);
 }
 
 /// An open number of a process is closed by `exec` from now on, or isn't (FD_CLOEXEC).
-pub(crate) fn mark_one(heap: &mut KHeap, procs: &ProcTable, pid: u32, fd: u32, cloexec: bool)
+pub(crate) fn mark_one(heap: &mut KHeap, procs: &ProcTable, place: Place, fd: u32, cloexec: bool)
     requires listed { AreListed heap.old procs.now }
-    requires there { IsSome (key_of procs.now.listed pid) }
+    requires there { IsPlaced procs.now place }
     requires number { fd < most_descriptors }
-    requires is_open { IsSome (named_at heap.old procs.now pid fd) }
+    requires is_open { IsSome (named_at heap.old procs.now place.pid fd) }
     ensures marked { (numbers : Numbers) (files : Files) → HaveOpen numbers heap.old procs.now files
         → HaveOpen numbers heap.new procs.now
-        (with_open files pid fd (cloexec_set cloexec (descriptor_at (descriptors_of files pid) fd))) }
+        (with_open files place.pid fd (cloexec_set cloexec (descriptor_at (descriptors_of files place.pid) fd))) }
     ensures listed { AreListed heap.new procs.now }
     ensures owners { (hand : List ℕ) → HasItsOwners heap.old hand → HasItsOwners heap.new hand }
-    ensures changes { ChangesNumbers heap.old heap.new procs.now pid }
+    ensures changes { ChangesNumbers heap.old heap.new procs.now place.pid }
     ensures beside { heap.new ≡ record heap.old { procs = heap.new.procs } }
     ensures takes { TakesNothing heap.old heap.new }
 {
-    let places = places_of(heap, procs, pid);
+    let places = places_of(heap, procs, place);
     let Some(descriptor) = places[fd as usize] else {
         unreachable!();
     };
@@ -111,26 +120,23 @@ pub(crate) fn mark_one(heap: &mut KHeap, procs: &ProcTable, pid: u32, fd: u32, c
         close_on_exec: cloexec,
         ..descriptor
     };
-    put_number(heap, procs, pid, fd, marked);
+    put_number(heap, procs, place, fd, marked);
 }
 
 // A number of a process has this descriptor from now on.
-fn put_number(heap: &mut KHeap, procs: &ProcTable, pid: u32, fd: u32, descriptor: Descriptor)
+fn put_number(heap: &mut KHeap, procs: &ProcTable, place: Place, fd: u32, descriptor: Descriptor)
     requires listed { AreListed heap.old procs.now }
-    requires there { IsSome (key_of procs.now.listed pid) }
+    requires there { IsPlaced procs.now place }
     requires number { fd < most_descriptors }
-    ensures names { NamesNumber heap.old heap.new procs.now pid fd descriptor }
+    ensures names { NamesNumber heap.old heap.new procs.now place.pid fd descriptor }
     ensures takes { TakesNothing heap.old heap.new }
 {
     is_well_formed(heap);
-    let Some(key) = procs.key_of(pid) else {
-        unreachable!();
-    };
-    let proc = *heap.get_proc(key);
+    let proc = *procs.at(heap, place);
     let mut descriptors = proc.descriptors;
     descriptors[fd as usize] = Some(descriptor);
     heap.set_proc(
-        key,
+        place.key,
         Proc {
             descriptors,
             ..proc

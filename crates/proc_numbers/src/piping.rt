@@ -1,6 +1,6 @@
 //! `pipe`.
 
-ghost use Rattle.std.specs.Prelude.{◌≡◌, ◌-◌, ◌<◌, ◌≤◌, ℕ, [], ◌∷◌, IsSome, None, OnErr, OnOk, length};
+ghost use Rattle.std.specs.Prelude.{◌≡◌, ◌-◌, ◌<◌, ◌≤◌, ℕ, [], ◌∷◌, None, OnErr, OnOk, length};
 ghost use Rattle.kabi_types.specs.declared.scripts.Script.{Script};
 ghost use Rattle.kabi_types.specs.declared.classes.Class.TheVariants as class;
 ghost use Rattle.kabi_types.specs.Counts.{with_count};
@@ -11,7 +11,7 @@ ghost use Rattle.open_laws.specs.Owned.{HasItsOwners};
 ghost use Rattle.open_laws.specs.Placed.{Numbers};
 ghost use Rattle.posix_defs.specs.Calls.OnPipes.{pipe};
 ghost use Rattle.posix_defs.specs.Plain.{Plain};
-ghost use Rattle.proc_table.specs.Table.{key_of};
+ghost use Rattle.proc_table.specs.Table.{IsPlaced};
 ghost use Rattle.proc_numbers.specs.Having.{AreListed, HaveOpen, OpensNoNode};
 ghost use Rattle.proc_numbers.specs.Naming.{ChangesNumbers};
 ghost use Rattle.proc_numbers.specs.Queues.{QueuesStand};
@@ -23,7 +23,7 @@ use crate::sharing::lowest_from;
 use kabi_types::{Class, Errno};
 use kheap_slabs::{Access, Desc, DescFlags, Descriptor, KHeap, Purse, Target};
 use pipe_ends::pipe_make;
-use proc_table::ProcTable;
+use proc_table::{Place, ProcTable};
 
 /// A new pipe: the lowest number of a process that is free names its read end, and the next one its write end. Both numbers.
 ///
@@ -34,20 +34,20 @@ pub fn make_pipe(
     heap: &mut KHeap,
     purse: &mut Purse,
     procs: &ProcTable,
-    pid: u32,
+    place: Place,
 ) -> Result<(u32, u32), Errno>
     requires listed { AreListed heap.old procs.now }
     requires owners { HasItsOwners heap.old [] }
-    requires there { IsSome (key_of procs.now.listed pid) }
+    requires there { IsPlaced procs.now place }
     requires pays { CanPay heap.old purse.old }
     requires left_pipe { 0 < purse.old.left.pipe }
     requires left_descs { 2 ≤ purse.old.left.desc }
     ensures answers { (numbers : Numbers) (script : Script) (plain : Plain) → HaveOpen numbers heap.old procs.now plain.files
-        → AnswersAnew numbers heap.old heap.new procs.now script plain pid (pipe script plain pid) (pair_of result) }
+        → AnswersAnew numbers heap.old heap.new procs.now script plain place.pid (pipe script plain place.pid) (pair_of result) }
     ensures nodes { OpensNoNode heap.old.descs → OpensNoNode heap.new.descs }
     ensures listed { AreListed heap.new procs.now }
     ensures owners { HasItsOwners heap.new [] }
-    ensures changes { ChangesNumbers heap.old heap.new procs.now pid }
+    ensures changes { ChangesNumbers heap.old heap.new procs.now place.pid }
     ensures queues { QueuesStand heap.old heap.new }
     ensures sockets { heap.new.socks ≡ heap.old.socks }
     ensures unchanged { OnErr result ((heap.new ≡ heap.old) × (purse.new ≡ purse.old)) }
@@ -57,11 +57,11 @@ pub fn make_pipe(
       left = with_count (with_count purse.old.left class.Pipe (purse.old.left.pipe - 1)) class.Desc (purse.old.left.desc - 2);
     }) }
 {
-    let lowest = lowest_from(heap, procs, pid, 0);
+    let lowest = lowest_from(heap, procs, place, 0);
     let Some(first) = lowest else {
         return Err(Errno::EMFILE);
     };
-    let next = lowest_from(heap, procs, pid, first as u64 + 1);
+    let next = lowest_from(heap, procs, place, first as u64 + 1);
     let Some(second) = next else {
         return Err(Errno::EMFILE);
     };
@@ -74,8 +74,8 @@ pub fn make_pipe(
         desc: ends.writing,
         close_on_exec: false,
     };
-    open_one(heap, procs, pid, first, reading);
-    open_one(heap, procs, pid, second, writing);
+    open_one(heap, purse, procs, place, first, reading);
+    open_one(heap, purse, procs, place, second, writing);
     Ok((first, second))
 }
 

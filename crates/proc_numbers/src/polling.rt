@@ -1,6 +1,6 @@
 //! `poll`.
 
-ghost use Rattle.std.specs.Prelude.{◌≡◌, ◌==◌, ◌&&◌, ◌≤◌, ℤ, IsSome, length};
+ghost use Rattle.std.specs.Prelude.{◌≡◌, ◌==◌, ◌&&◌, ◌≤◌, ℤ, length};
 ghost use Rattle.kabi_types.specs.Arguments.{is_minus_one};
 ghost use Rattle.kabi_types.specs.declared.calls.Call.{Call};
 ghost use Rattle.kabi_types.specs.declared.scripts.Script.{Script};
@@ -14,29 +14,35 @@ ghost use Rattle.posix_defs.specs.Files.State.{Files, descriptors_of};
 ghost use Rattle.posix_defs.specs.Machine.{blocks};
 ghost use Rattle.posix_defs.specs.Plain.{Plain};
 ghost use Rattle.proc_numbers.specs.Having.{HaveOpen};
-ghost use Rattle.proc_table.specs.Table.{key_of};
+ghost use Rattle.proc_table.specs.Table.{IsPlaced};
 ghost use Rattle.proc_numbers.specs.Standing.{IsKept, Leads, StandsFor};
 
 use desc_table::Descs;
 use kabi_types::{PollEntry, PollHits, PollList, Reply, Revents};
 use kheap_slabs::KHeap;
 use posix_defs::Turned;
-use proc_table::ProcTable;
+use proc_table::{Place, ProcTable};
 
 /// The timeout that waits until an entry has an event.
 const FOREVER: i64 = -1;
 
 /// What each entry is ready for, whatever its number is open on; with timeout -1 it sleeps where none is ready for anything
 /// (POSIX poll).
-pub fn poll(heap: &KHeap, procs: &ProcTable, pid: u32, timeout: i64, entries: &PollList) -> Turned
+pub fn poll(
+    heap: &KHeap,
+    procs: &ProcTable,
+    place: Place,
+    timeout: i64,
+    entries: &PollList,
+) -> Turned
     requires kept { IsKept heap.now procs.now }
-    requires there { IsSome (key_of procs.now.listed pid) }
+    requires there { IsPlaced procs.now place }
     ensures { (script : Script) (numbers : Numbers) (plain : Plain) (account : Account)
         → StandsFor numbers heap.now procs.now plain account
-        → Leads script numbers heap.now procs.now plain account pid (Call.Poll timeout entries.now)
-        (poll script plain pid timeout entries.now) result }
+        → Leads script numbers heap.now procs.now plain account place.pid (Call.Poll timeout entries.now)
+        (poll script plain place.pid timeout entries.now) result }
 {
-    let revents = revents_of(heap, procs, pid, entries.items());
+    let revents = revents_of(heap, procs, place, entries.items());
     let hits = hits_of(revents.items());
     if sleeps(hits, timeout) {
         Turned::Sleep
@@ -49,16 +55,16 @@ pub fn poll(heap: &KHeap, procs: &ProcTable, pid: u32, timeout: i64, entries: &P
 pub fn poll_waits(
     heap: &KHeap,
     procs: &ProcTable,
-    pid: u32,
+    place: Place,
     timeout: i64,
     entries: &PollList,
 ) -> bool
     requires kept { IsKept heap.now procs.now }
-    requires there { IsSome (key_of procs.now.listed pid) }
+    requires there { IsPlaced procs.now place }
     ensures { (script : Script) (numbers : Numbers) (plain : Plain) → HaveOpen numbers heap.now procs.now plain.files
-        → result ≡ blocks (poll script plain pid timeout entries.now) }
+        → result ≡ blocks (poll script plain place.pid timeout entries.now) }
 {
-    let revents = revents_of(heap, procs, pid, entries.items());
+    let revents = revents_of(heap, procs, place, entries.items());
     sleeps(hits_of(revents.items()), timeout)
 }
 
@@ -70,18 +76,18 @@ fn sleeps(hits: u32, timeout: i64) -> bool
 }
 
 // What each entry is told.
-fn revents_of(heap: &KHeap, procs: &ProcTable, pid: u32, entries: &[PollEntry]) -> Revents
+fn revents_of(heap: &KHeap, procs: &ProcTable, place: Place, entries: &[PollEntry]) -> Revents
     requires kept { IsKept heap.now procs.now }
-    requires there { IsSome (key_of procs.now.listed pid) }
+    requires there { IsPlaced procs.now place }
     requires few { length entries.now ≤ 8 }
     ensures { (numbers : Numbers) (files : Files) → HaveOpen numbers heap.now procs.now files
-        → result ≡ revents_of files pid entries.now }
+        → result ≡ revents_of files place.pid entries.now }
 {
     // These are many, so they are taken once and not for each entry.
-    let descs = descs_of(heap, procs, pid);
+    let descs = descs_of(heap, procs, place);
     let mut events = [0; 8];
-    for place in 0..entries.len() {
-        events[place] = descs.polled(heap, &entries[place]);
+    for index in 0..entries.len() {
+        events[index] = descs.polled(heap, &entries[index]);
     }
     let Some(revents) = Revents::of(&events[..entries.len()]) else {
         unreachable!();
@@ -90,17 +96,14 @@ fn revents_of(heap: &KHeap, procs: &ProcTable, pid: u32, entries: &[PollEntry]) 
 }
 
 // What a process has open.
-fn descs_of(heap: &KHeap, procs: &ProcTable, pid: u32) -> Descs
+fn descs_of(heap: &KHeap, procs: &ProcTable, place: Place) -> Descs
     requires kept { IsKept heap.now procs.now }
-    requires there { IsSome (key_of procs.now.listed pid) }
+    requires there { IsPlaced procs.now place }
     ensures open { (fd : ℤ) → IsOpenIn heap.now (descriptor_of result fd) }
     ensures are { (numbers : Numbers) (files : Files) → HaveOpen numbers heap.now procs.now files
-        → descriptors_of files pid ≡ renumbered numbers.descs result }
+        → descriptors_of files place.pid ≡ renumbered numbers.descs result }
 {
-    let Some(key) = procs.key_of(pid) else {
-        unreachable!();
-    };
-    Descs::of(heap.get_proc(key).descriptors)
+    Descs::of(procs.at(heap, place).descriptors)
 }
 
 // How many entries are told something.

@@ -1,10 +1,10 @@
 //! `dup`, and a number that names what another names.
 
-ghost use Rattle.std.specs.Prelude.{◌≡◌, ◌<◌, ◌≤◌, [], IfSome, IsSome, OnErr, None, Some, false, length};
+ghost use Rattle.std.specs.Prelude.{◌≡◌, ◌<◌, ◌≤◌, [], IfSome, OnErr, None, Some, false, length};
 ghost use Rattle.kabi_types.specs.declared.scripts.Script.{Script};
 ghost use Rattle.kheap_slabs.specs.Objects.{InUse};
 ghost use Rattle.kheap_slabs.specs.Heap.{IsWellFormed};
-ghost use Rattle.kheap_slabs.specs.Paid.{TakesNothing};
+ghost use Rattle.kheap_slabs.specs.Paid.{CanPay, IsPaid, TakesNothing};
 ghost use Rattle.open_laws.specs.Owned.{HasItsOwners};
 ghost use Rattle.open_laws.specs.Placed.{Numbers};
 ghost use Rattle.posix_defs.specs.Calls.OnDescriptors.{dup, duplicated};
@@ -13,7 +13,7 @@ ghost use Rattle.posix_defs.specs.Files.Descriptors.{Descriptors, lowest_free_fr
 ghost use Rattle.posix_defs.specs.Files.State.{Files, descriptors_of, with_open};
 ghost use Rattle.posix_defs.specs.Plain.{Plain};
 ghost use Rattle.kabi_types.specs.Arguments.{most_descriptors};
-ghost use Rattle.proc_table.specs.Table.{key_of};
+ghost use Rattle.proc_table.specs.Table.{IsPlaced};
 ghost use Rattle.proc_numbers.specs.Having.{AreListed, HaveOpen, OpensNoNode};
 ghost use Rattle.proc_numbers.specs.Naming.{ChangesNumbers, named_at};
 ghost use Rattle.proc_numbers.specs.Answering.{Answers, value_of};
@@ -21,76 +21,90 @@ ghost use Rattle.proc_numbers.specs.Answering.{Answers, value_of};
 use crate::opening::{descriptor_of, open_one, places_of};
 use desc_table::{Descs, share_desc};
 use kabi_types::{Errno, MOST_DESCRIPTORS};
-use kheap_slabs::{Descriptor, KHeap};
-use proc_table::ProcTable;
+use kheap_slabs::{Descriptor, KHeap, Purse};
+use proc_table::{Place, ProcTable};
 
 /// The lowest number of a process that is free names the same description as another. That number.
 ///
-/// EBADF where the other isn't open, EMFILE where no number is free; nothing is changed then.
+/// The purse pays for what a number takes, which is nothing. EBADF where the other isn't open, EMFILE where no number is free;
+/// nothing is changed then.
 ///
 /// <https://pubs.opengroup.org/onlinepubs/9699919799/functions/dup.html>
-pub fn dup_one(heap: &mut KHeap, procs: &ProcTable, pid: u32, fd: i64) -> Result<u32, Errno>
+pub fn dup_one(
+    heap: &mut KHeap,
+    purse: &mut Purse,
+    procs: &ProcTable,
+    place: Place,
+    fd: i64,
+) -> Result<u32, Errno>
     requires listed { AreListed heap.old procs.now }
     requires owners { HasItsOwners heap.old [] }
-    requires there { IsSome (key_of procs.now.listed pid) }
+    requires there { IsPlaced procs.now place }
+    requires pays { CanPay heap.old purse.old }
     ensures answers { (numbers : Numbers) (script : Script) (plain : Plain) → HaveOpen numbers heap.old procs.now plain.files
-        → Answers numbers heap.new procs.now script plain pid (dup script plain pid fd) (value_of result) }
+        → Answers numbers heap.new procs.now script plain place.pid (dup script plain place.pid fd) (value_of result) }
     ensures nodes { OpensNoNode heap.old.descs → OpensNoNode heap.new.descs }
     ensures listed { AreListed heap.new procs.now }
     ensures owners { HasItsOwners heap.new [] }
-    ensures changes { ChangesNumbers heap.old heap.new procs.now pid }
+    ensures changes { ChangesNumbers heap.old heap.new procs.now place.pid }
     ensures beside { heap.new ≡ record heap.old { procs = heap.new.procs; descs = heap.new.descs } }
     ensures unchanged { OnErr result (heap.new ≡ heap.old) }
     ensures takes { TakesNothing heap.old heap.new }
+    ensures paid { IsPaid heap.old purse.old heap.new purse.new }
+    ensures spent { purse.new ≡ purse.old }
 {
-    let Some(held) = descriptor_of(heap, procs, pid, fd) else {
+    let Some(held) = descriptor_of(heap, procs, place, fd) else {
         return Err(Errno::EBADF);
     };
-    share_lowest(heap, procs, pid, held.desc, 0)
+    share_lowest(heap, purse, procs, place, held.desc, 0)
 }
 
 // The lowest number at or above one that is free names a description from now on that another number names. EMFILE where all
 // from there on are open.
 pub(crate) fn share_lowest(
     heap: &mut KHeap,
+    purse: &mut Purse,
     procs: &ProcTable,
-    pid: u32,
+    place: Place,
     desc: u32,
     from: u64,
 ) -> Result<u32, Errno>
     requires listed { AreListed heap.old procs.now }
     requires owners { HasItsOwners heap.old [] }
-    requires there { IsSome (key_of procs.now.listed pid) }
+    requires there { IsPlaced procs.now place }
+    requires pays { CanPay heap.old purse.old }
     requires used { InUse heap.old.descs desc }
     ensures answers { (numbers : Numbers) (script : Script) (plain : Plain) (is : Description)
         → HaveOpen numbers heap.old procs.now plain.files
-        → Answers numbers heap.new procs.now script plain pid
-        (duplicated script plain pid (record { place = numbers.descs desc; is = is })
-        (lowest_free_from (descriptors_of plain.files pid) from)) (value_of result) }
+        → Answers numbers heap.new procs.now script plain place.pid
+        (duplicated script plain place.pid (record { place = numbers.descs desc; is = is })
+        (lowest_free_from (descriptors_of plain.files place.pid) from)) (value_of result) }
     ensures nodes { OpensNoNode heap.old.descs → OpensNoNode heap.new.descs }
     ensures listed { AreListed heap.new procs.now }
     ensures owners { HasItsOwners heap.new [] }
-    ensures changes { ChangesNumbers heap.old heap.new procs.now pid }
+    ensures changes { ChangesNumbers heap.old heap.new procs.now place.pid }
     ensures beside { heap.new ≡ record heap.old { procs = heap.new.procs; descs = heap.new.descs } }
     ensures unchanged { OnErr result (heap.new ≡ heap.old) }
     ensures takes { TakesNothing heap.old heap.new }
+    ensures paid { IsPaid heap.old purse.old heap.new purse.new }
+    ensures spent { purse.new ≡ purse.old }
 {
-    let Some(fd) = lowest_from(heap, procs, pid, from) else {
+    let Some(fd) = lowest_from(heap, procs, place, from) else {
         return Err(Errno::EMFILE);
     };
-    share_at(heap, procs, pid, fd, desc);
+    share_at(heap, purse, procs, place, fd, desc);
     Ok(fd)
 }
 
 // The lowest number of a process at or above one that is free.
-pub(crate) fn lowest_from(heap: &KHeap, procs: &ProcTable, pid: u32, from: u64) -> Option<u32>
+pub(crate) fn lowest_from(heap: &KHeap, procs: &ProcTable, place: Place, from: u64) -> Option<u32>
     requires listed { AreListed heap.now procs.now }
-    requires there { IsSome (key_of procs.now.listed pid) }
+    requires there { IsPlaced procs.now place }
     ensures lowest { (numbers : Numbers) (files : Files) → HaveOpen numbers heap.now procs.now files
-        → lowest_free_from (descriptors_of files pid) from ≡ result }
-    ensures free { IfSome result (λ fd. (fd < most_descriptors) × (from ≤ fd) × (named_at heap.now procs.now pid fd ≡ None)) }
+        → lowest_free_from (descriptors_of files place.pid) from ≡ result }
+    ensures free { IfSome result (λ fd. (fd < most_descriptors) × (from ≤ fd) × (named_at heap.now procs.now place.pid fd ≡ None)) }
 {
-    let descs = Descs::of(places_of(heap, procs, pid));
+    let descs = Descs::of(places_of(heap, procs, place));
     descs.lowest(first_from(from))
 }
 
@@ -107,29 +121,40 @@ fn first_from(from: u64) -> u32
 }
 
 /// A number of a process that is free names a description from now on that is open.
-pub fn share_at(heap: &mut KHeap, procs: &ProcTable, pid: u32, fd: u32, desc: u32)
+pub fn share_at(
+    heap: &mut KHeap,
+    purse: &mut Purse,
+    procs: &ProcTable,
+    place: Place,
+    fd: u32,
+    desc: u32,
+)
     requires listed { AreListed heap.old procs.now }
     requires owners { HasItsOwners heap.old [] }
-    requires there { IsSome (key_of procs.now.listed pid) }
+    requires there { IsPlaced procs.now place }
+    requires pays { CanPay heap.old purse.old }
     requires used { InUse heap.old.descs desc }
     requires number { fd < most_descriptors }
-    requires free { named_at heap.old procs.now pid fd ≡ None }
+    requires free { named_at heap.old procs.now place.pid fd ≡ None }
     ensures opened { (numbers : Numbers) (files : Files) → HaveOpen numbers heap.old procs.now files
         → HaveOpen numbers heap.new procs.now
-        (with_open files pid fd (Some (record { description = numbers.descs desc; cloexec = false }))) }
+        (with_open files place.pid fd (Some (record { description = numbers.descs desc; cloexec = false }))) }
     ensures nodes { OpensNoNode heap.old.descs → OpensNoNode heap.new.descs }
     ensures listed { AreListed heap.new procs.now }
     ensures owners { HasItsOwners heap.new [] }
-    ensures changes { ChangesNumbers heap.old heap.new procs.now pid }
+    ensures changes { ChangesNumbers heap.old heap.new procs.now place.pid }
     ensures beside { heap.new ≡ record heap.old { procs = heap.new.procs; descs = heap.new.descs } }
     ensures takes { TakesNothing heap.old heap.new }
+    ensures paid { IsPaid heap.old purse.old heap.new purse.new }
+    ensures spent { purse.new ≡ purse.old }
 {
     is_well_formed(heap);
     share_desc(heap, desc);
     open_one(
         heap,
+        purse,
         procs,
-        pid,
+        place,
         fd,
         Descriptor {
             desc,

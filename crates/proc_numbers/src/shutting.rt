@@ -1,13 +1,13 @@
 //! `listen` and `shutdown`.
 
-ghost use Rattle.std.specs.Prelude.{◌≡◌, [], IsSome, OnErr};
+ghost use Rattle.std.specs.Prelude.{◌≡◌, [], OnErr};
 ghost use Rattle.kabi_types.specs.declared.scripts.Script.{Script};
 ghost use Rattle.kheap_slabs.specs.Paid.{TakesNothing};
 ghost use Rattle.open_laws.specs.Owned.{HasItsOwners};
 ghost use Rattle.open_laws.specs.Placed.{Numbers};
 ghost use Rattle.posix_defs.specs.Calls.OnSockets.{listen as plain_listen, shutdown as plain_shutdown};
 ghost use Rattle.posix_defs.specs.Plain.{Plain};
-ghost use Rattle.proc_table.specs.Table.{key_of};
+ghost use Rattle.proc_table.specs.Table.{IsPlaced};
 ghost use Rattle.proc_numbers.specs.Having.{AreListed, HaveOpen};
 ghost use Rattle.proc_numbers.specs.Naming.{ChangesNumbers};
 ghost use Rattle.proc_numbers.specs.Queues.{QueuesStand};
@@ -16,7 +16,7 @@ ghost use Rattle.proc_numbers.specs.Answering.{Answers, zero_of};
 use crate::finding::socket_of;
 use kabi_types::Errno;
 use kheap_slabs::KHeap;
-use proc_table::ProcTable;
+use proc_table::{Place, ProcTable};
 use usock_core::{listen, shutdown};
 
 /// The socket that a number of a process is open on listens from now on; one that listens already goes on.
@@ -25,22 +25,27 @@ use usock_core::{listen, shutdown};
 /// EDESTADDRREQ where it has no name; nothing is changed then.
 ///
 /// <https://pubs.opengroup.org/onlinepubs/9699919799/functions/listen.html>
-pub fn listen_number(heap: &mut KHeap, procs: &ProcTable, pid: u32, fd: i64) -> Result<(), Errno>
+pub fn listen_number(
+    heap: &mut KHeap,
+    procs: &ProcTable,
+    place: Place,
+    fd: i64,
+) -> Result<(), Errno>
     requires listed { AreListed heap.old procs.now }
     requires owners { HasItsOwners heap.old [] }
-    requires there { IsSome (key_of procs.now.listed pid) }
+    requires there { IsPlaced procs.now place }
     ensures answers { (numbers : Numbers) (script : Script) (plain : Plain) → HaveOpen numbers heap.old procs.now plain.files
-        → Answers numbers heap.new procs.now script plain pid (plain_listen script plain pid fd) (zero_of result) }
+        → Answers numbers heap.new procs.now script plain place.pid (plain_listen script plain place.pid fd) (zero_of result) }
     ensures listed { AreListed heap.new procs.now }
     ensures owners { HasItsOwners heap.new [] }
-    ensures changes { ChangesNumbers heap.old heap.new procs.now pid }
+    ensures changes { ChangesNumbers heap.old heap.new procs.now place.pid }
     ensures beside { heap.new
         ≡ record heap.old { chunks = heap.new.chunks; socks = heap.new.socks; high = heap.new.high } }
     ensures unchanged { OnErr result (heap.new ≡ heap.old) }
     ensures queues { QueuesStand heap.old heap.new }
     ensures takes { TakesNothing heap.old heap.new }
 {
-    match socket_of(heap, procs, pid, fd) {
+    match socket_of(heap, procs, place, fd) {
         Ok(found) => listen(heap, found.key),
         Err(errno) => Err(errno),
     }
@@ -56,25 +61,25 @@ pub fn listen_number(heap: &mut KHeap, procs: &ProcTable, pid: u32, fd: i64) -> 
 pub fn shut_number(
     heap: &mut KHeap,
     procs: &ProcTable,
-    pid: u32,
+    place: Place,
     fd: i64,
     how: i64,
 ) -> Result<(), Errno>
     requires listed { AreListed heap.old procs.now }
     requires owners { HasItsOwners heap.old [] }
-    requires there { IsSome (key_of procs.now.listed pid) }
+    requires there { IsPlaced procs.now place }
     ensures answers { (numbers : Numbers) (script : Script) (plain : Plain) → HaveOpen numbers heap.old procs.now plain.files
-        → Answers numbers heap.new procs.now script plain pid (plain_shutdown script plain pid fd how) (zero_of result) }
+        → Answers numbers heap.new procs.now script plain place.pid (plain_shutdown script plain place.pid fd how) (zero_of result) }
     ensures listed { AreListed heap.new procs.now }
     ensures owners { HasItsOwners heap.new [] }
-    ensures changes { ChangesNumbers heap.old heap.new procs.now pid }
+    ensures changes { ChangesNumbers heap.old heap.new procs.now place.pid }
     ensures beside { heap.new
         ≡ record heap.old { chunks = heap.new.chunks; socks = heap.new.socks; high = heap.new.high } }
     ensures unchanged { OnErr result (heap.new ≡ heap.old) }
     ensures queues { QueuesStand heap.old heap.new }
     ensures takes { TakesNothing heap.old heap.new }
 {
-    match socket_of(heap, procs, pid, fd) {
+    match socket_of(heap, procs, place, fd) {
         Ok(found) => shutdown(heap, found.key, how),
         Err(errno) => Err(errno),
     }

@@ -6,28 +6,26 @@ ghost use Rattle.page_space.specs.Contents.{IsOwnedWith, StandsFor as IsMemory};
 ghost use Rattle.page_space.specs.Entries.{IsMappedRange};
 ghost use Rattle.posix_defs.specs.Memory.{Memory, loaded};
 ghost use Rattle.proc_table.specs.Procs.{IsAlive};
-ghost use Rattle.proc_table.specs.Table.{processes};
+ghost use Rattle.proc_table.specs.Table.{IsPlaced, processes};
 ghost use Rattle.proc_numbers.specs.Spaces.{HasSpace};
 ghost use Rattle.proc_numbers.specs.Standing.{IsKept};
 
 use kheap_slabs::KHeap;
 use page_space::Space;
-use proc_table::ProcTable;
+use proc_table::{Place, ProcTable};
 
 /// How many bytes are taken from memory at a time: where a page was never written they are cleared, and the host clears a longer
 /// row a byte a step.
 const PIECE: usize = 1024;
 
 /// The address space of a process that runs.
-pub(crate) fn space_of(heap: &KHeap, procs: &ProcTable, pid: u32) -> Space
+pub(crate) fn space_of(heap: &KHeap, procs: &ProcTable, place: Place) -> Space
     requires kept { IsKept heap.now procs.now }
-    requires alive { IsAlive (processes heap.now procs.now) pid }
-    ensures { HasSpace heap.now procs.now pid result }
+    requires alive { IsAlive (processes heap.now procs.now) place.pid }
+    requires there { IsPlaced procs.now place }
+    ensures { HasSpace heap.now procs.now place.pid result }
 {
-    let Some(key) = procs.key_of(pid) else {
-        unreachable!();
-    };
-    Space::of(heap.get_proc(key).nodes)
+    Space::of(procs.at(heap, place).nodes)
 }
 
 /// Where a range of so many bytes begins. No bytes lie anywhere, so a range of none begins at 0.

@@ -18,7 +18,7 @@ use Rattle.proc_table.specs.Accounting.{HasAccount, IsPlaced}
 use Rattle.proc_table.specs.Changes.{is_other, with_nodes}
 use Rattle.proc_table.specs.Procs.{proc_of}
 use Rattle.proc_table.specs.Table.{AreBetween, AreStored, Holds, TableView, processes, procs_at, with_procs}
-use Rattle.proc_table.specs.declared.places.Listed.{Listed}
+use Rattle.proc_table.specs.declared.places.Place.{Place}
 use Rattle.proc_table.proofs.FamilyLemmas.{proc_has_pid}
 use Rattle.proc_table.proofs.MemoryLemmas.{none_under}
 use Rattle.proc_table.proofs.OwnLemmas.{AreRising, HasOut, all_append, all_filter, all_filter_map, all_weaker, has_it, has_out, others_above, rising_procs, with_nodes-above}
@@ -30,11 +30,11 @@ all_both P Q [] one other = tt
 all_both P Q (x ∷ xs) one other = ((one.0, other.0), all_both P Q xs one.1 other.1)
 
 -- pids are within those that were given
-between_most : (places : List Listed) (before last : ℕ) → AreBetween before places last → before ≤ last
+between_most : (places : List Place) (before last : ℕ) → AreBetween before places last → before ≤ last
 between_most [] before last rising = rising
 between_most (place ∷ places) before last rising = omega (arith, rising.0, between_most places place.pid last rising.1)
 
-pub pids_within : (objects : List (Option Proc)) (places : List Listed) (before last : ℕ) → AreStored objects places → AreBetween before places last
+pub pids_within : (objects : List (Option Proc)) (places : List Place) (before last : ℕ) → AreStored objects places → AreBetween before places last
     → AllByRecursion (λ proc. (before < proc.pid) × (proc.pid ≤ last)) (procs_at objects places)
 pids_within objects [] before last stored rising = tt
 pids_within objects (place ∷ places) before last stored rising =

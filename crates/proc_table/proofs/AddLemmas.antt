@@ -12,11 +12,11 @@ use Rattle.kheap_slabs.proofs.ObjectLemmas.{object-put_other}
 use Rattle.kheap_laws.proofs.OwnerLemmas.{IsOwned-same, IsOwned-space_from_front}
 use Rattle.proc_table.specs.Procs.{IsLight}
 use Rattle.proc_table.specs.Table.{AreBetween, AreStored, TableView, keys_of, processes, procs_at, with_procs}
-use Rattle.proc_table.specs.declared.places.Listed.{Listed}
+use Rattle.proc_table.specs.declared.places.Place.{Place}
 use Rattle.proc_table.proofs.OwnLemmas.{all_append, spaces_in}
 use Rattle.proc_table.proofs.PlaceLemmas.{AreBetween-more, AreStored-missed, Misses, Misses-vacant, at_stored, procs_at-missed}
 
-procs_more : (objects : List (Option Proc)) (places : List Listed) (place : Listed) (child : Proc) → object objects place.key ≡ Some child
+procs_more : (objects : List (Option Proc)) (places : List Place) (place : Place) (child : Proc) → object objects place.key ≡ Some child
     → procs_at objects (places ++ place ∷ []) ≡ procs_at objects places ++ child ∷ []
 procs_more objects [] place child there = ap (λ o. cons_option o []) there
 procs_more objects (first ∷ places) place child there =
@@ -26,12 +26,12 @@ procs_more objects (first ∷ places) place child there =
     over None = refl
     over (Some proc) = refl
 
-stored_more : (objects : List (Option Proc)) (places : List Listed) (place : Listed) (child : Proc) → object objects place.key ≡ Some child → child.pid ≡ place.pid
+stored_more : (objects : List (Option Proc)) (places : List Place) (place : Place) (child : Proc) → object objects place.key ≡ Some child → child.pid ≡ place.pid
     → AreStored objects places → AreStored objects (places ++ place ∷ [])
 stored_more objects [] place child there pid stored = (at_stored objects place child there pid, tt)
 stored_more objects (first ∷ places) place child there pid stored = (stored.0, stored_more objects places place child there pid stored.1)
 
-keys_more : (places : List Listed) (place : Listed) → keys_of (places ++ place ∷ []) ≡ keys_of places ++ place.key ∷ []
+keys_more : (places : List Place) (place : Place) → keys_of (places ++ place ∷ []) ≡ keys_of places ++ place.key ∷ []
 keys_more [] place = refl
 keys_more (first ∷ places) place = ap (λ keys. first.key ∷ keys) (keys_more places place)
 
@@ -52,7 +52,7 @@ module _ (mid new : Heap) (was now : TableView) (child : Proc) (key : ℕ) (vaca
     (listed : now.listed ≡ was.listed ++ record { pid = child.pid; key = key } ∷ []) (last : now.last ≡ child.pid)
     (kept : new ≡ record mid { procs = put mid.procs key child; high = new.high })
     (before : AreStored mid.procs was.listed) where
-  abbrev place : Listed
+  abbrev place : Place
   place = record { pid = child.pid; key = key }
 
   procs_are : new.procs ≡ put mid.procs key child

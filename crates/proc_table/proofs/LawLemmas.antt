@@ -27,7 +27,7 @@ use Rattle.proc_table.specs.Moves.{MemoryStays, ProcTurns, SpaceTurns, TableMove
 use Rattle.proc_table.specs.Procs.{IsLight, proc_of, process_of}
 use Rattle.proc_table.specs.Standing.{AreFrom, IsTable, answered_fork, answered_wait, ends_in, found_in}
 use Rattle.proc_table.specs.Table.{AreStored, Holds, TableView, places_kept, processes, procs_at, with_procs}
-use Rattle.proc_table.specs.declared.places.Listed.{Listed}
+use Rattle.proc_table.specs.declared.places.Place.{Place}
 use Rattle.proc_table.proofs.AccountLemmas.{all_both, becomes_account, turned_account}
 use Rattle.proc_table.proofs.FamilyLemmas.{as_many, changed_table, length-with_memory, remembers_is, same_table}
 use Rattle.proc_table.proofs.HoldLemmas.{Becomes, becomes-moves, becomes-procs, content_kept, memory_kept}
@@ -37,7 +37,7 @@ use Rattle.proc_table.proofs.PlaceLemmas.{Follows, Misses, eqb_is, eqb_other, eq
 use Rattle.proc_table.proofs.TurnLemmas.{all_changed, all_kept, listed_proc, turned-memory, turned-moves, turned-procs}
 
 -- as many processes stand at places as there are places
-pub length-procs_at : (objects : List (Option Proc)) (places : List Listed) → AreStored objects places → length (procs_at objects places) ≡ length places
+pub length-procs_at : (objects : List (Option Proc)) (places : List Place) → AreStored objects places → length (procs_at objects places) ≡ length places
 length-procs_at objects [] stored = refl
 length-procs_at objects (place ∷ places) stored =
     let at = stored_is objects place stored.0 in
@@ -159,7 +159,7 @@ module _ (old new : Heap) (kept : TableView) (pid key : ℕ) (proc now : Proc) (
   only_procs = turns.after ∙ ap (λ (procs : List (Option Proc)). record old { procs = procs }) (sym procs_are)
 
   kept_is : record kept { listed = places_kept goes_on old.procs kept.listed } ≡ kept
-  kept_is = ap (λ (places : List Listed). record kept { listed = places }) (all_kept (replaced pid now) old.procs kept.listed holds.stored)
+  kept_is = ap (λ (places : List Place). record kept { listed = places }) (all_kept (replaced pid now) old.procs kept.listed holds.stored)
 
   pub on-procs : processes new kept ≡ map (replaced pid now) (processes old kept)
   on-procs =

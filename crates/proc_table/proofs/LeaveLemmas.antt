@@ -9,11 +9,11 @@ use Rattle.kheap_slabs.specs.Paid.{TakesNothing}
 use Rattle.kheap_laws.proofs.PaidLemmas.{TakesNothing-trans}
 use Rattle.proc_table.specs.Changes.{left_behind}
 use Rattle.proc_table.specs.Table.{AreBetween, AreStored, is_kept, objects_after, places_kept}
-use Rattle.proc_table.specs.declared.places.Listed.{Listed}
+use Rattle.proc_table.specs.declared.places.Place.{Place}
 use Rattle.proc_table.proofs.PlaceLemmas.{AreBetween-filter, AreStored-missed, Misses, Misses-lower, object_missed, stored_is}
 
 -- The processes before a place are left behind, and those from there on are to be.
-pub record IsLeaving (pid status : ℕ) (old now : Heap) (places : List Listed) (last at : ℕ) (left : List Listed) : Type 0 where
+pub record IsLeaving (pid status : ℕ) (old now : Heap) (places : List Place) (last at : ℕ) (left : List Place) : Type 0 where
   pub before : ℕ
   pub stored : AreStored now.procs (drop at places)
   pub rising : AreBetween before (drop at places) last
@@ -23,7 +23,7 @@ pub record IsLeaving (pid status : ℕ) (old now : Heap) (places : List Listed) 
   pub takes : TakesNothing old now
   pub few : length left ≤ at
 
-pub kept_missed : (becomes : Proc → Option Proc) (objects : List (Option Proc)) (places : List Listed) (key : ℕ) (value : Option Proc) → Misses key places
+pub kept_missed : (becomes : Proc → Option Proc) (objects : List (Option Proc)) (places : List Place) (key : ℕ) (value : Option Proc) → Misses key places
     → places_kept becomes (slice_set objects key value) places ≡ places_kept becomes objects places
 kept_missed becomes objects [] key value misses = refl
 kept_missed becomes objects (place ∷ places) key value misses =
@@ -32,11 +32,11 @@ kept_missed becomes objects (place ∷ places) key value misses =
     ∙ ap (λ rest. cond (is_kept becomes objects place) (place ∷ rest) rest) (kept_missed becomes objects places key value misses.1)
 
 -- the first of them is left behind
-pub record LeavesFirst (becomes : Proc → Option Proc) (objects : List (Option Proc)) (place : Listed) (places : List Listed) (last : ℕ) : Type 0 where
+pub record LeavesFirst (becomes : Proc → Option Proc) (objects : List (Option Proc)) (place : Place) (places : List Place) (last : ℕ) : Type 0 where
   pub stored : AreStored (slice_set objects place.key (option_and_then becomes (object objects place.key))) places
   pub same : places_kept becomes (slice_set objects place.key (option_and_then becomes (object objects place.key))) places ≡ places_kept becomes objects places
 
-pub leaves_first : (becomes : Proc → Option Proc) (objects : List (Option Proc)) (place : Listed) (places : List Listed) (before last : ℕ)
+pub leaves_first : (becomes : Proc → Option Proc) (objects : List (Option Proc)) (place : Place) (places : List Place) (before last : ℕ)
     → AreStored objects (place ∷ places) → AreBetween before (place ∷ places) last → LeavesFirst becomes objects place places last
 leaves_first becomes objects place places before last stored rising =
     let at = stored_is objects place stored.0 in
@@ -47,14 +47,14 @@ leaves_first becomes objects place places before last stored rising =
     }
 
 -- the place that a loop stands at
-pub record StandsAt (places : List Listed) (at : ℕ) : Type 0 where
-  pub place : Listed
-  pub rest : List Listed
+pub record StandsAt (places : List Place) (at : ℕ) : Type 0 where
+  pub place : Place
+  pub rest : List Place
   pub is : drop at places ≡ place ∷ rest
   pub next : drop (at + 1) places ≡ rest
-  pub read : (d : Listed) → get_or places at d ≡ place
+  pub read : (d : Place) → get_or places at d ≡ place
 
-pub stands_at : (places : List Listed) (at : ℕ) → at < length places → StandsAt places at
+pub stands_at : (places : List Place) (at : ℕ) → at < length places → StandsAt places at
 stands_at [] at within = absurd (omega arith)
 stands_at (place ∷ places) zero within = record { place = place; rest = places; is = refl; next = refl; read = λ d. refl }
 stands_at (place ∷ places) (suc at) within =
@@ -68,7 +68,7 @@ stands_at (place ∷ places) (suc at) within =
     }
 
 -- one more is left behind
-module _ (pid status : ℕ) (old now next : Heap) (places : List Listed) (last at : ℕ) (left more : List Listed) (key : ℕ) (stays : Bool)
+module _ (pid status : ℕ) (old now next : Heap) (places : List Place) (last at : ℕ) (left more : List Place) (key : ℕ) (stays : Bool)
     (leaving : IsLeaving pid status old now places last at left) (stands : StandsAt places at)
     (key_is : stands.place.key ≡ key)
     (changed : next ≡ record now { procs = slice_set now.procs key (option_and_then (left_behind pid status) (object now.procs key)) })
@@ -100,7 +100,7 @@ module _ (pid status : ℕ) (old now next : Heap) (places : List Listed) (last a
 
   few_more : (b : Bool) → length (left ++ cond b (stands.place ∷ []) []) ≤ at + 1
   few_more true = omega (arith, length-append left (stands.place ∷ []), leaving.few)
-  few_more false = omega (arith, length-append {A = Listed} left [], leaving.few)
+  few_more false = omega (arith, length-append {A = Place} left [], leaving.few)
 
   pub IsLeaving-next : IsLeaving pid status old next places last (at + 1) more
   IsLeaving-next = record {
@@ -128,7 +128,7 @@ module _ (pid status : ℕ) (old now next : Heap) (places : List Listed) (last a
   }
 
 -- those that stay stand by rising pid as well
-pub IsLeaving-rising : (pid status : ℕ) (old now : Heap) (places : List Listed) (last at : ℕ) (left : List Listed) → IsLeaving pid status old now places last at left
+pub IsLeaving-rising : (pid status : ℕ) (old now : Heap) (places : List Place) (last at : ℕ) (left : List Place) → IsLeaving pid status old now places last at left
     → AreBetween 0 places last → length places ≤ at → AreBetween 0 left last
 IsLeaving-rising pid status old now places last at left leaving rising over =
     let none : drop at places ≡ [] = drop_all at places over in

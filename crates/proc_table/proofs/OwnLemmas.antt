@@ -11,7 +11,7 @@ use Rattle.kheap_slabs.specs.Spaces.{keys_in}
 use Rattle.proc_table.specs.Changes.{is_other, with_nodes}
 use Rattle.proc_table.specs.Procs.{proc_of}
 use Rattle.proc_table.specs.Table.{AreBetween, AreStored, procs_at}
-use Rattle.proc_table.specs.declared.places.Listed.{Listed}
+use Rattle.proc_table.specs.declared.places.Place.{Place}
 use Rattle.proc_table.proofs.PlaceLemmas.{Contains-behind, IsAt, eqb_other, eqb_same, some_same, stored_is}
 
 -- the processes stand by rising pid, behind this one
@@ -23,7 +23,7 @@ pub AreRising-lower : (procs : List Proc) (before lower : ℕ) → lower ≤ bef
 AreRising-lower [] before lower low rising = tt
 AreRising-lower (proc ∷ procs) before lower low rising = (omega (arith, rising.0), rising.1)
 
-pub rising_procs : (objects : List (Option Proc)) (places : List Listed) (before last : ℕ) → AreStored objects places → AreBetween before places last
+pub rising_procs : (objects : List (Option Proc)) (places : List Place) (before last : ℕ) → AreStored objects places → AreBetween before places last
     → AreRising before (procs_at objects places)
 rising_procs objects [] before last stored rising = tt
 rising_procs objects (place ∷ places) before last stored rising =

@@ -13,7 +13,7 @@ use Rattle.kheap_slabs.proofs.ObjectLemmas.{InUse-within}
 use Rattle.proc_table.specs.Changes.{is_alone}
 use Rattle.proc_table.specs.Procs.{proc_of}
 use Rattle.proc_table.specs.Table.{TableView, processes, key_of, keys_of, procs_at, AreStored, AreBetween, objects_after, is_kept, places_kept}
-use Rattle.proc_table.specs.declared.places.Listed.{Listed}
+use Rattle.proc_table.specs.declared.places.Place.{Place}
 
 -- a number is itself, and not another
 pub eqb_same : (a b : ℕ) → a ≡ b → (a == b) ≡ true
@@ -37,19 +37,19 @@ Contains-cases {X} head x rest p = by_place p.0 p.1 p.2
     by_place (suc k) within found = inr (k, omega arith, found)
 
 -- the process of a place that has one
-pub record IsAt (objects : List (Option Proc)) (place : Listed) : Type 0 where
+pub record IsAt (objects : List (Option Proc)) (place : Place) : Type 0 where
   pub proc : Proc
   pub is : object objects place.key ≡ Some proc
   pub pid : proc.pid ≡ place.pid
 
-pub stored_is : (objects : List (Option Proc)) (place : Listed) → IsSomeAnd (object objects place.key) (λ proc. proc.pid ≡ place.pid) → IsAt objects place
+pub stored_is : (objects : List (Option Proc)) (place : Place) → IsSomeAnd (object objects place.key) (λ proc. proc.pid ≡ place.pid) → IsAt objects place
 stored_is objects place stored = by_case (object objects place.key) refl stored
   where
     by_case : (o : Option Proc) → object objects place.key ≡ o → IsSomeAnd o (λ proc. proc.pid ≡ place.pid) → IsAt objects place
     by_case None is none = absurd none
     by_case (Some proc) is same = record { proc = proc; is = is; pid = same }
 
-pub at_stored : (objects : List (Option Proc)) (place : Listed) (proc : Proc) → object objects place.key ≡ Some proc → proc.pid ≡ place.pid
+pub at_stored : (objects : List (Option Proc)) (place : Place) (proc : Proc) → object objects place.key ≡ Some proc → proc.pid ≡ place.pid
     → IsSomeAnd (object objects place.key) (λ proc. proc.pid ≡ place.pid)
 at_stored objects place proc is pid = subst (λ o. IsSomeAnd o (λ proc. proc.pid ≡ place.pid)) (sym is) pid
 
@@ -60,12 +60,12 @@ pub none_not_some : {X : Type 0} (o : Option X) (x : X) → o ≡ None → o ≡
 none_not_some o x e f = cc
 
 -- no place has this key
-abbrev pub Misses : ℕ → List Listed → Type 0
+abbrev pub Misses : ℕ → List Place → Type 0
 Misses key [] = Unit {0}
 Misses key (place ∷ places) = (place.key ≢ key) × Misses key places
 
 -- the key of a process with a lower pid is none of theirs
-pub Misses-lower : (objects : List (Option Proc)) (places : List Listed) (before last key : ℕ) (proc : Proc)
+pub Misses-lower : (objects : List (Option Proc)) (places : List Place) (before last key : ℕ) (proc : Proc)
     → AreStored objects places → AreBetween before places last → object objects key ≡ Some proc → proc.pid ≤ before → Misses key places
 Misses-lower objects [] before last key proc stored rising is low = tt
 Misses-lower objects (place ∷ places) before last key proc stored rising is low = (
@@ -80,14 +80,14 @@ Misses-lower objects (place ∷ places) before last key proc stored rising is lo
         omega (arith, e, rising.0)
 
 -- nor is a key that names nothing
-pub Misses-vacant : (objects : List (Option Proc)) (places : List Listed) (key : ℕ) → AreStored objects places → object objects key ≡ None → Misses key places
+pub Misses-vacant : (objects : List (Option Proc)) (places : List Place) (key : ℕ) → AreStored objects places → object objects key ≡ None → Misses key places
 Misses-vacant objects [] key stored vacant = tt
 Misses-vacant objects (place ∷ places) key stored vacant = (
   (λ same. let at = stored_is objects place stored.0 in none_not_some (object objects key) at.proc vacant (ap (object objects) (sym same) ∙ at.is)),
   Misses-vacant objects places key stored.1 vacant,
 )
 
-pub Misses-outside : (places : List Listed) (key : ℕ) → (Contains (keys_of places) key → ⊥) → Misses key places
+pub Misses-outside : (places : List Place) (key : ℕ) → (Contains (keys_of places) key → ⊥) → Misses key places
 Misses-outside [] key absent = tt
 Misses-outside (place ∷ places) key absent = (
   (λ same. absent (0, omega arith, same)),
@@ -98,14 +98,14 @@ Misses-outside (place ∷ places) key absent = (
 pub object_missed : (objects : List (Option Proc)) (key other : ℕ) (value : Option Proc) → other ≢ key → object (slice_set objects key value) other ≡ object objects other
 object_missed objects key other value differs = get_or-set_other objects key other value None differs
 
-pub procs_at-missed : (objects : List (Option Proc)) (places : List Listed) (key : ℕ) (value : Option Proc) → Misses key places
+pub procs_at-missed : (objects : List (Option Proc)) (places : List Place) (key : ℕ) (value : Option Proc) → Misses key places
     → procs_at (slice_set objects key value) places ≡ procs_at objects places
 procs_at-missed objects [] key value misses = refl
 procs_at-missed objects (place ∷ places) key value misses =
     ap (λ o. cons_option o (procs_at (slice_set objects key value) places)) (object_missed objects key place.key value misses.0)
     ∙ ap (cons_option (object objects place.key)) (procs_at-missed objects places key value misses.1)
 
-pub AreStored-missed : (objects : List (Option Proc)) (places : List Listed) (key : ℕ) (value : Option Proc) → Misses key places
+pub AreStored-missed : (objects : List (Option Proc)) (places : List Place) (key : ℕ) (value : Option Proc) → Misses key places
     → AreStored objects places → AreStored (slice_set objects key value) places
 AreStored-missed objects [] key value misses stored = tt
 AreStored-missed objects (place ∷ places) key value misses stored = (
@@ -113,12 +113,12 @@ AreStored-missed objects (place ∷ places) key value misses stored = (
   AreStored-missed objects places key value misses.1 stored.1,
 )
 
-pub AreBetween-lower : (places : List Listed) (before lower last : ℕ) → lower ≤ before → AreBetween before places last → AreBetween lower places last
+pub AreBetween-lower : (places : List Place) (before lower last : ℕ) → lower ≤ before → AreBetween before places last → AreBetween lower places last
 AreBetween-lower [] before lower last low rising = omega (arith, rising)
 AreBetween-lower (place ∷ places) before lower last low rising = (omega (arith, rising.0), rising.1)
 
 -- some of the places rise too
-pub AreBetween-filter : (test : Listed → Bool) (places : List Listed) (before last : ℕ) → AreBetween before places last → AreBetween before (filter test places) last
+pub AreBetween-filter : (test : Place → Bool) (places : List Place) (before last : ℕ) → AreBetween before places last → AreBetween before (filter test places) last
 AreBetween-filter test [] before last rising = rising
 AreBetween-filter test (place ∷ places) before last rising = by_case (test place) (AreBetween-filter test places place.pid last rising.1)
   where
@@ -126,23 +126,23 @@ AreBetween-filter test (place ∷ places) before last rising = by_case (test pla
     by_case true rest = (rising.0, rest)
     by_case false rest = AreBetween-lower (filter test places) place.pid before last (omega (arith, rising.0)) rest
 
-pub AreBetween-more : (places : List Listed) (before last pid key : ℕ) → AreBetween before places last → last < pid
+pub AreBetween-more : (places : List Place) (before last pid key : ℕ) → AreBetween before places last → last < pid
     → AreBetween before (places ++ record { pid = pid; key = key } ∷ []) pid
 AreBetween-more [] before last pid key rising next = (omega (arith, rising), omega arith)
 AreBetween-more (place ∷ places) before last pid key rising next = (rising.0, AreBetween-more places place.pid last pid key rising.1 next)
 
 -- each process became what it becomes
-abbrev pub Follows : (Proc → Option Proc) → List (Option Proc) → List (Option Proc) → List Listed → Type 0
+abbrev pub Follows : (Proc → Option Proc) → List (Option Proc) → List (Option Proc) → List Place → Type 0
 Follows becomes old new [] = Unit {0}
 Follows becomes old new (place ∷ places) = (object new place.key ≡ option_and_then becomes (object old place.key)) × Follows becomes old new places
 
 module _ (becomes : Proc → Option Proc) where
   -- the first place stays or goes
-  places_kept-first : (old : List (Option Proc)) (place : Listed) (places : List Listed) (o : Option Proc) → option_and_then becomes (object old place.key) ≡ o
+  places_kept-first : (old : List (Option Proc)) (place : Place) (places : List Place) (o : Option Proc) → option_and_then becomes (object old place.key) ≡ o
       → places_kept becomes old (place ∷ places) ≡ cond (is_some o) (place ∷ places_kept becomes old places) (places_kept becomes old places)
   places_kept-first old place places o is = ap (λ v. cond (is_some v) (place ∷ places_kept becomes old places) (places_kept becomes old places)) is
 
-  pub follows_procs : (old new : List (Option Proc)) (places : List Listed) → AreStored old places → Follows becomes old new places
+  pub follows_procs : (old new : List (Option Proc)) (places : List Place) → AreStored old places → Follows becomes old new places
       → procs_at new (places_kept becomes old places) ≡ filter_map becomes (procs_at old places)
   follows_procs old new [] stored follows = refl
   follows_procs old new (place ∷ places) stored follows =
@@ -159,7 +159,7 @@ module _ (becomes : Proc → Option Proc) where
           ∙ ap (λ o. cons_option o (procs_at new (places_kept becomes old places))) (follows.0 ∙ is)
           ∙ ap (λ procs. proc ∷ procs) rest
 
-  pub follows_stored : (old new : List (Option Proc)) (places : List Listed) → ((proc now : Proc) → becomes proc ≡ Some now → now.pid ≡ proc.pid)
+  pub follows_stored : (old new : List (Option Proc)) (places : List Place) → ((proc now : Proc) → becomes proc ≡ Some now → now.pid ≡ proc.pid)
       → AreStored old places → Follows becomes old new places → AreStored new (places_kept becomes old places)
   follows_stored old new [] same stored follows = tt
   follows_stored old new (place ∷ places) same stored follows =
@@ -174,14 +174,14 @@ module _ (becomes : Proc → Option Proc) where
           (at_stored new place proc (follows.0 ∙ goes ∙ is) (same at.proc proc is ∙ at.pid), rest)
 
   -- whoever misses all of them sees no change
-  pub objects_after-missed : (objects : List (Option Proc)) (places : List Listed) (key : ℕ) → Misses key places
+  pub objects_after-missed : (objects : List (Option Proc)) (places : List Place) (key : ℕ) → Misses key places
       → object (objects_after becomes objects places) key ≡ object objects key
   objects_after-missed objects [] key misses = refl
   objects_after-missed objects (place ∷ places) key misses =
       objects_after-missed (slice_set objects place.key (option_and_then becomes (object objects place.key))) places key misses.1
       ∙ object_missed objects place.key key (option_and_then becomes (object objects place.key)) (λ same. misses.0 (sym same))
 
-  follows_missed : (old new : List (Option Proc)) (key : ℕ) (value : Option Proc) (places : List Listed) → Misses key places
+  follows_missed : (old new : List (Option Proc)) (key : ℕ) (value : Option Proc) (places : List Place) → Misses key places
       → Follows becomes (slice_set old key value) new places → Follows becomes old new places
   follows_missed old new key value [] misses follows = tt
   follows_missed old new key value (place ∷ places) misses follows = (
@@ -190,7 +190,7 @@ module _ (becomes : Proc → Option Proc) where
   )
 
   -- each in turn became what it becomes
-  pub follows_all : (objects : List (Option Proc)) (places : List Listed) (before last : ℕ) → AreStored objects places → AreBetween before places last
+  pub follows_all : (objects : List (Option Proc)) (places : List Place) (before last : ℕ) → AreStored objects places → AreBetween before places last
       → Follows becomes objects (objects_after becomes objects places) places
   follows_all objects [] before last stored rising = tt
   follows_all objects (place ∷ places) before last stored rising =
@@ -204,7 +204,7 @@ module _ (becomes : Proc → Option Proc) where
       )
 
   -- nobody of these is the one that changes
-  follows_none : (objects : List (Option Proc)) (key pid : ℕ) (value : Option Proc) (places : List Listed) (before last : ℕ)
+  follows_none : (objects : List (Option Proc)) (key pid : ℕ) (value : Option Proc) (places : List Place) (before last : ℕ)
       → ((proc : Proc) → proc.pid ≢ pid → becomes proc ≡ Some proc)
       → AreStored objects places → AreBetween before places last → pid ≤ before → Misses key places
       → Follows becomes objects (slice_set objects key value) places
@@ -217,7 +217,7 @@ module _ (becomes : Proc → Option Proc) where
       )
 
 -- the key of a pid has the process of that pid
-pub key_of-proc : (objects : List (Option Proc)) (places : List Listed) (pid key : ℕ) → AreStored objects places → key_of places pid ≡ Some key
+pub key_of-proc : (objects : List (Option Proc)) (places : List Place) (pid key : ℕ) → AreStored objects places → key_of places pid ≡ Some key
     → (proc : Proc) × (object objects key ≡ Some proc) × (proc.pid ≡ pid) × (proc_of (procs_at objects places) pid ≡ Some proc)
 key_of-proc objects [] pid key stored is = cc
 key_of-proc objects (place ∷ places) pid key stored is =
@@ -245,7 +245,7 @@ key_of-proc objects (place ∷ places) pid key stored is =
         )
 
 -- and a pid without a key is none of them
-pub key_of-none : (objects : List (Option Proc)) (places : List Listed) (pid : ℕ) → AreStored objects places → key_of places pid ≡ None → proc_of (procs_at objects places) pid ≡ None
+pub key_of-none : (objects : List (Option Proc)) (places : List Place) (pid : ℕ) → AreStored objects places → key_of places pid ≡ None → proc_of (procs_at objects places) pid ≡ None
 key_of-none objects [] pid stored is = refl
 key_of-none objects (place ∷ places) pid stored is =
     by_case (stored_is objects place stored.0) (eqb_tells place.pid pid) (key_of-none objects places pid stored.1)
@@ -260,7 +260,7 @@ key_of-none objects (place ∷ places) pid stored is =
         ∙ rest (sym (ap (λ b. cond b (Some place.key) (key_of places pid)) other.0) ∙ is)
 
 -- the key of a pid is one of the keys
-pub key_of-misses : (places : List Listed) (pid key : ℕ) → key_of places pid ≡ Some key → Misses key places → ⊥
+pub key_of-misses : (places : List Place) (pid key : ℕ) → key_of places pid ≡ Some key → Misses key places → ⊥
 key_of-misses [] pid key is misses = cc
 key_of-misses (place ∷ places) pid key is misses = by_case (place.pid == pid) is (key_of-misses places pid key)
   where
@@ -269,7 +269,7 @@ key_of-misses (place ∷ places) pid key is misses = by_case (place.pid == pid) 
     by_case false is rest = rest is misses.1
 
 -- where one process changes and all others stay, each became what it becomes
-pub follows_one : (becomes : Proc → Option Proc) (objects : List (Option Proc)) (key pid : ℕ) (proc : Proc) (value : Option Proc) (places : List Listed) (before last : ℕ)
+pub follows_one : (becomes : Proc → Option Proc) (objects : List (Option Proc)) (key pid : ℕ) (proc : Proc) (value : Option Proc) (places : List Place) (before last : ℕ)
     → ((other : Proc) → other.pid ≢ pid → becomes other ≡ Some other) → object objects key ≡ Some proc → becomes proc ≡ value
     → AreStored objects places → AreBetween before places last → key_of places pid ≡ Some key
     → Follows becomes objects (slice_set objects key value) places
@@ -300,7 +300,7 @@ follows_one becomes objects key pid proc value (place ∷ places) before last ot
         )
 
 -- Which keys a table has, before and after.
-stays_listed : (becomes : Proc → Option Proc) (old new : List (Option Proc)) (places : List Listed) (key : ℕ) → Follows becomes old new places
+stays_listed : (becomes : Proc → Option Proc) (old new : List (Option Proc)) (places : List Place) (key : ℕ) → Follows becomes old new places
     → Contains (keys_of places) key → InUse new key → Contains (keys_of (places_kept becomes old places)) key
 stays_listed becomes old new [] key follows there used = absurd (omega (arith, there.1))
 stays_listed becomes old new (place ∷ places) key follows there used =
@@ -315,7 +315,7 @@ stays_listed becomes old new (place ∷ places) key follows there used =
     by_case (Some proc) is (inr behind) rest =
         subst (λ kept. Contains (keys_of kept) key) (sym (places_kept-first becomes old place places (Some proc) is)) (Contains-behind place.key key (keys_of (places_kept becomes old places)) (rest behind))
 
-kept_listed : (test : Listed → Bool) (places : List Listed) (key : ℕ) → Contains (keys_of (filter test places)) key → Contains (keys_of places) key
+kept_listed : (test : Place → Bool) (places : List Place) (key : ℕ) → Contains (keys_of (filter test places)) key → Contains (keys_of places) key
 kept_listed test [] key there = there
 kept_listed test (place ∷ places) key there = by_case (test place) there (kept_listed test places key)
   where
@@ -327,7 +327,7 @@ kept_listed test (place ∷ places) key there = by_case (test place) there (kept
     ]
     by_case false there rest = Contains-behind place.key key (keys_of places) (rest there)
 
-pub follows_keys : (becomes : Proc → Option Proc) (old new : List (Option Proc)) (places : List Listed) → Follows becomes old new places
+pub follows_keys : (becomes : Proc → Option Proc) (old new : List (Option Proc)) (places : List Place) → Follows becomes old new places
     → ((key : ℕ) → Misses key places → object new key ≡ object old key)
     → ChangesKeys old new (keys_of places) (keys_of (places_kept becomes old places))
 follows_keys becomes old new places follows missed = record {

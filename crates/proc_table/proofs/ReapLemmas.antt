@@ -12,7 +12,7 @@ use Rattle.proc_table.specs.Changes.{is_other}
 use Rattle.proc_table.specs.Moves.{TableMoves}
 use Rattle.proc_table.specs.Procs.{HasEnded, IsLight, proc_of}
 use Rattle.proc_table.specs.Table.{Holds, TableView, key_of, places_kept, processes, AreStored}
-use Rattle.proc_table.specs.declared.places.Listed.{Listed}
+use Rattle.proc_table.specs.declared.places.Place.{Place}
 use Rattle.proc_table.proofs.AccountLemmas.{becomes_account}
 use Rattle.proc_table.proofs.FamilyLemmas.{filter_is, reaped, reaped_pid}
 use Rattle.proc_table.proofs.HoldLemmas.{Becomes, becomes-moves, becomes-procs}
@@ -21,7 +21,7 @@ use Rattle.proc_table.proofs.PlaceLemmas.{Follows, eqb_is, IsAt, Misses, eqb_oth
 use Rattle.proc_table.proofs.TurnLemmas.{GoesLight, goes_light}
 
 -- the places that stay are those of the others
-others_kept : (objects : List (Option Proc)) (places : List Listed) (pid : ℕ) → AreStored objects places
+others_kept : (objects : List (Option Proc)) (places : List Place) (pid : ℕ) → AreStored objects places
     → places_kept (reaped pid) objects places ≡ filter (λ place. not (place.pid == pid)) places
 others_kept objects [] pid stored = refl
 others_kept objects (place ∷ places) pid stored = by_case (stored_is objects place stored.0) (others_kept objects places pid stored.1)
@@ -81,7 +81,7 @@ module _ (old new : Heap) (was now : TableView) (pid key : ℕ) (proc : Proc) (h
   kept = changed ∙ ap (λ (procs : List (Option Proc)). record old { procs = procs }) (sym procs_are)
 
   now_is : now ≡ record was { listed = places_kept (reaped pid) old.procs was.listed }
-  now_is = listed ∙ ap (λ (places : List Listed). record was { listed = places }) (sym (others_kept old.procs was.listed pid holds.stored))
+  now_is = listed ∙ ap (λ (places : List Place). record was { listed = places }) (sym (others_kept old.procs was.listed pid holds.stored))
 
   pub reaped-procs : processes new now ≡ filter (is_other pid) (processes old was)
   reaped-procs =

@@ -14,16 +14,16 @@ use Rattle.proc_table.specs.Changes.{verdict}
 use Rattle.proc_table.specs.Procs.{proc_of, process_of, status_of, target_of}
 use Rattle.proc_table.specs.Standing.{AreFrom, IsTable, answered_by}
 use Rattle.proc_table.specs.Table.{AreStored, TableView, key_of_target, processes, procs_at}
-use Rattle.proc_table.specs.declared.places.Listed.{Listed}
+use Rattle.proc_table.specs.declared.places.Place.{Place}
 use Rattle.proc_table.proofs.FamilyLemmas.{process_is, proc_has_pid}
 use Rattle.proc_table.proofs.PlaceLemmas.{key_of-none, key_of-proc}
 
-pub key_of_target-proc : (objects : List (Option Proc)) (places : List Listed) (target : ℤ) (key : ℕ) → AreStored objects places → key_of_target places target ≡ Some key
+pub key_of_target-proc : (objects : List (Option Proc)) (places : List Place) (target : ℤ) (key : ℕ) → AreStored objects places → key_of_target places target ≡ Some key
     → (proc : Proc) × (object objects key ≡ Some proc) × (target_of (procs_at objects places) target ≡ Some proc)
 key_of_target-proc objects places (pos pid) key stored is = let found = key_of-proc objects places pid key stored is in (found.0, found.1, found.3)
 key_of_target-proc objects places (negsuc n) key stored is = cc
 
-pub key_of_target-none : (objects : List (Option Proc)) (places : List Listed) (target : ℤ) → AreStored objects places → key_of_target places target ≡ None
+pub key_of_target-none : (objects : List (Option Proc)) (places : List Place) (target : ℤ) → AreStored objects places → key_of_target places target ≡ None
     → target_of (procs_at objects places) target ≡ None
 key_of_target-none objects places (pos pid) stored is = key_of-none objects places pid stored is
 key_of_target-none objects places (negsuc n) stored is = refl

@@ -18,13 +18,13 @@ use Rattle.proc_table.specs.Changes.{is_other, with_nodes}
 use Rattle.proc_table.specs.Moves.{MemoryStays, TableMoves}
 use Rattle.proc_table.specs.Procs.{IsLight, HasNoMemoryOnce, HasNoneOpenOnce, OpensNone, no_descriptors, proc_of}
 use Rattle.proc_table.specs.Table.{AreStored, Holds, TableView, key_of, keys_of, places_kept, processes, procs_at, with_procs}
-use Rattle.proc_table.specs.declared.places.Listed.{Listed}
+use Rattle.proc_table.specs.declared.places.Place.{Place}
 use Rattle.proc_table.proofs.PlaceLemmas.{Follows, IsAt, Misses, eqb_other, eqb_same, follows_keys, follows_one, follows_procs, follows_stored, key_of-misses, key_of-proc, object_missed, some_same, stored_is}
 use Rattle.proc_table.proofs.OwnLemmas.{AreRising, HasOut, all_weaker, has_out, rising_procs, with_nodes-above}
 use Rattle.proc_table.proofs.HoldLemmas.{content_kept}
 
 -- a change that keeps all keeps their places
-pub all_kept : (change : Proc → Proc) (objects : List (Option Proc)) (places : List Listed) → AreStored objects places → places_kept (λ proc. Some (change proc)) objects places ≡ places
+pub all_kept : (change : Proc → Proc) (objects : List (Option Proc)) (places : List Place) → AreStored objects places → places_kept (λ proc. Some (change proc)) objects places ≡ places
 all_kept change objects [] stored = refl
 all_kept change objects (place ∷ places) stored = by_case (stored_is objects place stored.0) (all_kept change objects places stored.1)
   where

@@ -7,6 +7,6 @@ mod places;
 mod reaped;
 mod tables;
 
-pub use places::Listed;
+pub use places::Place;
 pub use reaped::Reaped;
 pub use tables::ProcTable;

@@ -10,7 +10,7 @@ pub(crate) const MOST: usize = 64;
 
 /// Where a process stands in the heap.
 #[derive(Clone, Copy, Default)]
-pub struct Listed {
+pub struct Place {
     /// Its number, from 1.
     pub pid: u32,
     /// The key of its Proc.
@@ -19,7 +19,7 @@ pub struct Listed {
 
 // The key of the process of that pid. Pids rise from 1, so none stands behind the place that its pid numbers, and mostly it
 // stands near there: the walk goes down from it.
-pub(crate) fn find(listed: &[Listed], pid: u32) -> Option<u32>
+pub(crate) fn find(listed: &[Place], pid: u32) -> Option<u32>
     requires { (last : ℕ) × AreBetween 0 listed.now last }
     ensures { result ≡ key_of listed.now pid }
 {
@@ -38,7 +38,7 @@ pub(crate) fn find(listed: &[Listed], pid: u32) -> Option<u32>
 }
 
 // The key of the process that a call names by a number, which may be no pid.
-pub(crate) fn find_target(listed: &[Listed], target: i64) -> Option<u32>
+pub(crate) fn find_target(listed: &[Place], target: i64) -> Option<u32>
     ensures { result ≡ key_of_target listed.now target }
 {
     for place in listed {
@@ -50,7 +50,7 @@ pub(crate) fn find_target(listed: &[Listed], target: i64) -> Option<u32>
 }
 
 // Leaves the places of all others.
-pub(crate) fn keep_others(listed: &mut ArrayVec<Listed, 64>, pid: u32)
+pub(crate) fn keep_others(listed: &mut ArrayVec<Place, 64>, pid: u32)
     ensures { listed.new.items ≡ filter (λ place. not (place.pid == pid)) listed.old.items }
 {
     listed.retain(|place| place.pid != pid);

@@ -20,10 +20,10 @@ ghost use Rattle.open_laws.specs.Sharing.{CanShare, share_all};
 ghost use Rattle.proc_table.specs.Moves.{IsAdded, IsForked, MemoryStays, TableMoves, sharing};
 ghost use Rattle.proc_table.specs.Procs.{HasClosed, HasEnded, IsAlive, first_proc, numbers_in, proc_of, target_of};
 ghost use Rattle.proc_table.specs.Standing.{IsTable, answered_by, cleared_in, ends_in, forked_in, found_in, waited_in};
-ghost use Rattle.proc_table.specs.Table.{AreBetween, AreStored, Holds, key_of, key_of_target, no_table, objects_after, places_kept, processes};
+ghost use Rattle.proc_table.specs.Table.{AreBetween, AreStored, Holds, IsPlaced, key_of, key_of_target, no_table, objects_after, places_kept, processes};
 
 use crate::children::{INIT, is_wanted, judge, leave_one};
-use crate::places::{Listed, MOST, find, find_target, keep_others};
+use crate::places::{MOST, Place, find, find_target, keep_others};
 use crate::reaped::Reaped;
 use arrayvec::ArrayVec;
 use desc_table::share_descs;
@@ -41,7 +41,7 @@ const ROOT: u32 = 1;
 /// given twice.
 #[derive(Drop)]
 pub struct ProcTable {
-    listed: ArrayVec<Listed, 64>,
+    listed: ArrayVec<Place, 64>,
     last: u32,
 }
 
@@ -81,7 +81,7 @@ impl ProcTable {
             nodes: [None; 4],
         });
         let mut listed = ArrayVec::new();
-        listed.push(Listed { pid: INIT, key });
+        listed.push(Place { pid: INIT, key });
         ProcTable { listed, last: INIT }
     }
 
@@ -100,11 +100,21 @@ impl ProcTable {
     }
 
     /// The places of the processes that are there, by rising pid: at most 64.
-    pub fn listed(&self) -> &[Listed]
+    pub fn listed(&self) -> &[Place]
         ensures places { result.now ≡ self.now.listed }
         ensures few { length result.now ≤ 64 }
     {
         self.listed.as_slice()
+    }
+
+    /// The Proc of a process at its place, which was found before.
+    pub fn at<'a>(&self, heap: &'a KHeap, place: Place) -> &'a Proc
+        requires stored { AreStored heap.now.procs self.now.listed }
+        requires there { IsPlaced self.now place }
+        ensures kept { object heap.now.procs place.key ≡ Some result.now }
+        ensures found { proc_of (processes heap.now self.now) place.pid ≡ Some result.now }
+    {
+        heap.get_proc(place.key)
     }
 
     // The Proc of a process that is there.
@@ -161,7 +171,7 @@ impl ProcTable {
             nodes: space.nodes(),
             ..*parent
         });
-        self.listed.push(Listed {
+        self.listed.push(Place {
             pid: self.last,
             key,
         });

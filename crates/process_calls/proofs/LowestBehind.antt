@@ -6,7 +6,7 @@ use Rattle.std.proofs.lemmas.List.{at_drop_more, drop_more}
 use Rattle.kheap_slabs.specs.Objects.{object}
 use Rattle.kheap_slabs.specs.declared.objects.Proc.{Proc}
 use Rattle.proc_table.specs.Table.{AreStored, procs_at}
-use Rattle.proc_table.specs.declared.places.Listed.{Listed}
+use Rattle.proc_table.specs.declared.places.Place.{Place}
 use Rattle.proc_table.proofs.OwnLemmas.{AreRising}
 use Rattle.proc_table.proofs.PlaceLemmas.{eqb_other, eqb_same, some_same, stored_is}
 use Rattle.process_calls.specs.Endings.{IsLowestBehind}
@@ -101,11 +101,11 @@ lowest_behind procs before pid found rising is =
     let it = finds procs before pid found rising is in
     record { behind = it.behind; alive = running procs found it.up; lowest = it.lowest }
 
-abbrev pub no_place : Listed
+abbrev pub no_place : Place
 no_place = record { pid = 0; key = 0 }
 
 -- the place that is looked at is that one's
-pub finds_here : (objects : List (Option Proc)) (places : List Listed) (pid at : ℕ) (proc : Proc) → at < length places
+pub finds_here : (objects : List (Option Proc)) (places : List Place) (pid at : ℕ) (proc : Proc) → at < length places
     → AreStored objects (drop at places) → object objects (get_or places at no_place).key ≡ Some proc → pid < (get_or places at no_place).pid → proc.status ≡ None
     → first_behind pid (procs_at objects (drop at places)) ≡ Some (get_or places at no_place).pid
 finds_here objects places pid at proc within stored is behind up =

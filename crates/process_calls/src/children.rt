@@ -9,15 +9,15 @@ ghost use Rattle.posix_defs.specs.Forking.{fork};
 ghost use Rattle.posix_defs.specs.Machine.{blocks};
 ghost use Rattle.posix_defs.specs.Waiting.{is_nohang, waitpid};
 ghost use Rattle.posix_defs.specs.World.{World};
-ghost use Rattle.proc_table.specs.Table.{Holds};
+ghost use Rattle.proc_table.specs.Table.{Holds, IsPlaced};
 ghost use Rattle.store_objects.specs.Objects.{AreKept, Runs};
 ghost use Rattle.store_objects.specs.Standing.{Performs, StandsFor};
 
-use kabi_types::{Control, Errno, Reply, Script};
+use kabi_types::{Errno, Reply, Script};
 use kheap_slabs::Purse;
 use posix_defs::Turned;
-use proc_table::Reaped;
-use store_objects::{Objects, behind, directory_of, go_on, hold_directory};
+use proc_table::{Place, Reaped};
+use store_objects::{Caller, Objects, behind, directory_of, go_on, go_on_anew, hold_directory};
 
 /// The only option of `waitpid`: not to wait.
 const WNOHANG: i64 = 1;
@@ -26,33 +26,34 @@ const WNOHANG: i64 = 1;
 /// more can be made.
 ///
 /// <https://pubs.opengroup.org/onlinepubs/9699919799/functions/fork.html>
-pub fn fork(
-    script: &Script,
-    objects: &mut Objects,
-    purse: &mut Purse,
-    pid: u32,
-    control: Control,
-) -> Turned
+#[inline(never)]
+pub fn fork(script: &Script, objects: &mut Objects, purse: &mut Purse, caller: &Caller) -> Turned
     requires kept { AreKept script.now objects.old }
-    requires runs { Runs objects.old pid control }
+    requires runs { Runs objects.old caller.now.place.pid caller.now.control }
+    requires placed { IsPlaced objects.old.procs caller.now.place }
     requires stands { (world : World) × StandsFor script.now objects.old world }
     requires room { CanPay objects.old.heap purse.old }
     requires left_proc { 0 < purse.old.left.proc }
     requires left_nodes { 4 ≤ purse.old.left.node }
     ensures kept { AreKept script.now objects.new }
     ensures paid { IsPaid objects.old.heap purse.old objects.new.heap purse.new }
-    ensures does { Performs script.now objects.old pid Call.Fork (λ plain. fork script.now plain pid) result objects.new }
+    ensures does { Performs script.now objects.old caller.now.place.pid Call.Fork (λ plain. fork script.now plain caller.now.place.pid) result objects.new }
 {
     objects.heap_is_well_formed();
-    let directory = directory_of(objects, pid);
-    match objects.procs.fork(&mut objects.heap, purse, pid) {
+    let directory = directory_of(objects, caller.place);
+    match objects
+        .procs
+        .fork(&mut objects.heap, purse, caller.place.pid)
+    {
         Ok(child) => {
-            objects.move_on(child, behind(script, control, &Reply::Val(0)));
+            let key = objects.key_there(child);
+            let place = Place { pid: child, key };
+            objects.move_on(place, behind(script, caller.control, &Reply::Val(0)));
             hold_directory(objects, directory);
             let reply = Reply::Val(i64::from(child));
-            go_on(script, objects, pid, control, reply)
+            go_on_anew(script, objects, caller, reply)
         }
-        Err(errno) => go_on(script, objects, pid, control, Reply::Fail(errno)),
+        Err(errno) => go_on(script, objects, caller, Reply::Fail(errno)),
     }
 }
 
@@ -67,30 +68,33 @@ fn is_nohang(options: i64) -> bool
 /// and answers ECHILD where none is.
 ///
 /// <https://pubs.opengroup.org/onlinepubs/9699919799/functions/waitpid.html>
+#[inline(never)]
 pub fn wait(
     script: &Script,
     objects: &mut Objects,
-    pid: u32,
-    control: Control,
+    caller: &Caller,
     which: i64,
     options: i64,
 ) -> Turned
     requires kept { AreKept script.now objects.old }
     requires right { argument_fault (Call.Waitpid which options) ≡ None }
-    requires runs { Runs objects.old pid control }
+    requires runs { Runs objects.old caller.now.place.pid caller.now.control }
     ensures kept { AreKept script.now objects.new }
     ensures takes { TakesNothing objects.old.heap objects.new.heap }
-    ensures does { Performs script.now objects.old pid (Call.Waitpid which options) (λ plain. waitpid script.now plain pid which options) result objects.new }
+    ensures does { Performs script.now objects.old caller.now.place.pid (Call.Waitpid which options) (λ plain. waitpid script.now plain caller.now.place.pid which options) result objects.new }
 {
-    match objects.procs.wait(&mut objects.heap, pid, which) {
+    match objects
+        .procs
+        .wait(&mut objects.heap, caller.place.pid, which)
+    {
         Reaped::Took { pid: child, status } => {
-            go_on(script, objects, pid, control, Reply::Waited(child, status))
+            go_on_anew(script, objects, caller, Reply::Waited(child, status))
         }
         Reaped::Nobody if is_nohang(options) => {
-            go_on(script, objects, pid, control, Reply::Val(0))
+            go_on_anew(script, objects, caller, Reply::Val(0))
         }
         Reaped::Nobody => Turned::Sleep,
-        Reaped::NoChild => go_on(script, objects, pid, control, Reply::Fail(Errno::ECHILD)),
+        Reaped::NoChild => go_on_anew(script, objects, caller, Reply::Fail(Errno::ECHILD)),
     }
 }
 

@@ -19,7 +19,7 @@ ghost use Rattle.proc_table.specs.Accounting.{HasAccount};
 ghost use Rattle.proc_table.specs.Changes.{ended};
 ghost use Rattle.proc_table.specs.Procs.{IsAlive};
 ghost use Rattle.proc_table.specs.Standing.{IsTable, ends_from, ends_in};
-ghost use Rattle.proc_table.specs.Table.{Holds};
+ghost use Rattle.proc_table.specs.Table.{Holds, IsPlaced};
 ghost use Rattle.process_calls.specs.Ending.{WorldWithout};
 ghost use Rattle.process_calls.specs.Endings.{ClearsSome, HoldBeside, HoldFilesOf, HoldSomeFiles, IsLowestBehind, shut};
 ghost use Rattle.store_objects.specs.Objects.{AreKept, Runs, is_running, procs_of};
@@ -30,6 +30,7 @@ ghost use Rattle.store_objects.specs.Uses.{UsesAtMost};
 
 use kheap_slabs::Purse;
 use proc_files::close_each;
+use proc_table::Place;
 use store_objects::{Objects, directory_of, kept_back, let_go};
 
 /// The pid of the first process.
@@ -53,24 +54,25 @@ fn live_behind(objects: &Objects, pid: u32) -> Option<u32>
 }
 
 /// Ends one process that runs: it closes what it has open, and leaves its children. Where it worked is still held.
-fn shut_down(objects: &mut Objects, purse: &mut Purse, pid: u32, status: u16)
+fn shut_down(objects: &mut Objects, purse: &mut Purse, place: Place, status: u16)
     requires kept { (script : Script) × AreKept script objects.old }
-    requires alive { IsAlive (procs_of objects.old) pid }
+    requires alive { IsAlive (procs_of objects.old) place.pid }
+    requires there { IsPlaced objects.old.procs place }
     requires holds { HoldSomeFiles objects.old }
     requires back { purse.old ≡ unspent closing_need }
     requires room { CanPay objects.old.heap purse.old }
     ensures kept { (script : Script) → AreKept script objects.old → AreKept script objects.new }
     ensures last { objects.new.procs.last ≡ objects.old.procs.last }
-    ensures ended { procs_of objects.new ≡ ended pid status (map (shut pid) (procs_of objects.old)) }
+    ensures ended { procs_of objects.new ≡ ended place.pid status (map (shut place.pid) (procs_of objects.old)) }
     ensures table { (table : Table) → IsTable objects.old.heap objects.old.procs table
-        → IsTable objects.new.heap objects.new.procs (ends_in table pid status) }
+        → IsTable objects.new.heap objects.new.procs (ends_in table place.pid status) }
     ensures account { (frames : Frames) → HasAccount objects.old.heap objects.old.procs frames
-        → HasAccount objects.new.heap objects.new.procs (after_clear frames pid) }
+        → HasAccount objects.new.heap objects.new.procs (after_clear frames place.pid) }
     ensures holds { (numbers : Numbers) (others : ℕ → ℕ) (files : Files) → HoldBeside numbers others objects.old files
-        → HoldBeside numbers others objects.new (after_end_of files pid) }
+        → HoldBeside numbers others objects.new (after_end_of files place.pid) }
     ensures queues { QueuesStand objects.old.heap objects.new.heap }
     ensures stays { (numbers : Numbers) (others : ℕ → ℕ) (files : Files) → HoldBeside numbers others objects.old files
-        → ends_node files (after_end_of files pid) ≡ false → objects.new.tree ≡ objects.old.tree }
+        → ends_node files (after_end_of files place.pid) ≡ false → objects.new.tree ≡ objects.old.tree }
     ensures reads { objects.old.tree.disk.reads ≤ objects.new.tree.disk.reads }
     ensures same { purse.new ≡ purse.old }
     ensures paid { IsPaid objects.old.heap purse.old objects.new.heap purse.new }
@@ -81,36 +83,37 @@ fn shut_down(objects: &mut Objects, purse: &mut Purse, pid: u32, status: u16)
         &objects.procs,
         &mut objects.tree,
         &mut objects.names,
-        pid,
+        place,
     );
-    objects.procs.end(&mut objects.heap, pid, status);
+    objects.procs.end(&mut objects.heap, place.pid, status);
 }
 
 /// Ends one process that runs: it closes what it has open, leaves its children, and lets the directory go that it worked in.
-fn end_one(objects: &mut Objects, purse: &mut Purse, pid: u32, status: u16)
+fn end_one(objects: &mut Objects, purse: &mut Purse, place: Place, status: u16)
     requires kept { (script : Script) × AreKept script objects.old }
-    requires alive { IsAlive (procs_of objects.old) pid }
+    requires alive { IsAlive (procs_of objects.old) place.pid }
+    requires there { IsPlaced objects.old.procs place }
     requires holds { HoldSomeFiles objects.old }
     requires back { purse.old ≡ unspent closing_need }
     requires room { CanPay objects.old.heap purse.old }
     ensures kept { (script : Script) → AreKept script objects.old → AreKept script objects.new }
     ensures last { objects.new.procs.last ≡ objects.old.procs.last }
-    ensures ended { procs_of objects.new ≡ ended pid status (map (shut pid) (procs_of objects.old)) }
+    ensures ended { procs_of objects.new ≡ ended place.pid status (map (shut place.pid) (procs_of objects.old)) }
     ensures table { (table : Table) → IsTable objects.old.heap objects.old.procs table
-        → IsTable objects.new.heap objects.new.procs (ends_in table pid status) }
+        → IsTable objects.new.heap objects.new.procs (ends_in table place.pid status) }
     ensures account { (frames : Frames) → HasAccount objects.old.heap objects.old.procs frames
-        → HasAccount objects.new.heap objects.new.procs (after_clear frames pid) }
+        → HasAccount objects.new.heap objects.new.procs (after_clear frames place.pid) }
     ensures holds { (numbers : Numbers) (files : Files) → HoldFilesOf numbers objects.old files
-        → HoldFilesOf numbers objects.new (after_end_of files pid) }
+        → HoldFilesOf numbers objects.new (after_end_of files place.pid) }
     ensures queues { QueuesStand objects.old.heap objects.new.heap }
     ensures stays { (numbers : Numbers) (files : Files) → HoldFilesOf numbers objects.old files
-        → ends_node files (after_end_of files pid) ≡ false → KeptStays objects.old.tree objects.new.tree }
+        → ends_node files (after_end_of files place.pid) ≡ false → KeptStays objects.old.tree objects.new.tree }
     ensures reads { objects.old.tree.disk.reads ≤ objects.new.tree.disk.reads }
     ensures same { purse.new ≡ purse.old }
     ensures paid { IsPaid objects.old.heap purse.old objects.new.heap purse.new }
 {
-    let directory = directory_of(objects, pid);
-    shut_down(objects, purse, pid, status);
+    let directory = directory_of(objects, place);
+    shut_down(objects, purse, place, status);
     let_go(objects, directory);
 }
 
@@ -138,7 +141,9 @@ fn end_others(objects: &mut Objects, purse: &mut Purse)
 {
     let mut pid = INIT;
     while let Some(next) = live_behind(objects, pid) {
-        end_one(objects, purse, next, SIGKILL);
+        let key = objects.key_there(next);
+        let place = Place { pid: next, key };
+        end_one(objects, purse, place, SIGKILL);
         pid = next;
     }
 }
@@ -148,20 +153,21 @@ fn end_others(objects: &mut Objects, purse: &mut Purse)
 /// kept back for ends, and is free again behind it.
 ///
 /// <https://pubs.opengroup.org/onlinepubs/9699919799/functions/_exit.html>
-pub fn end(objects: &mut Objects, pid: u32, status: u16)
+pub fn end(objects: &mut Objects, place: Place, status: u16)
     requires stands { (script : Script) × (world : World) × StandsFor script objects.old world × IsSound world.plain }
-    requires alive { IsAlive (procs_of objects.old) pid }
+    requires alive { IsAlive (procs_of objects.old) place.pid }
+    requires there { IsPlaced objects.old.procs place }
     requires room { live_bytes objects.old.heap + reserve ≤ objects.old.heap.heap }
     ensures kept { (script : Script) → AreKept script objects.old → AreKept script objects.new }
     ensures uses { UsesAtMost objects.old.heap objects.new.heap 0 reserve }
-    ensures others { pid ≢ 1 → (other : ℕ) (control : Control) → other ≢ pid → Runs objects.old other control → Runs objects.new other control }
+    ensures others { place.pid ≢ 1 → (other : ℕ) (control : Control) → other ≢ place.pid → Runs objects.old other control → Runs objects.new other control }
     ensures dies { (script : Script) (world : World) → StandsFor script objects.old world → IsSound world.plain
-        → WorldWithout script objects.new world pid status }
+        → WorldWithout script objects.new world place.pid status }
 {
     objects.heap_is_well_formed();
     let mut purse = kept_back();
-    end_one(objects, &mut purse, pid, status);
-    if pid == INIT {
+    end_one(objects, &mut purse, place, status);
+    if place.pid == INIT {
         end_others(objects, &mut purse);
     }
 }

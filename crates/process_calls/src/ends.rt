@@ -11,39 +11,42 @@ ghost use Rattle.posix_defs.specs.Killing.{kill, struck};
 ghost use Rattle.posix_defs.specs.Sizes.{reserve};
 ghost use Rattle.posix_defs.specs.World.{World};
 ghost use Rattle.proc_table.specs.Procs.{IsAlive};
+ghost use Rattle.proc_table.specs.Table.{IsPlaced};
 ghost use Rattle.store_objects.specs.Objects.{AreKept, Runs, procs_of};
 ghost use Rattle.store_objects.specs.Standing.{IsSound, StandsFor};
 ghost use Rattle.store_objects.specs.Uses.{UsesAtMost};
 ghost use Rattle.store_objects.specs.Walking.{Serves};
 
 use crate::end;
-use kabi_types::{Control, Reply, Script};
+use kabi_types::{Reply, Script};
 use posix_defs::Turned;
-use store_objects::{Objects, go_on};
+use proc_table::Place;
+use store_objects::{Caller, Objects, go_on, go_on_anew};
 
 /// Ends a process that isn't the first, with a signal.
 fn strike(
     script: &Script,
     objects: &mut Objects,
-    pid: u32,
-    control: Control,
+    caller: &Caller,
     target: u32,
     signal: u16,
 ) -> Turned
     requires stands { (world : World) × StandsFor script.now objects.old world × IsSound world.plain }
-    requires runs { Runs objects.old pid control }
+    requires runs { Runs objects.old caller.now.place.pid caller.now.control }
     requires other { target ≢ 1 }
     requires there { IsAlive (procs_of objects.old) target }
     requires room { live_bytes objects.old.heap + reserve ≤ objects.old.heap.heap }
     ensures kept { AreKept script.now objects.new }
     ensures uses { UsesAtMost objects.old.heap objects.new.heap 0 reserve }
-    ensures does { (named sent : ℤ) → Serves script.now objects.old pid (Call.Kill named sent) (λ plain. struck script.now plain pid target signal) result objects.new }
+    ensures does { (named sent : ℤ) → Serves script.now objects.old caller.now.place.pid (Call.Kill named sent) (λ plain. struck script.now plain caller.now.place.pid target signal) result objects.new }
 {
-    end(objects, target, signal);
-    if target == pid {
+    let key = objects.key_there(target);
+    let place = Place { pid: target, key };
+    end(objects, place, signal);
+    if target == caller.place.pid {
         return Turned::Ended(signal);
     }
-    go_on(script, objects, pid, control, Reply::Val(0))
+    go_on_anew(script, objects, caller, Reply::Val(0))
 }
 
 /// The wait status of a process that a signal ends.
@@ -58,29 +61,33 @@ fn signalled(signal: i64) -> u16
 /// end. What the closings of the end ask for is taken of what is kept back for ends.
 ///
 /// <https://pubs.opengroup.org/onlinepubs/9699919799/functions/kill.html>
+#[inline(never)]
 pub fn signal_process(
     script: &Script,
     objects: &mut Objects,
-    pid: u32,
-    control: Control,
+    caller: &Caller,
     target: i64,
     signal: i64,
 ) -> Turned
     requires stands { (world : World) × StandsFor script.now objects.old world × IsSound world.plain }
-    requires runs { Runs objects.old pid control }
+    requires runs { Runs objects.old caller.now.place.pid caller.now.control }
+    requires placed { IsPlaced objects.old.procs caller.now.place }
     requires right { argument_fault (Call.Kill target signal) ≡ None }
     requires room { live_bytes objects.old.heap + reserve ≤ objects.old.heap.heap }
     ensures kept { AreKept script.now objects.new }
     ensures uses { UsesAtMost objects.old.heap objects.new.heap 0 reserve }
-    ensures does { Serves script.now objects.old pid (Call.Kill target signal) (λ plain. kill script.now plain pid target signal) result objects.new }
+    ensures does { Serves script.now objects.old caller.now.place.pid (Call.Kill target signal) (λ plain. kill script.now plain caller.now.place.pid target signal) result objects.new }
 {
-    match objects.procs.may_kill(&objects.heap, pid, target, signal) {
-        Err(errno) => go_on(script, objects, pid, control, Reply::Fail(errno)),
-        Ok(false) => go_on(script, objects, pid, control, Reply::Val(0)),
+    match objects
+        .procs
+        .may_kill(&objects.heap, caller.place.pid, target, signal)
+    {
+        Err(errno) => go_on(script, objects, caller, Reply::Fail(errno)),
+        Ok(false) => go_on(script, objects, caller, Reply::Val(0)),
         Ok(true) => {
             objects.pids_have_32_bits();
             let (number, status) = (target.cast_unsigned() as u32, signalled(signal));
-            strike(script, objects, pid, control, number, status)
+            strike(script, objects, caller, number, status)
         }
     }
 }
@@ -88,16 +95,18 @@ pub fn signal_process(
 /// Ends the process by its own call. What its closings ask for is taken of what is kept back for ends.
 ///
 /// <https://pubs.opengroup.org/onlinepubs/9699919799/functions/_exit.html>
-pub fn exit(objects: &mut Objects, pid: u32, status: i64) -> Turned
+#[inline(never)]
+pub fn exit(objects: &mut Objects, place: Place, status: i64) -> Turned
     requires stands { (script : Script) × (world : World) × StandsFor script objects.old world × IsSound world.plain }
-    requires runs { IsAlive (procs_of objects.old) pid }
+    requires runs { IsAlive (procs_of objects.old) place.pid }
+    requires placed { IsPlaced objects.old.procs place }
     requires room { live_bytes objects.old.heap + reserve ≤ objects.old.heap.heap }
     ensures kept { (script : Script) → AreKept script objects.old → AreKept script objects.new }
     ensures uses { UsesAtMost objects.old.heap objects.new.heap 0 reserve }
-    ensures does { (script : Script) → Serves script objects.old pid (Call.Exit status) (λ plain. Ended (exit_status status) (die plain pid (exit_status status))) result objects.new }
+    ensures does { (script : Script) → Serves script objects.old place.pid (Call.Exit status) (λ plain. Ended (exit_status status) (die plain place.pid (exit_status status))) result objects.new }
 {
     let status = exit_status(status);
-    end(objects, pid, status);
+    end(objects, place, status);
     Turned::Ended(status)
 }
 

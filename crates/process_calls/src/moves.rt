@@ -6,14 +6,15 @@ ghost use Rattle.kabi_types.specs.declared.calls.Call.{Call};
 ghost use Rattle.kheap_slabs.specs.Paid.{CanPay, IsPaid, TakesNothing};
 ghost use Rattle.posix_defs.specs.MemoryCalls.{load, store};
 ghost use Rattle.posix_defs.specs.Needs.{pages_touched};
+ghost use Rattle.proc_table.specs.Table.{IsPlaced};
 ghost use Rattle.store_objects.specs.Objects.{AreKept, Runs};
 ghost use Rattle.store_objects.specs.Standing.{Performs};
 
 use crate::spaces::{put, take};
-use kabi_types::{Bytes64, Control, Reply, Script};
+use kabi_types::{Bytes64, Reply, Script};
 use kheap_slabs::Purse;
 use posix_defs::Turned;
-use store_objects::{Objects, go_on};
+use store_objects::{Caller, Objects, go_on};
 
 /// Where a range of so many bytes begins. No bytes lie anywhere, so a range of none begins at 0.
 fn start_of(addr: i64, count: usize) -> u32
@@ -29,58 +30,54 @@ fn start_of(addr: i64, count: usize) -> u32
 }
 
 /// Puts bytes in memory, and tells their number.
+#[inline(never)]
 pub fn store(
     script: &Script,
     objects: &mut Objects,
     purse: &mut Purse,
-    pid: u32,
-    control: Control,
+    caller: &Caller,
     addr: i64,
     bytes: &Bytes64,
 ) -> Turned
     requires kept { AreKept script.now objects.old }
-    requires runs { Runs objects.old pid control }
+    requires runs { Runs objects.old caller.now.place.pid caller.now.control }
+    requires placed { IsPlaced objects.old.procs caller.now.place }
     requires right { argument_fault (Call.Store addr bytes.now) ≡ None }
     requires room { CanPay objects.old.heap purse.old }
     requires left { pages_touched (count_of addr) (length bytes.now) ≤ purse.old.left.page }
     ensures kept { AreKept script.now objects.new }
     ensures paid { IsPaid objects.old.heap purse.old objects.new.heap purse.new }
-    ensures does { Performs script.now objects.old pid (Call.Store addr bytes.now) (λ plain. store script.now plain pid addr bytes.now) result objects.new }
+    ensures does { Performs script.now objects.old caller.now.place.pid (Call.Store addr bytes.now) (λ plain. store script.now plain caller.now.place.pid addr bytes.now) result objects.new }
 {
     let bytes = bytes.items();
     let start = start_of(addr, bytes.len());
-    match put(objects, purse, pid, start, bytes) {
-        Ok(()) => go_on(
-            script,
-            objects,
-            pid,
-            control,
-            Reply::Val(bytes.len() as i64),
-        ),
-        Err(errno) => go_on(script, objects, pid, control, Reply::Fail(errno)),
+    match put(objects, purse, caller.place, start, bytes) {
+        Ok(()) => go_on(script, objects, caller, Reply::Val(bytes.len() as i64)),
+        Err(errno) => go_on(script, objects, caller, Reply::Fail(errno)),
     }
 }
 
 /// Tells bytes in memory, at most 64.
+#[inline(never)]
 pub fn load(
     script: &Script,
     objects: &mut Objects,
-    pid: u32,
-    control: Control,
+    caller: &Caller,
     addr: i64,
     count: i64,
 ) -> Turned
     requires kept { AreKept script.now objects.old }
-    requires runs { Runs objects.old pid control }
+    requires runs { Runs objects.old caller.now.place.pid caller.now.control }
+    requires placed { IsPlaced objects.old.procs caller.now.place }
     requires right { argument_fault (Call.Load addr count) ≡ None }
     ensures kept { AreKept script.now objects.new }
     ensures takes { TakesNothing objects.old.heap objects.new.heap }
-    ensures does { Performs script.now objects.old pid (Call.Load addr count) (λ plain. load script.now plain pid addr count) result objects.new }
+    ensures does { Performs script.now objects.old caller.now.place.pid (Call.Load addr count) (λ plain. load script.now plain caller.now.place.pid addr count) result objects.new }
 {
     let count = count.cast_unsigned() as usize;
     let start = start_of(addr, count);
-    match take(objects, pid, start, count) {
-        Ok(bytes) => go_on(script, objects, pid, control, Reply::Bytes(bytes)),
-        Err(errno) => go_on(script, objects, pid, control, Reply::Fail(errno)),
+    match take(objects, caller.place, start, count) {
+        Ok(bytes) => go_on(script, objects, caller, Reply::Bytes(bytes)),
+        Err(errno) => go_on(script, objects, caller, Reply::Fail(errno)),
     }
 }

@@ -17,7 +17,7 @@ use Rattle.posix_defs.specs.World.{World}
 use Rattle.posix_defs.specs.declared.turner.Turned.{Turned}
 use Rattle.posix_defs.specs.declared.turner.Turned.TheVariants as turned
 use Rattle.proc_numbers.specs.Having.{HaveOpen}
-use Rattle.proc_files.specs.Reading.{IsOffNodes}
+use Rattle.proc_numbers.specs.Found.{IsOffNodes}
 use Rattle.proc_files.specs.Names.{name_of}
 use Rattle.proc_files.proofs.GoesOn.{names_on}
 use Rattle.proc_numbers.specs.PipeOpening.{KeepsNumbers}

@@ -13,7 +13,7 @@ use Rattle.posix_defs.specs.Control.{settled}
 use Rattle.posix_defs.specs.Plain.{Plain, at_start}
 use Rattle.posix_defs.specs.Reaching.{is_on_node}
 use Rattle.posix_defs.specs.World.{World}
-use Rattle.proc_files.specs.Reading.{IsOffNodes}
+use Rattle.proc_numbers.specs.Found.{IsOffNodes}
 use Rattle.proc_files.specs.Names.{name_of}
 use Rattle.proc_files.proofs.Bindings.{bound_on}
 use Rattle.proc_numbers.specs.Standing.{IsKept, StandsFor as QueuesStandFor}

@@ -9,14 +9,16 @@ ghost use Rattle.posix_defs.specs.Machine.{blocks, machine};
 ghost use Rattle.posix_defs.specs.Process.{is_alive};
 ghost use Rattle.posix_defs.specs.World.{World};
 ghost use Rattle.queue_calls.specs.Taking.{told_as};
+ghost use Rattle.proc_table.specs.Table.{IsPlaced};
 ghost use Rattle.store_objects.specs.Objects.{AreKept, Runs};
 ghost use Rattle.store_objects.specs.Standing.{Performs, StandsFor};
 
-use kabi_types::{Control, Errno, Reply, Script};
+use kabi_types::{Errno, Reply, Script};
 use kheap_slabs::Purse;
 use posix_defs::Turned;
 use proc_numbers::{accept_number, accept_waits};
-use store_objects::{Objects, go_on};
+use proc_table::Place;
+use store_objects::{Caller, Objects, go_on};
 
 /// Takes the socket that waited first for the one that a number is open on: the lowest number that is free names it, and is told.
 /// It sleeps where none waits (POSIX accept).
@@ -25,36 +27,38 @@ use store_objects::{Objects, go_on};
 /// where no number is free, EAGAIN in place of a sleep where the description has O_NONBLOCK.
 ///
 /// <https://pubs.opengroup.org/onlinepubs/9699919799/functions/accept.html>
+#[inline(never)]
 pub fn accept(
     script: &Script,
     objects: &mut Objects,
     purse: &mut Purse,
-    pid: u32,
-    control: Control,
+    caller: &Caller,
     fd: i64,
 ) -> Turned
     requires stands { (world : World) × StandsFor script.now objects.old world }
-    requires runs { Runs objects.old pid control }
+    requires runs { Runs objects.old caller.now.place.pid caller.now.control }
+    requires placed { IsPlaced objects.old.procs caller.now.place }
     requires room { CanPay objects.old.heap purse.old }
     requires left_desc { 0 < purse.old.left.desc }
     ensures kept { AreKept script.now objects.new }
     ensures paid { IsPaid objects.old.heap purse.old objects.new.heap purse.new }
-    ensures does { Performs script.now objects.old pid (Call.Accept fd) (λ plain. accept script.now plain pid fd) result objects.new }
+    ensures does { Performs script.now objects.old caller.now.place.pid (Call.Accept fd) (λ plain. accept script.now plain caller.now.place.pid fd) result objects.new }
 {
-    let taken = accept_number(&mut objects.heap, purse, &objects.procs, pid, fd);
+    let taken = accept_number(&mut objects.heap, purse, &objects.procs, caller.place, fd);
     match told(taken) {
-        Some(reply) => go_on(script, objects, pid, control, reply),
+        Some(reply) => go_on(script, objects, caller, reply),
         None => Turned::Sleep,
     }
 }
 
 /// Whether an `accept` of a live process would sleep, whatever its operand is.
-pub fn accept_would_block(objects: &Objects, pid: u32, fd: i64) -> bool
-    requires { (script : Script) × (world : World) × StandsFor script objects.now world × (is_alive world.plain.table pid ≡ true) }
+pub fn accept_would_block(objects: &Objects, place: Place, fd: i64) -> bool
+    requires stands { (script : Script) × (world : World) × StandsFor script objects.now world × (is_alive world.plain.table place.pid ≡ true) }
+    requires there { IsPlaced objects.now.procs place }
     ensures { (script : Script) (world : World) → StandsFor script objects.now world
-        → result ≡ blocks (machine script world.plain pid (Call.Accept fd)) }
+        → result ≡ blocks (machine script world.plain place.pid (Call.Accept fd)) }
 {
-    accept_waits(&objects.heap, &objects.procs, pid, fd)
+    accept_waits(&objects.heap, &objects.procs, place, fd)
 }
 
 // The number of the socket that was taken, or why there is none; None where the caller has to wait for one.

@@ -11,7 +11,6 @@ mod making;
 mod operands;
 mod pipes;
 mod polling;
-mod queues;
 mod reading;
 mod replies;
 mod shutting;

@@ -10,63 +10,66 @@ ghost use Rattle.posix_defs.specs.Machine.{blocks, machine};
 ghost use Rattle.posix_defs.specs.Needs.{pages_touched};
 ghost use Rattle.posix_defs.specs.Process.{is_alive};
 ghost use Rattle.posix_defs.specs.World.{World};
-ghost use Rattle.proc_files.specs.Reading.{IsOffNodes};
+ghost use Rattle.proc_numbers.specs.Found.{IsOffNodes};
+ghost use Rattle.proc_table.specs.Table.{IsPlaced};
 ghost use Rattle.store_objects.specs.Objects.{AreKept, Runs};
 ghost use Rattle.store_objects.specs.Standing.{Performs, StandsFor};
 
 use crate::operands::may_move;
-use crate::queues::{read_queue, read_queue_waits};
 use crate::told::go_on_done;
-use kabi_types::{Control, Script};
+use kabi_types::Script;
 use kheap_slabs::Purse;
 use posix_defs::Turned;
-use proc_numbers::Buffer;
-use store_objects::Objects;
+use proc_numbers::{Buffer, read_waits};
+use proc_table::Place;
+use store_objects::{Caller, Objects};
 
 /// Reads at most n bytes from the pipe or the socket that a number is open on into memory, as many as are there; none are the end
 /// of the file. It sleeps where nothing is there and something can come (POSIX read).
 ///
 /// EBADF where the number isn't open for reading, EFAULT where a page that n bytes would touch isn't mapped, ENOTCONN of a socket
 /// that isn't connected, EAGAIN in place of a sleep where the description has O_NONBLOCK.
+#[inline(never)]
 pub fn read(
     script: &Script,
     objects: &mut Objects,
     purse: &mut Purse,
     buffer: &mut Buffer,
-    pid: u32,
-    control: Control,
+    caller: &Caller,
     fd: i64,
     addr: i64,
     n: i64,
 ) -> Turned
     requires stands { (world : World) × StandsFor script.now objects.old world }
-    requires runs { Runs objects.old pid control }
-    requires off { IsOffNodes objects.old.heap objects.old.procs pid fd }
+    requires runs { Runs objects.old caller.now.place.pid caller.now.control }
+    requires placed { IsPlaced objects.old.procs caller.now.place }
+    requires off { IsOffNodes objects.old.heap objects.old.procs caller.now.place.pid fd }
     requires right { argument_fault (Call.Read fd addr n) ≡ None }
     requires room { CanPay objects.old.heap purse.old }
     requires left { pages_touched (count_of addr) (count_of n) ≤ purse.old.left.page }
     ensures kept { AreKept script.now objects.new }
     ensures paid { IsPaid objects.old.heap purse.old objects.new.heap purse.new }
-    ensures does { Performs script.now objects.old pid (Call.Read fd addr n) (λ plain. read script.now plain pid fd addr n) result objects.new }
+    ensures does { Performs script.now objects.old caller.now.place.pid (Call.Read fd addr n) (λ plain. read script.now plain caller.now.place.pid fd addr n) result objects.new }
 {
-    let told = read_queue(
+    let told = proc_numbers::read(
         &mut objects.heap,
         purse,
         &objects.procs,
         buffer,
-        pid,
+        caller.place,
         fd,
         addr,
         n,
     );
-    go_on_done(script, objects, pid, control, told)
+    go_on_done(script, objects, caller, told)
 }
 
 /// Whether a `read` of a live process would sleep, whatever its operands are and its number is open on.
-pub fn read_would_block(objects: &Objects, pid: u32, fd: i64, addr: i64, n: i64) -> bool
-    requires { (script : Script) × (world : World) × StandsFor script objects.now world × (is_alive world.plain.table pid ≡ true) }
+pub fn read_would_block(objects: &Objects, place: Place, fd: i64, addr: i64, n: i64) -> bool
+    requires stands { (script : Script) × (world : World) × StandsFor script objects.now world × (is_alive world.plain.table place.pid ≡ true) }
+    requires there { IsPlaced objects.now.procs place }
     ensures { (script : Script) (world : World) → StandsFor script objects.now world
-        → result ≡ blocks (machine script world.plain pid (Call.Read fd addr n)) }
+        → result ≡ blocks (machine script world.plain place.pid (Call.Read fd addr n)) }
 {
-    may_move(addr, n) && read_queue_waits(&objects.heap, &objects.procs, pid, fd, addr, n)
+    may_move(addr, n) && read_waits(&objects.heap, &objects.procs, place, fd, addr, n)
 }

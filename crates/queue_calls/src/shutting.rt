@@ -6,49 +6,53 @@ ghost use Rattle.kheap_slabs.specs.Paid.{TakesNothing};
 ghost use Rattle.posix_defs.specs.Calls.OnSockets.{listen, shutdown};
 ghost use Rattle.proc_numbers.specs.Answering.{zero_of};
 ghost use Rattle.posix_defs.specs.World.{World};
+ghost use Rattle.proc_table.specs.Table.{IsPlaced};
 ghost use Rattle.store_objects.specs.Objects.{AreKept, Runs};
 ghost use Rattle.store_objects.specs.Standing.{Performs, StandsFor};
 
-use kabi_types::{Control, Errno, Reply, Script};
+use kabi_types::{Errno, Reply, Script};
 use posix_defs::Turned;
 use proc_numbers::{listen_number, shut_number};
-use store_objects::{Objects, go_on};
+use store_objects::{Caller, Objects, go_on};
 
 /// Has a socket listen from now on; one that listens already goes on. EBADF where the number isn't open, ENOTSOCK where it is open
 /// on something else, EINVAL where the socket is connected, EDESTADDRREQ where it has no name.
 ///
 /// <https://pubs.opengroup.org/onlinepubs/9699919799/functions/listen.html>
-pub fn listen(script: &Script, objects: &mut Objects, pid: u32, control: Control, fd: i64) -> Turned
+#[inline(never)]
+pub fn listen(script: &Script, objects: &mut Objects, caller: &Caller, fd: i64) -> Turned
     requires stands { (world : World) × StandsFor script.now objects.old world }
-    requires runs { Runs objects.old pid control }
+    requires runs { Runs objects.old caller.now.place.pid caller.now.control }
+    requires placed { IsPlaced objects.old.procs caller.now.place }
     ensures kept { AreKept script.now objects.new }
     ensures takes { TakesNothing objects.old.heap objects.new.heap }
-    ensures does { Performs script.now objects.old pid (Call.Listen fd) (λ plain. listen script.now plain pid fd) result objects.new }
+    ensures does { Performs script.now objects.old caller.now.place.pid (Call.Listen fd) (λ plain. listen script.now plain caller.now.place.pid fd) result objects.new }
 {
-    let reply = zero(listen_number(&mut objects.heap, &objects.procs, pid, fd));
-    go_on(script, objects, pid, control, reply)
+    let reply = zero(listen_number(&mut objects.heap, &objects.procs, caller.place, fd));
+    go_on(script, objects, caller, reply)
 }
 
 /// Shuts a socket for reading (SHUT_RD 0), for writing (SHUT_WR 1) or both (SHUT_RDWR 2). EBADF where the number isn't open,
 /// ENOTSOCK where it is open on something else, ENOTCONN where the socket isn't connected.
 ///
 /// <https://pubs.opengroup.org/onlinepubs/9699919799/functions/shutdown.html>
+#[inline(never)]
 pub fn shutdown(
     script: &Script,
     objects: &mut Objects,
-    pid: u32,
-    control: Control,
+    caller: &Caller,
     fd: i64,
     how: i64,
 ) -> Turned
     requires stands { (world : World) × StandsFor script.now objects.old world }
-    requires runs { Runs objects.old pid control }
+    requires runs { Runs objects.old caller.now.place.pid caller.now.control }
+    requires placed { IsPlaced objects.old.procs caller.now.place }
     ensures kept { AreKept script.now objects.new }
     ensures takes { TakesNothing objects.old.heap objects.new.heap }
-    ensures does { Performs script.now objects.old pid (Call.Shutdown fd how) (λ plain. shutdown script.now plain pid fd how) result objects.new }
+    ensures does { Performs script.now objects.old caller.now.place.pid (Call.Shutdown fd how) (λ plain. shutdown script.now plain caller.now.place.pid fd how) result objects.new }
 {
-    let reply = zero(shut_number(&mut objects.heap, &objects.procs, pid, fd, how));
-    go_on(script, objects, pid, control, reply)
+    let reply = zero(shut_number(&mut objects.heap, &objects.procs, caller.place, fd, how));
+    go_on(script, objects, caller, reply)
 }
 
 // 0, or why the call failed.

@@ -6,45 +6,48 @@ ghost use Rattle.kheap_slabs.specs.Paid.{TakesNothing};
 ghost use Rattle.posix_defs.specs.World.{World};
 ghost use Rattle.posix_defs.specs.declared.turner.Turned.TheVariants as turned;
 ghost use Rattle.queue_calls.specs.Told.{behind_in, partly_in};
+ghost use Rattle.proc_table.specs.Table.{IsPlaced};
 ghost use Rattle.store_objects.specs.Objects.{AreKept, Runs};
 ghost use Rattle.store_objects.specs.Standing.{StandsFor};
 
-use kabi_types::{Control, Script};
+use kabi_types::Script;
 use posix_defs::Turned;
-use store_objects::{Objects, go_on};
+use store_objects::{Caller, Objects, go_on};
 
 /// The process goes on behind its call where that is over, and else stays at it.
 pub(crate) fn go_on_done(
     script: &Script,
     objects: &mut Objects,
-    pid: u32,
-    control: Control,
+    caller: &Caller,
     told: Turned,
 ) -> Turned
     requires kept { AreKept script.now objects.old }
-    requires runs { Runs objects.old pid control }
+    requires runs { Runs objects.old caller.now.place.pid caller.now.control }
+    requires placed { IsPlaced objects.old.procs caller.now.place }
     ensures kept { AreKept script.now objects.new }
     ensures told { result ≡ told }
     ensures takes { TakesNothing objects.old.heap objects.new.heap }
-    ensures goes { (world : World) → StandsFor script.now objects.old world → StandsFor script.now objects.new (behind_in script.now world pid told) }
+    ensures goes { (world : World) → StandsFor script.now objects.old world → StandsFor script.now objects.new (behind_in script.now world caller.now.place.pid told) }
 {
     match told {
-        Turned::Done(reply) => go_on(script, objects, pid, control, reply),
+        Turned::Done(reply) => go_on(script, objects, caller, reply),
         told => told,
     }
 }
 
 /// The process stays at its write, of which so many bytes more are done.
-pub(crate) fn do_part(objects: &mut Objects, pid: u32, mut control: Control, moved: u32) -> Turned
+pub(crate) fn do_part(objects: &mut Objects, caller: &Caller, moved: u32) -> Turned
     requires kept { (script : Script) × AreKept script objects.old }
-    requires runs { Runs objects.old pid control }
-    requires fits { control.done + moved ≤ 4294967295 }
+    requires runs { Runs objects.old caller.now.place.pid caller.now.control }
+    requires placed { IsPlaced objects.old.procs caller.now.place }
+    requires fits { caller.now.control.done + moved ≤ 4294967295 }
     ensures kept { (script : Script) → AreKept script objects.old → AreKept script objects.new }
     ensures told { result ≡ turned.Part moved }
     ensures takes { TakesNothing objects.old.heap objects.new.heap }
-    ensures goes { (script : Script) (world : World) → StandsFor script objects.old world → StandsFor script objects.new (partly_in world pid moved) }
+    ensures goes { (script : Script) (world : World) → StandsFor script objects.old world → StandsFor script objects.new (partly_in world caller.now.place.pid moved) }
 {
+    let mut control = caller.control;
     prog_ctl::moved(&mut control, moved);
-    objects.move_on(pid, control);
+    objects.move_on(caller.place, control);
     Turned::Part(moved)
 }

@@ -10,18 +10,19 @@ ghost use Rattle.posix_defs.specs.Machine.{blocks, machine};
 ghost use Rattle.posix_defs.specs.Needs.{chunks_for};
 ghost use Rattle.posix_defs.specs.Process.{is_alive};
 ghost use Rattle.posix_defs.specs.World.{World};
-ghost use Rattle.proc_files.specs.Reading.{IsOffNodes};
+ghost use Rattle.proc_numbers.specs.Found.{IsOffNodes};
+ghost use Rattle.proc_table.specs.Table.{IsPlaced};
 ghost use Rattle.store_objects.specs.Objects.{AreKept, Runs};
 ghost use Rattle.store_objects.specs.Standing.{Performs, StandsFor};
 
 use crate::operands::may_move;
-use crate::queues::{write_queue, write_queue_waits};
 use crate::told::{do_part, go_on_done};
-use kabi_types::{Control, Script};
+use kabi_types::Script;
 use kheap_slabs::Purse;
 use posix_defs::Turned;
-use proc_numbers::Buffer;
-use store_objects::Objects;
+use proc_numbers::{Buffer, write_waits};
+use proc_table::Place;
+use store_objects::{Caller, Objects};
 
 /// Writes n bytes of memory, of which so many were moved before, to the pipe or the socket that a number is open on: up to 512 go
 /// into a pipe whole or not at all; of more, and to a socket always, as many as there is room for. It sleeps where there is no room,
@@ -30,51 +31,60 @@ use store_objects::Objects;
 /// EBADF where the number isn't open for writing, EFAULT where a page of the bytes isn't mapped, ENOTCONN of a socket that isn't
 /// connected, EPIPE where nobody can read, EAGAIN in place of a sleep where the description has O_NONBLOCK; where bytes were moved
 /// their number in place of the last two.
+#[inline(never)]
 pub fn write(
     script: &Script,
     objects: &mut Objects,
     purse: &mut Purse,
     buffer: &mut Buffer,
-    pid: u32,
-    control: Control,
+    caller: &Caller,
     fd: i64,
     addr: i64,
     n: i64,
     done: u32,
 ) -> Turned
     requires stands { (world : World) × StandsFor script.now objects.old world }
-    requires runs { Runs objects.old pid control }
-    requires so_far { control.done ≡ done }
-    requires off { IsOffNodes objects.old.heap objects.old.procs pid fd }
+    requires runs { Runs objects.old caller.now.place.pid caller.now.control }
+    requires placed { IsPlaced objects.old.procs caller.now.place }
+    requires so_far { caller.now.control.done ≡ done }
+    requires off { IsOffNodes objects.old.heap objects.old.procs caller.now.place.pid fd }
     requires right { argument_fault (Call.Write fd addr n done) ≡ None }
     requires room { CanPay objects.old.heap purse.old }
     requires left { chunks_for (count_of n - done) ≤ purse.old.left.chunk }
     ensures kept { AreKept script.now objects.new }
     ensures paid { IsPaid objects.old.heap purse.old objects.new.heap purse.new }
-    ensures does { Performs script.now objects.old pid (Call.Write fd addr n done) (λ plain. write script.now plain pid fd addr n done) result objects.new }
+    ensures does { Performs script.now objects.old caller.now.place.pid (Call.Write fd addr n done) (λ plain. write script.now plain caller.now.place.pid fd addr n done) result objects.new }
 {
-    let told = write_queue(
+    let told = proc_numbers::write(
         &mut objects.heap,
         purse,
         &objects.procs,
         buffer,
-        pid,
+        caller.place,
         fd,
         addr,
         n,
         done,
     );
     match told {
-        Turned::Part(moved) => do_part(objects, pid, control, moved),
-        told => go_on_done(script, objects, pid, control, told),
+        Turned::Part(moved) => do_part(objects, caller, moved),
+        told => go_on_done(script, objects, caller, told),
     }
 }
 
 /// Whether a `write` of a live process would sleep, of which so many bytes were moved before, whatever its operands are and its number is open on.
-pub fn write_would_block(objects: &Objects, pid: u32, fd: i64, addr: i64, n: i64, done: u32) -> bool
-    requires { (script : Script) × (world : World) × StandsFor script objects.now world × (is_alive world.plain.table pid ≡ true) }
+pub fn write_would_block(
+    objects: &Objects,
+    place: Place,
+    fd: i64,
+    addr: i64,
+    n: i64,
+    done: u32,
+) -> bool
+    requires stands { (script : Script) × (world : World) × StandsFor script objects.now world × (is_alive world.plain.table place.pid ≡ true) }
+    requires there { IsPlaced objects.now.procs place }
     ensures { (script : Script) (world : World) → StandsFor script objects.now world
-        → result ≡ blocks (machine script world.plain pid (Call.Write fd addr n done)) }
+        → result ≡ blocks (machine script world.plain place.pid (Call.Write fd addr n done)) }
 {
-    may_move(addr, n) && write_queue_waits(&objects.heap, &objects.procs, pid, fd, addr, n, done)
+    may_move(addr, n) && write_waits(&objects.heap, &objects.procs, place, fd, addr, n, done)
 }

@@ -17,7 +17,7 @@ use Rattle.proc_numbers.specs.Having.{AreListed}
 use Rattle.proc_files.specs.Names.{AreBound, name_of}
 use Rattle.proc_table.specs.Moves.{TableMoves}
 use Rattle.proc_table.specs.Table.{AreBetween, AreStored, TableView, keys_of, processes}
-use Rattle.proc_table.specs.declared.places.Listed.{Listed}
+use Rattle.proc_table.specs.declared.places.Place.{Place}
 use Rattle.proc_table.proofs.PlaceLemmas.{Contains-cases, IsAt, Misses, Misses-lower, stored_is}
 use Rattle.store_objects.specs.declared.objects.Objects.{Objects}
 use Rattle.store_objects.specs.Objects.{AreAtCalls, AreKept, most_nodes, procs_of}
@@ -27,7 +27,7 @@ use Rattle.store_objects.proofs.TreesOn.{caches_on}
 use Rattle.store_objects.proofs.Namings.{names_in, namings_are}
 use Rattle.store_objects.proofs.Peeling.{OwnedByPid, by_key, by_pid}
 
-misses_none : (places : List Listed) (key : ℕ) → Misses key places → Contains (keys_of places) key → ⊥
+misses_none : (places : List Place) (key : ℕ) → Misses key places → Contains (keys_of places) key → ⊥
 misses_none [] key misses there = omega (arith, there.1)
 misses_none (place ∷ places) key misses there = elim (Contains-cases place.key key (keys_of places) there) [
   | inl same ↦ misses.0 same
@@ -35,7 +35,7 @@ misses_none (place ∷ places) key misses there = elim (Contains-cases place.key
 ]
 
 -- no two places have one key
-keys_once : (objects : List (Option Proc)) (places : List Listed) (before last : ℕ) → AreStored objects places → AreBetween before places last → IsOnce (keys_of places)
+keys_once : (objects : List (Option Proc)) (places : List Place) (before last : ℕ) → AreStored objects places → AreBetween before places last → IsOnce (keys_of places)
 keys_once objects [] before last stored rising = λ i j less below. absurd (omega arith)
 keys_once objects (place ∷ places) before last stored rising =
     let at : IsAt objects place = stored_is objects place stored.0 in
@@ -44,7 +44,7 @@ keys_once objects (place ∷ places) before last stored rising =
     (keys_once objects places place.pid last stored.1 rising.1)
 
 -- each has its object
-keys_used : (objects : List (Option Proc)) (places : List Listed) (key : ℕ) → AreStored objects places → Contains (keys_of places) key → InUse objects key
+keys_used : (objects : List (Option Proc)) (places : List Place) (key : ℕ) → AreStored objects places → Contains (keys_of places) key → InUse objects key
 keys_used objects [] key stored there = absurd (omega (arith, there.1))
 keys_used objects (place ∷ places) key stored there = elim (Contains-cases place.key key (keys_of places) there) [
   | inl same ↦ (let at : IsAt objects place = stored_is objects place stored.0 in ap is_some (ap (object objects) (sym same) ∙ at.is))

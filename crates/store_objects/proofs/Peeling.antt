@@ -16,11 +16,11 @@ use Rattle.kheap_laws.proofs.OnceLemmas.{IsOnce-head, IsOnce-tail}
 use Rattle.kheap_laws.proofs.TableLemmas.{SameOwners-spaces, each_of-splits}
 use Rattle.proc_numbers.specs.Having.{AreListed}
 use Rattle.proc_table.specs.Table.{AreBetween, AreStored, TableView, keys_of, processes, procs_at, with_procs}
-use Rattle.proc_table.specs.declared.places.Listed.{Listed}
+use Rattle.proc_table.specs.declared.places.Place.{Place}
 use Rattle.proc_table.proofs.PlaceLemmas.{AreStored-missed, Contains-behind, Contains-cases, IsAt, Misses, Misses-lower, object_missed, procs_at-missed, stored_is}
 
 -- The process of the first place is there; without it the heap has those of the others.
-record Peels (objects : List (Option Proc)) (place : Listed) (places : List Listed) : Type 0 where
+record Peels (objects : List (Option Proc)) (place : Place) (places : List Place) : Type 0 where
   pub proc : Proc
   pub is : object objects place.key ≡ Some proc
   pub stored : AreStored (without objects place.key) places
@@ -31,7 +31,7 @@ not_there : (o : Option Proc) → o ≡ None → IsSome o → ⊥
 not_there None e some = cc
 not_there (Some proc) e some = cc
 
-peels : (objects : List (Option Proc)) (place : Listed) (places : List Listed) (before last : ℕ) → AreStored objects (place ∷ places) → AreBetween before (place ∷ places) last
+peels : (objects : List (Option Proc)) (place : Place) (places : List Place) (before last : ℕ) → AreStored objects (place ∷ places) → AreBetween before (place ∷ places) last
     → AreKeysOf objects (keys_of (place ∷ places)) → Peels objects place places
 peels objects place places before last stored rising all = record {
   proc = at.proc;
@@ -80,7 +80,7 @@ module _ (f : Option Proc → ℕ) (none : f None ≡ 0) where
   nothing (Some proc ∷ objects) unused = absurd (unused 0 refl)
 
   -- What all processes of the heap sum up to, those of the table do.
-  pub sum_listed : (objects : List (Option Proc)) (places : List Listed) (before last : ℕ) → AreStored objects places → AreBetween before places last
+  pub sum_listed : (objects : List (Option Proc)) (places : List Place) (before last : ℕ) → AreStored objects places → AreBetween before places last
       → AreKeysOf objects (keys_of places) → sum_by f objects ≡ sum_by (λ proc. f (Some proc)) (procs_at objects places)
   sum_listed objects [] before last stored rising all = nothing objects (none_used objects all)
   sum_listed objects (place ∷ places) before last stored rising all =
@@ -116,7 +116,7 @@ owning : List (List (Option ℕ)) → List OwnedQueue → Owners
 owning spaces queues = record { spaces = spaces; queues = queues }
 
 -- the spaces of the processes by key own what they own by pid
-spaces_listed : (queues : List OwnedQueue) (front : List (List (Option ℕ))) (objects : List (Option Proc)) (places : List Listed) (before last : ℕ) → AreStored objects places
+spaces_listed : (queues : List OwnedQueue) (front : List (List (Option ℕ))) (objects : List (Option Proc)) (places : List Place) (before last : ℕ) → AreStored objects places
     → AreBetween before places last → AreKeysOf objects (keys_of places)
     → SameOwners (owning (front ++ spaces_of objects) queues) (owning (front ++ nodes_of (procs_at objects places)) queues)
 unfolding nodes_of owning

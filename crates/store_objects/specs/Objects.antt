@@ -11,7 +11,7 @@ use Rattle.kheap_slabs.specs.Paid.{TakesNothing}
 use Rattle.proc_table.specs.Moves.{ProcTurns}
 use Rattle.proc_files.specs.Names.{AreBound, name_of}
 use Rattle.proc_table.specs.Procs.{proc_of}
-use Rattle.proc_table.specs.Table.{Holds, keys_of, processes}
+use Rattle.proc_table.specs.Table.{Holds, IsPlaced, keys_of, processes}
 use Rattle.prog_ctl.specs.Runnable.{Rests, Stands}
 use Rattle.store_objects.specs.declared.objects.Objects.{Objects}
 use Rattle.store_objects.specs.declared.objects.Caller.{Caller}
@@ -52,9 +52,10 @@ MovesOn old pid control new = OneChanges old pid (λ proc. record proc { control
 abbrev pub WorksElsewhere : Objects → ℕ → ℕ → Objects → Type 0
 WorksElsewhere old pid directory new = OneChanges old pid (λ proc. record proc { cwd = directory }) new
 
--- who makes a call is the process of that pid, which runs
+-- who makes a call is the process of that pid, which runs, at its place
 pub record IsCaller (objects : Objects) (pid : ℕ) (caller : Caller) : Type 0 where
-  pub same : caller.pid ≡ pid
+  pub same : caller.place.pid ≡ pid
+  pub placed : IsPlaced objects.procs caller.place
   pub proc : Proc
   pub found : proc_of (procs_of objects) pid ≡ Some proc
   pub up : proc.status ≡ None

@@ -8,11 +8,14 @@ use bound_table::BoundTable;
 use kabi_types::{Control, Memory};
 use kheap_slabs::KHeap;
 use memfs_ops::FileTree;
-use proc_table::ProcTable;
+use proc_table::{Place, ProcTable};
 use std::alloc::Global;
 
 /// The greatest number of a node, which the greatest disk has.
 const MOST_NODES: u32 = 4096;
+
+/// The pid of the first process.
+const FIRST: u32 = 1;
 
 /// A heap of so many bytes, with the first process, which stands at this control, beside the tree of a new disk of so many
 /// blocks. Of the disk the heap has the root's vnode alone. Its one pin is its own and stays for good: who works in the root
@@ -40,6 +43,7 @@ pub fn booted(alloc: Global, heap: u64, blocks: u32, control: Control) -> Result
         tree,
         names,
     };
-    objects.move_on(1, control);
+    let key = objects.key_there(FIRST);
+    objects.move_on(Place { pid: FIRST, key }, control);
     Ok(objects)
 }

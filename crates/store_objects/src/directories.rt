@@ -1,6 +1,6 @@
 //! Who works in a directory holds it.
 
-ghost use Rattle.std.specs.Prelude.{◌≡◌, ◌≢◌, ◌<◌, ℕ, IsSome, Some};
+ghost use Rattle.std.specs.Prelude.{◌≡◌, ◌≢◌, ◌<◌, ℕ, Some};
 ghost use Rattle.kheap_slabs.specs.declared.objects.Proc.{Proc};
 ghost use Rattle.kheap_slabs.specs.Paid.{TakesNothing};
 ghost use Rattle.kabi_types.specs.declared.scripts.Control.{Control};
@@ -11,26 +11,24 @@ ghost use Rattle.posix_defs.specs.Plain.{root};
 ghost use Rattle.posix_defs.specs.Tree.{Tree};
 ghost use Rattle.posix_defs.specs.World.{World};
 ghost use Rattle.proc_table.specs.Procs.{IsAlive, proc_of};
-ghost use Rattle.proc_table.specs.Table.{AreStored};
+ghost use Rattle.proc_table.specs.Table.{AreStored, IsPlaced};
 ghost use Rattle.store_objects.specs.Objects.{Runs, procs_of};
 ghost use Rattle.store_objects.specs.Standing.{HasEntered, StandsFor, working_in};
 ghost use Rattle.store_objects.specs.Working.{OnlyPins, entered_pins, left_pins};
 
 use crate::objects::Objects;
+use proc_table::Place;
 
 /// The root's number. It is held by itself: who works in it holds it no more often.
 const ROOT: u32 = 1;
 
-/// The working directory of a process that is there.
-pub fn directory_of(objects: &Objects, pid: u32) -> u32
+/// The working directory of a process.
+pub fn directory_of(objects: &Objects, place: Place) -> u32
     requires stored { AreStored objects.now.heap.procs objects.now.procs.listed }
-    requires there { IsSome (proc_of (procs_of objects.now) pid) }
-    ensures { (proc : Proc) → proc_of (procs_of objects.now) pid ≡ Some proc → result ≡ proc.cwd }
+    requires there { IsPlaced objects.now.procs place }
+    ensures { (proc : Proc) → proc_of (procs_of objects.now) place.pid ≡ Some proc → result ≡ proc.cwd }
 {
-    let Some(proc) = objects.proc(pid) else {
-        unreachable!();
-    };
-    proc.cwd
+    objects.procs.at(&objects.heap, place).cwd
 }
 
 /// One more works in a directory that is held.
@@ -77,16 +75,18 @@ fn hold_once(objects: &mut Objects, directory: u32)
 
 /// Has a process that runs work in a directory that it has entered, so that one more holds it, and lets the one go in which it
 /// worked.
-pub fn work_in(objects: &mut Objects, pid: u32, directory: u32)
-    requires alive { IsAlive (procs_of objects.old) pid }
+pub fn work_in(objects: &mut Objects, place: Place, directory: u32)
+    requires alive { IsAlive (procs_of objects.old) place.pid }
+    requires there { IsPlaced objects.old.procs place }
     requires entered { (script : Script) × (world : World) × HasEntered script objects.old world directory }
-    ensures runs { (control : Control) → Runs objects.old pid control → Runs objects.new pid control }
+    ensures runs { (control : Control) → Runs objects.old place.pid control → Runs objects.new place.pid control }
+    ensures procs { objects.new.procs ≡ objects.old.procs }
     ensures stands { (script : Script) (world : World) → HasEntered script objects.old world directory
-        → StandsFor script objects.new (working_in world pid directory) }
+        → StandsFor script objects.new (working_in world place.pid directory) }
     ensures takes { TakesNothing objects.old.heap objects.new.heap }
 {
-    let left = directory_of(objects, pid);
+    let left = directory_of(objects, place);
     hold_once(objects, directory);
-    objects.work_elsewhere(pid, directory);
+    objects.work_elsewhere(place, directory);
     let_go(objects, left);
 }

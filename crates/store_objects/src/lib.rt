@@ -18,6 +18,6 @@ mod purses;
 pub use boot::booted;
 pub use directories::{directory_of, hold_directory, let_go, work_in};
 pub use evicting::{evict, evictable};
-pub use going_on::{behind, go_on};
+pub use going_on::{behind, go_on, go_on_anew};
 pub use objects::{Caller, Objects};
 pub use purses::{Target, kept_back, purse_for};

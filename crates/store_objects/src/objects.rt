@@ -1,17 +1,17 @@
 //! The objects of a store: the heap, the processes that stand in it, the tree of files, and names of sockets in it.
 
-ghost use Rattle.std.specs.Prelude.{◌≡◌, ◌<◌, IfSome, IsSome, false, None};
+ghost use Rattle.std.specs.Prelude.{◌≡◌, ◌<◌, IfSome, IsSome, None, Some, false};
 ghost use Rattle.std.specs.Option.{option_copied};
 ghost use Rattle.kheap_slabs.specs.Heap.{IsWellFormed};
 ghost use Rattle.proc_table.specs.Procs.{proc_of};
-ghost use Rattle.proc_table.specs.Table.{AreStored};
+ghost use Rattle.proc_table.specs.Table.{AreStored, IsPlaced, key_of};
 ghost use Rattle.store_objects.specs.Objects.{IsCaller, MovesOn, WorksElsewhere, is_running, procs_of};
 
 use bound_table::BoundTable;
 use kabi_types::Control;
 use kheap_slabs::{KHeap, Proc};
 use memfs_ops::FileTree;
-use proc_table::ProcTable;
+use proc_table::{Place, ProcTable};
 
 /// The heap, the table of the processes that stand in it, the tree of files, whose caches stand in it too, and the table of the
 /// sockets that have names in the tree.
@@ -30,8 +30,8 @@ pub struct Objects {
 /// Who makes a call: a process that runs.
 #[derive(Clone, Copy)]
 pub struct Caller {
-    /// Its number, from 1.
-    pub pid: u32,
+    /// Its number, and where it stands in the heap. It stands there as long as nobody ends or is made.
+    pub place: Place,
     /// Its parent's pid; 0 for the first process.
     pub parent: u32,
     /// Where it stands in its program: at its call.
@@ -67,12 +67,13 @@ impl Objects {
         ensures none { result ≡ None → is_running (procs_of self.now) pid ≡ false }
         ensures some { IfSome result (IsCaller self.now pid) }
     {
-        let proc = self.proc(pid)?;
+        let key = self.procs.key_of(pid)?;
+        let proc = self.heap.get_proc(key);
         if proc.status.is_some() {
             return None;
         }
         Some(Caller {
-            pid,
+            place: Place { pid, key },
             parent: proc.parent,
             control: proc.control,
         })
@@ -92,32 +93,38 @@ impl Objects {
         let _ = self.procs.last_pid();
     }
 
-    /// Has a process that is there go on at another control.
-    pub fn move_on(&mut self, pid: u32, control: Control)
-        requires stored { AreStored self.old.heap.procs self.old.procs.listed }
-        requires there { IsSome (proc_of (procs_of self.old) pid) }
-        ensures { MovesOn self.old pid control self.new }
+    /// The key of the Proc of a process that is there.
+    pub fn key_there(&self, pid: u32) -> u32
+        requires stored { AreStored self.now.heap.procs self.now.procs.listed }
+        requires there { IsSome (proc_of (procs_of self.now) pid) }
+        ensures { key_of self.now.procs.listed pid ≡ Some result }
     {
         let Some(key) = self.procs.key_of(pid) else {
             unreachable!();
         };
-        self.heap.set_proc_control(key, control);
+        key
     }
 
-    /// Has a process that is there work in another directory. Who holds which of them is left to the caller.
-    pub(crate) fn work_elsewhere(&mut self, pid: u32, directory: u32)
+    /// Has a process go on at another control.
+    pub fn move_on(&mut self, place: Place, control: Control)
         requires stored { AreStored self.old.heap.procs self.old.procs.listed }
-        requires there { IsSome (proc_of (procs_of self.old) pid) }
-        ensures { WorksElsewhere self.old pid directory self.new }
+        requires there { IsPlaced self.old.procs place }
+        ensures { MovesOn self.old place.pid control self.new }
     {
-        let Some(key) = self.procs.key_of(pid) else {
-            unreachable!();
-        };
-        let proc = *self.heap.get_proc(key);
+        self.heap.set_proc_control(place.key, control);
+    }
+
+    /// Has a process work in another directory. Who holds which of them is left to the caller.
+    pub(crate) fn work_elsewhere(&mut self, place: Place, directory: u32)
+        requires stored { AreStored self.old.heap.procs self.old.procs.listed }
+        requires there { IsPlaced self.old.procs place }
+        ensures { WorksElsewhere self.old place.pid directory self.new }
+    {
+        let proc = *self.procs.at(&self.heap, place);
         let moved = Proc {
             cwd: directory,
             ..proc
         };
-        self.heap.set_proc(key, moved);
+        self.heap.set_proc(place.key, moved);
     }
 }

@@ -17,25 +17,28 @@ run_right-requires-clause-right c = sym c.checked.ensures ∙ ap result_err c.in
 pub returns-in-Ok-clause-does : goal.returns-in-Ok-clause-does
 returns-in-Ok-clause-does c =
     let right : argument_fault c.args.call.now ≡ None = sym c.checked.ensures ∙ ap result_err c.in-Ok.is in
-    serves_right c.args.script.now c.args.objects.now c.run_right.new.objects c.args.caller.now.pid c.args.call.now c.run_right.result right c.run_right.ensures.does
+    serves_right c.args.script.now c.args.objects.now c.run_right.new.objects c.args.caller.now.place.pid c.args.call.now c.run_right.result right c.run_right.ensures.does
 
 pub go_on-requires-clause-kept : goal.go_on-requires-clause-kept
 go_on-requires-clause-kept c = let some = c.requires.stands in some.1.kept
 
 pub go_on-requires-clause-runs : goal.go_on-requires-clause-runs
-go_on-requires-clause-runs c = caller_runs c.args.objects.now c.args.caller.now.pid c.args.caller.now c.requires.caller
+go_on-requires-clause-runs c = caller_runs c.args.objects.now c.args.caller.now.place.pid c.args.caller.now c.requires.caller
+
+pub go_on-requires-clause-placed : goal.go_on-requires-clause-placed
+go_on-requires-clause-placed c = c.requires.caller.placed
 
 pub returns-in-Err-clause-uses : goal.returns-in-Err-clause-uses
 returns-in-Err-clause-uses c = uses_nothing c.args.objects.now.heap c.go_on.new.objects.heap _ _ c.go_on.ensures.takes
 
 pub returns-in-Err-clause-does : goal.returns-in-Err-clause-does
 returns-in-Err-clause-does c =
-    failed_served c.args.script.now c.args.objects.now c.go_on.new.objects c.args.caller.now.pid c.args.call.now c.in-Err.errno c.go_on.result
-    (λ plain. machine c.args.script.now plain c.args.caller.now.pid c.args.call.now) c.go_on.ensures.told
-    (does_fail c.args.script.now c.args.objects.now c.go_on.new.objects c.args.caller.now.pid c.args.call.now c.in-Err.errno c.go_on.result _
+    failed_served c.args.script.now c.args.objects.now c.go_on.new.objects c.args.caller.now.place.pid c.args.call.now c.in-Err.errno c.go_on.result
+    (λ plain. machine c.args.script.now plain c.args.caller.now.place.pid c.args.call.now) c.go_on.ensures.told
+    (does_fail c.args.script.now c.args.objects.now c.go_on.new.objects c.args.caller.now.place.pid c.args.call.now c.in-Err.errno c.go_on.result _
     c.go_on.ensures.told c.go_on.ensures.goes
-    (λ world stands. wrong_told c.args.script.now world.plain c.args.caller.now.pid _ c.in-Err.errno (answer_to c.args.script.now world.plain c.args.caller.now.pid c.args.call.now) (sym c.checked.ensures ∙ ap result_err c.in-Err.is)))
+    (λ world stands. wrong_told c.args.script.now world.plain c.args.caller.now.place.pid _ c.in-Err.errno (answer_to c.args.script.now world.plain c.args.caller.now.place.pid c.args.call.now) (sym c.checked.ensures ∙ ap result_err c.in-Err.is)))
 
 pub returns-in-Err-clause-cached : goal.returns-in-Err-clause-cached
 returns-in-Err-clause-cached c =
-    nothing_read c.args.objects.now c.go_on.new.objects c.args.caller.now.pid c.args.call.now c.go_on.result c.go_on.ensures.tree (ap told_count c.go_on.ensures.told)
+    nothing_read c.args.objects.now c.go_on.new.objects c.args.caller.now.place.pid c.args.call.now c.go_on.result c.go_on.ensures.tree (ap told_count c.go_on.ensures.told)

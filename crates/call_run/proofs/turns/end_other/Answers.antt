@@ -1,4 +1,4 @@
-use Rattle.std.proofs.Common.{◌≡◌, ◌+◌, ◌≤◌, ◌∙◌, ℕ, true, false, sym, arith}
+use Rattle.std.proofs.Common.{◌≡◌, ◌+◌, ◌≤◌, ◌∙◌, ℕ, true, false, ap, is_some, sym, arith}
 use Rattle.kheap_slabs.specs.Heap.{live_bytes}
 use Rattle.posix_defs.specs.Sizes.{reserve}
 use Rattle.posix_defs.specs.World.{live_of}
@@ -36,6 +36,12 @@ returns-then-pid-eq-INIT-clause-killed c = λ script world at alive other.
       | then-pid-eq-INIT-via-then-pid-eq-INIT w ↦ absurd (other w.if-pid-eq-INIT.true)
       | then-pid-eq-INIT-via-else-pid-eq-INIT+then-not-runs w ↦ never (sym alive ∙ lives ∙ sym w.runs.ensures ∙ w.if-not-runs.true)
     ]
+
+pub key_there-key-requires-clause-stored : goal.key_there-key-requires-clause-stored
+key_there-key-requires-clause-stored c = let stood = c.requires in stood.2.stands.kept.holds.stored
+
+pub key_there-key-requires-clause-there : goal.key_there-key-requires-clause-there
+key_there-key-requires-clause-there c = ap is_some (running (procs_of c.args.objects.now) c.args.pid (sym c.runs.ensures ∙ c.if-not-runs.false)).there
 
 pub end-requires-clause-stands : goal.end-requires-clause-stands
 end-requires-clause-stands c =

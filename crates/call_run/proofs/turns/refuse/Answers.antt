@@ -1,7 +1,10 @@
-use Rattle.std.proofs.Common.{◌≡◌, ◌∙◌, false, le_refl, sym, true}
+use Rattle.std.proofs.Common.{◌≡◌, ◌∙◌, false, le_refl, subst, sym, true}
+use Rattle.posix_defs.specs.Relief.{refused_in}
 use Rattle.machine_laws.proofs.Turning.{refused_reached}
+use Rattle.store_objects.specs.Objects.{IsCaller}
 use Rattle.store_objects.proofs.RunningProcs.{alive_is}
-use Rattle.call_run.proofs.Resting.{mark_counts, mark_goes_on, mark_keeps, mark_rests, mark_since, mark_still}
+use Rattle.call_run.specs.Stores.{IsStoreOf}
+use Rattle.call_run.proofs.Resting.{with_heap, mark_counts, mark_goes_on, mark_keeps, mark_rests, mark_since, mark_still}
 use Rattle.call_run.proofs.turns.refuse.Goals as goal
 
 never : true ≡ false → ⊥
@@ -13,6 +16,9 @@ caller-requires c = let alive = c.requires.alive in alive.1.stands.kept.holds.st
 pub go_on-requires-clause-kept : goal.go_on-requires-clause-kept
 go_on-requires-clause-kept c = let alive = c.requires.alive in alive.1.stands.kept
 
+pub go_on-requires-clause-placed : goal.go_on-requires-clause-placed
+go_on-requires-clause-placed c = c.in-Some.ensures.some.placed
+
 pub unreachable-requires : goal.unreachable-requires
 unreachable-requires c =
     let alive = c.requires.alive in
@@ -23,11 +29,13 @@ returns-clause-kept c = mark_keeps c.go_on.new.objects c.mark.new.self c.mark.en
 
 pub returns-clause-refused : goal.returns-clause-refused
 returns-clause-refused c = λ world at _.
-    mark_goes_on c.go_on.new.objects c.mark.new.self c.mark.ensures c.args.script.now _ (record {
+    let caller : IsCaller c.args.objects.now c.args.pid c.in-Some.caller = c.in-Some.ensures.some in
+    subst (λ pid. IsStoreOf c.args.script.now (with_heap c.go_on.new.objects c.mark.new.self) (refused_in c.args.script.now world pid)) caller.same
+    (mark_goes_on c.go_on.new.objects c.mark.new.self c.mark.ensures c.args.script.now (refused_in c.args.script.now world c.in-Some.caller.place.pid) (record {
       stands = c.go_on.ensures.goes world at.stands;
-      reached = refused_reached c.args.script.now world c.args.pid at.reached;
+      reached = refused_reached c.args.script.now world c.in-Some.caller.place.pid at.reached;
       spare = at.spare;
-    })
+    }))
 
 pub returns-clause-marked : goal.returns-clause-marked
 returns-clause-marked c = mark_counts c.args.objects.now.heap c.go_on.new.objects.heap c.mark.new.self c.mark.ensures c.go_on.ensures.takes.marks

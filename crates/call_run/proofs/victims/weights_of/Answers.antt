@@ -3,7 +3,7 @@ use Rattle.std.specs.List.{All}
 use Rattle.std.proofs.lemmas.List.Elements.{All-push}
 use Rattle.kabi_types.specs.declared.classes.Weight.{Weight}
 use Rattle.kheap_slabs.specs.Objects.{object}
-use Rattle.proc_table.specs.declared.places.Listed.{Listed}
+use Rattle.proc_table.specs.declared.places.Place.{Place}
 use Rattle.proc_table.proofs.LeaveLemmas.{StandsAt, stands_at}
 use Rattle.victim_core.specs.Victims.{IsInRange}
 use Rattle.store_objects.specs.Objects.{procs_of}
@@ -16,13 +16,13 @@ pub loop-place-init : goal.loop-place-init
 loop-place-init c =
     let kept = c.requires.kept.1 in
     let start = none_yet c.args.objects.now.heap c.args.objects.now.procs kept.holds kept.groups in
-    subst (λ (places : List Listed). AreWeighed c.args.objects.now.heap (weights_in c.args.objects.now.heap (procs_of c.args.objects.now)) places 0 c.new-weights.result.items)
+    subst (λ (places : List Place). AreWeighed c.args.objects.now.heap (weights_in c.args.objects.now.heap (procs_of c.args.objects.now)) places 0 c.new-weights.result.items)
     (sym c.listed-place-items.ensures.places)
     (subst (λ (ws : List Weight). AreWeighed c.args.objects.now.heap (weights_in c.args.objects.now.heap (procs_of c.args.objects.now)) c.args.objects.now.procs.listed 0 ws)
     (sym c.new-weights.ensures) start)
 
 -- the place in hand
-none : Listed
+none : Place
 none = record { pid = 0; key = 0 }
 
 pub get_proc-proc-requires : goal.get_proc-proc-requires
@@ -30,14 +30,14 @@ unfolding none
 get_proc-proc-requires c =
     let stands : StandsAt c.listed-place-items.result.now c.loop-place.place-index = stands_at c.listed-place-items.result.now c.loop-place.place-index c.loop-place-test.true in
     let at = here _ _ _ _ _ c.loop-place.invariant stands in
-    ap (λ (place : Listed). is_some (object c.args.objects.now.heap.procs place.key)) (stands.read none) ∙ ap is_some at.is
+    ap (λ (place : Place). is_some (object c.args.objects.now.heap.procs place.key)) (stands.read none) ∙ ap is_some at.is
 
 pub weight_of-requires-clause-owns : goal.weight_of-requires-clause-owns
 unfolding none
 weight_of-requires-clause-owns c =
     let stands : StandsAt c.listed-place-items.result.now c.loop-place.place-index = stands_at c.listed-place-items.result.now c.loop-place.place-index c.loop-place-test.true in
     let whole = is_whole _ _ _ _ _ c.loop-place.invariant stands c.get_proc-proc.result.now
-    (sym (ap (λ (place : Listed). object c.args.objects.now.heap.procs place.key) (stands.read none)) ∙ c.get_proc-proc.ensures) in
+    (sym (ap (λ (place : Place). object c.args.objects.now.heap.procs place.key) (stands.read none)) ∙ c.get_proc-proc.ensures) in
     whole.owns
 
 pub weight_of-requires-clause-groups : goal.weight_of-requires-clause-groups
@@ -45,7 +45,7 @@ unfolding none
 weight_of-requires-clause-groups c =
     let stands : StandsAt c.listed-place-items.result.now c.loop-place.place-index = stands_at c.listed-place-items.result.now c.loop-place.place-index c.loop-place-test.true in
     let whole = is_whole _ _ _ _ _ c.loop-place.invariant stands c.get_proc-proc.result.now
-    (sym (ap (λ (place : Listed). object c.args.objects.now.heap.procs place.key) (stands.read none)) ∙ c.get_proc-proc.ensures) in
+    (sym (ap (λ (place : Place). object c.args.objects.now.heap.procs place.key) (stands.read none)) ∙ c.get_proc-proc.ensures) in
     whole.groups
 
 -- what is put behind the weights, where the process runs and where it doesn't
@@ -62,7 +62,7 @@ pub loop-place-preserved : goal.loop-place-preserved
 unfolding none
 loop-place-preserved c =
     let stands : StandsAt c.listed-place-items.result.now c.loop-place.place-index = stands_at c.listed-place-items.result.now c.loop-place.place-index c.loop-place-test.true in
-    let is = sym (ap (λ (place : Listed). object c.args.objects.now.heap.procs place.key) (stands.read none)) ∙ c.get_proc-proc.ensures in
+    let is = sym (ap (λ (place : Place). object c.args.objects.now.heap.procs place.key) (stands.read none)) ∙ c.get_proc-proc.ensures in
     elim c.if-is_none.branch [
       | then-is_none w ↦ next _ _ _ _ _ c.loop-place.invariant stands c.get_proc-proc.result.now is c.if-is_none.weights.items
           (pushed c.loop-place.weights.items c.if-is_none.weights.items w.weight_of.result _ _ _ (ap (λ v. v.items) w.weights-is ∙ w.push.ensures.items) w.weight_of.ensures.weight c.is_none.ensures w.if-is_none.true)

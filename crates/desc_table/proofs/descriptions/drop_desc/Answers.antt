@@ -1,12 +1,15 @@
-use Rattle.std.proofs.Common.{◌≡◌, sym, ap, subst, refl, ◌∙◌, arith}
+use Rattle.std.proofs.Common.{◌≡◌, ℕ, sym, ap, subst, refl, ◌∙◌, arith}
+use Rattle.kabi_types.specs.declared.classes.Class.TheVariants as class
+use Rattle.kheap_slabs.specs.Objects.{without}
 use Rattle.kheap_slabs.specs.declared.objects.Desc.{Desc}
 use Rattle.kheap_slabs.specs.Heap.{Heap}
 use Rattle.kheap_slabs.specs.Owners.{OwnsItsObjects}
+use Rattle.kheap_laws.proofs.PaidLemmas.{TakesNothing-trans, TakesNothing-freed}
 use Rattle.kheap_laws.proofs.TableLemmas.{OwnsItsObjects-along}
-use Rattle.open_laws.specs.Closing.{IsClosable, Drops}
+use Rattle.open_laws.specs.Closing.{IsClosable, Drops, QueuesChange, TargetCloses}
 use Rattle.open_laws.specs.Described.{descs_left, node_left}
-use Rattle.open_laws.proofs.CloseLemmas.{described}
-use Rattle.open_laws.proofs.DescribedLemmas.{one_desc, counts_alike, node_more, node_last}
+use Rattle.open_laws.proofs.CloseLemmas.{described, closable_without, closes_with, change_with_descs}
+use Rattle.open_laws.proofs.DescribedLemmas.{one_desc, counts_alike, node_more, node_last, left_last}
 use Rattle.open_laws.proofs.OwnerLemmas.{owners_dropped}
 use Rattle.open_laws.proofs.DropLemmas.{open_dropped, drops_more, drops_last}
 use Rattle.desc_table.proofs.descriptions.drop_desc.Goals as goal
@@ -48,45 +51,69 @@ returns-then-found-gt1-clause-owners c = λ hand owners.
 
 -- ---- no other does
 
-pub remove-requires-clause-last : goal.remove-requires-clause-last
-remove-requires-clause-last c =
-    let there = c.requires.there in
-    let same = counts_alike c.args.heap.now.descs c.args.desc c.get_desc-found.result.now there.desc c.get_desc-found.ensures there.there in
-    omega (arith, same, there.named)
+-- It is taken out, and then what it was open on is closed.
+last_drops : (old mid new : Heap) (key : ℕ) (found : Desc) → found.count ≡ 1 → mid ≡ record old { descs = without old.descs key } → new.descs ≡ mid.descs
+    → TargetCloses mid new found.access found.target → Drops old new key found
+last_drops old mid new key found last kept same closes =
+    drops_last old new key found last
+    (same ∙ (ap (λ (h : Heap). h.descs) kept ∙ sym (left_last old.descs key found last)))
+    (closes_with old new (without old.descs key) found.access found.target (subst (λ (h : Heap). TargetCloses h new found.access found.target) kept closes))
 
-pub remove-requires-clause-closable : goal.remove-requires-clause-closable
-remove-requires-clause-closable c =
+pub close_target-requires : goal.close_target-requires
+close_target-requires c =
     let there = c.requires.there in
-    subst (λ (d : Desc). IsClosable c.args.heap.now d.access d.target)
-    (one_desc c.args.heap.now.descs c.args.desc there.desc c.get_desc-found.result.now there.there c.get_desc-found.ensures) there.closable
+    let found = c.get_desc-found.result.now in
+    let descs = without c.args.heap.now.descs c.args.desc in
+    let closable = subst (λ (d : Desc). IsClosable c.args.heap.now d.access d.target) (one_desc c.args.heap.now.descs c.args.desc there.desc found there.there c.get_desc-found.ensures) there.closable in
+    record {
+      owned = subst (λ (h : Heap). OwnsItsObjects h) (sym c.free_desc-gone.ensures.kept)
+          (OwnsItsObjects-along c.args.heap.now (described c.args.heap.now descs) refl refl refl refl refl refl c.requires.owned);
+      there = subst (λ (h : Heap). IsClosable h found.access found.target) (sym c.free_desc-gone.ensures.kept)
+          (closable_without c.args.heap.now descs found.access found.target closable);
+    }
 
-pub returns-else-found-gt1-clause-node : goal.returns-else-found-gt1-clause-node
-returns-else-found-gt1-clause-node c = λ found is.
+pub returns-clause-node : goal.returns-clause-node
+returns-clause-node c = λ found is.
     let there = c.requires.there in
     let alike = counts_alike c.args.heap.now.descs c.args.desc c.get_desc-found.result.now there.desc c.get_desc-found.ensures there.there in
-    c.remove.ensures.node
+    c.close_target.ensures.node
     ∙ (sym (node_last c.get_desc-found.result.now (omega (arith, alike, there.named)))
     ∙ ap node_left (one_desc c.args.heap.now.descs c.args.desc c.get_desc-found.result.now found c.get_desc-found.ensures is))
 
-pub returns-else-found-gt1-clause-drops : goal.returns-else-found-gt1-clause-drops
-returns-else-found-gt1-clause-drops c = λ found is.
+pub returns-clause-drops : goal.returns-clause-drops
+returns-clause-drops c = λ found is.
     let there = c.requires.there in
     let alike = counts_alike c.args.heap.now.descs c.args.desc c.get_desc-found.result.now there.desc c.get_desc-found.ensures there.there in
-    subst (λ (d : Desc). Drops c.args.heap.now c.remove.new.heap c.args.desc d)
+    subst (λ (d : Desc). Drops c.args.heap.now c.close_target.new.heap c.args.desc d)
     (one_desc c.args.heap.now.descs c.args.desc c.get_desc-found.result.now found c.get_desc-found.ensures is)
-    (drops_last c.args.heap.now c.remove.new.heap c.args.desc c.get_desc-found.result.now (omega (arith, alike, there.named)) c.remove.ensures.left c.remove.ensures.closes)
+    (last_drops c.args.heap.now c.free_desc-gone.new.self c.close_target.new.heap c.args.desc c.get_desc-found.result.now (omega (arith, alike, there.named))
+    c.free_desc-gone.ensures.kept c.close_target.ensures.descs c.close_target.ensures.closes)
 
-pub returns-else-found-gt1-clause-opened : goal.returns-else-found-gt1-clause-opened
-returns-else-found-gt1-clause-opened c = λ numbers list files are.
+pub returns-clause-opened : goal.returns-clause-opened
+returns-clause-opened c = λ numbers list files are.
     let there = c.requires.there in
     let alike = counts_alike c.args.heap.now.descs c.args.desc c.get_desc-found.result.now there.desc c.get_desc-found.ensures there.there in
-    open_dropped numbers c.args.heap.now c.remove.new.heap list files c.args.desc c.get_desc-found.result.now c.get_desc-found.ensures there
-    (drops_last c.args.heap.now c.remove.new.heap c.args.desc c.get_desc-found.result.now (omega (arith, alike, there.named)) c.remove.ensures.left c.remove.ensures.closes) are
+    open_dropped numbers c.args.heap.now c.close_target.new.heap list files c.args.desc c.get_desc-found.result.now c.get_desc-found.ensures there
+    (last_drops c.args.heap.now c.free_desc-gone.new.self c.close_target.new.heap c.args.desc c.get_desc-found.result.now (omega (arith, alike, there.named))
+    c.free_desc-gone.ensures.kept c.close_target.ensures.descs c.close_target.ensures.closes) are
 
-pub returns-else-found-gt1-clause-owners : goal.returns-else-found-gt1-clause-owners
-returns-else-found-gt1-clause-owners c = λ hand owners.
+pub returns-clause-kept : goal.returns-clause-kept
+returns-clause-kept c =
+    change_with_descs c.args.heap.now c.close_target.new.heap (without c.args.heap.now.descs c.args.desc)
+    (subst (λ (h : Heap). QueuesChange h c.close_target.new.heap) c.free_desc-gone.ensures.kept c.close_target.ensures.kept)
+
+pub returns-clause-owners : goal.returns-clause-owners
+returns-clause-owners c = λ hand owners.
     let there = c.requires.there in
     let alike = counts_alike c.args.heap.now.descs c.args.desc c.get_desc-found.result.now there.desc c.get_desc-found.ensures there.there in
-    owners_dropped c.args.heap.now c.remove.new.heap hand c.args.desc c.get_desc-found.result.now c.get_desc-found.ensures there
-    (drops_last c.args.heap.now c.remove.new.heap c.args.desc c.get_desc-found.result.now (omega (arith, alike, there.named)) c.remove.ensures.left c.remove.ensures.closes)
-    (ap (λ (h : Heap). h.procs) c.remove.ensures.kept) c.remove.ensures.owned owners
+    let kept = change_with_descs c.args.heap.now c.close_target.new.heap (without c.args.heap.now.descs c.args.desc)
+    (subst (λ (h : Heap). QueuesChange h c.close_target.new.heap) c.free_desc-gone.ensures.kept c.close_target.ensures.kept) in
+    owners_dropped c.args.heap.now c.close_target.new.heap hand c.args.desc c.get_desc-found.result.now c.get_desc-found.ensures there
+    (last_drops c.args.heap.now c.free_desc-gone.new.self c.close_target.new.heap c.args.desc c.get_desc-found.result.now (omega (arith, alike, there.named))
+    c.free_desc-gone.ensures.kept c.close_target.ensures.descs c.close_target.ensures.closes)
+    (ap (λ (h : Heap). h.procs) kept) c.close_target.ensures.owned owners
+
+pub returns-clause-takes : goal.returns-clause-takes
+returns-clause-takes c =
+    TakesNothing-trans c.args.heap.now c.free_desc-gone.new.self c.close_target.new.heap
+    (TakesNothing-freed class.Desc c.args.heap.now c.free_desc-gone.new.self c.free_desc-gone.ensures.frees) c.close_target.ensures.takes

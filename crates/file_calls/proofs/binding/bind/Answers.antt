@@ -20,7 +20,7 @@ use Rattle.store_objects.specs.Standing.{IsSound, StandsFor}
 use Rattle.store_objects.proofs.StoreFiles.{works_in_some}
 use Rattle.store_objects.proofs.Keeping.{listed_in}
 use Rattle.store_objects.proofs.Replying.{no_frames}
-use Rattle.file_calls.proofs.CallingNames.{AnswersSo, HasNamed, alive_who_runs, anew, bind_cached, kept_named, key_who_runs, runs_named, serves_named}
+use Rattle.file_calls.proofs.CallingNames.{AnswersSo, HasNamed, alive_who_runs, anew, bind_cached, kept_named, runs_named, serves_named}
 use Rattle.file_calls.proofs.binding.bind.Goals as goal
 
 named : (script : Script) (old : Objects) (heap : Heap) (fs : TreeView) (names : List (Option ℕ)) (pid : ℕ) (fd as_fd : ℤ) (path : List ℕ) (is : Result (Unit {0}) Errno) (said : Reply) → as_fd ≡ fd → said ≡ zero_of is
@@ -47,14 +47,10 @@ pub bind_number-done-requires-clause-owners : goal.bind_number-done-requires-cla
 bind_number-done-requires-clause-owners c =
     c.requires.stands.1.kept.owners
 
-pub bind_number-done-requires-clause-there : goal.bind_number-done-requires-clause-there
-bind_number-done-requires-clause-there c =
-    key_who_runs c.args.script.now c.args.objects.now c.args.pid c.args.control c.requires.stands.1.kept c.requires.runs
-
 pub bind_number-done-requires-clause-hold : goal.bind_number-done-requires-clause-hold
 bind_number-done-requires-clause-hold c =
-    works_in_some c.args.script.now c.args.objects.now c.requires.stands.0 c.requires.stands.1 c.heap_is_well_formed.ensures c.requires.stands.2 c.args.pid
-    (alive_who_runs c.args.objects.now c.args.pid c.args.control c.requires.runs)
+    works_in_some c.args.script.now c.args.objects.now c.requires.stands.0 c.requires.stands.1 c.heap_is_well_formed.ensures c.requires.stands.2 c.args.caller.now.place.pid
+    (alive_who_runs c.args.objects.now c.args.caller.now.place.pid c.args.caller.now.control c.requires.runs)
 
 pub bind_number-done-requires-clause-path : goal.bind_number-done-requires-clause-path
 bind_number-done-requires-clause-path c =
@@ -62,18 +58,18 @@ bind_number-done-requires-clause-path c =
 
 pub go_on-requires-clause-kept : goal.go_on-requires-clause-kept
 go_on-requires-clause-kept c =
-    kept_named c.args.script.now c.args.objects.now c.bind_number-done.new.heap c.bind_number-done.new.tree c.bind_number-done.new.names c.args.pid (λ plain. bind c.args.script.now plain c.args.pid c.args.fd c.args.path.now) c.zero.result
-    (named c.args.script.now c.args.objects.now c.bind_number-done.new.heap c.bind_number-done.new.tree c.bind_number-done.new.names c.args.pid c.args.fd _ c.args.path.now c.bind_number-done.result c.zero.result (to_z-of_z w64 c.args.fd c.ranges.fd) c.zero.ensures c.requires.stands
+    kept_named c.args.script.now c.args.objects.now c.bind_number-done.new.heap c.bind_number-done.new.tree c.bind_number-done.new.names c.args.caller.now.place.pid (λ plain. bind c.args.script.now plain c.args.caller.now.place.pid c.args.fd c.args.path.now) c.zero.result
+    (named c.args.script.now c.args.objects.now c.bind_number-done.new.heap c.bind_number-done.new.tree c.bind_number-done.new.names c.args.caller.now.place.pid c.args.fd _ c.args.path.now c.bind_number-done.result c.zero.result (to_z-of_z w64 c.args.fd c.ranges.fd) c.zero.ensures c.requires.stands
     c.heap_is_well_formed.ensures c.bind_number-done.ensures.changes c.bind_number-done.ensures.listed c.bind_number-done.ensures.owners c.bind_number-done.ensures.queues c.bind_number-done.ensures.places
-    (λ n o plain hold works. anew c.args.objects.now.heap n o c.args.objects.now c.bind_number-done.new.heap c.bind_number-done.new.tree c.bind_number-done.new.names c.args.script.now plain c.args.pid _ _ (c.bind_number-done.ensures.answers n o c.args.script.now plain hold works)))
+    (λ n o plain hold works. anew c.args.objects.now.heap n o c.args.objects.now c.bind_number-done.new.heap c.bind_number-done.new.tree c.bind_number-done.new.names c.args.script.now plain c.args.caller.now.place.pid _ _ (c.bind_number-done.ensures.answers n o c.args.script.now plain hold works)))
 
 pub go_on-requires-clause-runs : goal.go_on-requires-clause-runs
 go_on-requires-clause-runs c =
-    runs_named c.args.script.now c.args.objects.now c.bind_number-done.new.heap c.bind_number-done.new.tree c.bind_number-done.new.names c.args.pid (λ plain. bind c.args.script.now plain c.args.pid c.args.fd c.args.path.now) c.zero.result
-    (named c.args.script.now c.args.objects.now c.bind_number-done.new.heap c.bind_number-done.new.tree c.bind_number-done.new.names c.args.pid c.args.fd _ c.args.path.now c.bind_number-done.result c.zero.result (to_z-of_z w64 c.args.fd c.ranges.fd) c.zero.ensures c.requires.stands
+    runs_named c.args.script.now c.args.objects.now c.bind_number-done.new.heap c.bind_number-done.new.tree c.bind_number-done.new.names c.args.caller.now.place.pid (λ plain. bind c.args.script.now plain c.args.caller.now.place.pid c.args.fd c.args.path.now) c.zero.result
+    (named c.args.script.now c.args.objects.now c.bind_number-done.new.heap c.bind_number-done.new.tree c.bind_number-done.new.names c.args.caller.now.place.pid c.args.fd _ c.args.path.now c.bind_number-done.result c.zero.result (to_z-of_z w64 c.args.fd c.ranges.fd) c.zero.ensures c.requires.stands
     c.heap_is_well_formed.ensures c.bind_number-done.ensures.changes c.bind_number-done.ensures.listed c.bind_number-done.ensures.owners c.bind_number-done.ensures.queues c.bind_number-done.ensures.places
-    (λ n o plain hold works. anew c.args.objects.now.heap n o c.args.objects.now c.bind_number-done.new.heap c.bind_number-done.new.tree c.bind_number-done.new.names c.args.script.now plain c.args.pid _ _ (c.bind_number-done.ensures.answers n o c.args.script.now plain hold works)))
-    c.args.control c.requires.runs
+    (λ n o plain hold works. anew c.args.objects.now.heap n o c.args.objects.now c.bind_number-done.new.heap c.bind_number-done.new.tree c.bind_number-done.new.names c.args.script.now plain c.args.caller.now.place.pid _ _ (c.bind_number-done.ensures.answers n o c.args.script.now plain hold works)))
+    c.args.caller.now.control c.requires.runs
 
 pub returns-clause-paid : goal.returns-clause-paid
 returns-clause-paid c =
@@ -82,10 +78,10 @@ returns-clause-paid c =
 
 pub returns-clause-does : goal.returns-clause-does
 returns-clause-does c =
-    serves_named c.args.script.now c.args.objects.now c.bind_number-done.new.heap c.bind_number-done.new.tree c.bind_number-done.new.names c.args.pid (λ plain. bind c.args.script.now plain c.args.pid c.args.fd c.args.path.now) c.zero.result
-    (named c.args.script.now c.args.objects.now c.bind_number-done.new.heap c.bind_number-done.new.tree c.bind_number-done.new.names c.args.pid c.args.fd _ c.args.path.now c.bind_number-done.result c.zero.result (to_z-of_z w64 c.args.fd c.ranges.fd) c.zero.ensures c.requires.stands
+    serves_named c.args.script.now c.args.objects.now c.bind_number-done.new.heap c.bind_number-done.new.tree c.bind_number-done.new.names c.args.caller.now.place.pid (λ plain. bind c.args.script.now plain c.args.caller.now.place.pid c.args.fd c.args.path.now) c.zero.result
+    (named c.args.script.now c.args.objects.now c.bind_number-done.new.heap c.bind_number-done.new.tree c.bind_number-done.new.names c.args.caller.now.place.pid c.args.fd _ c.args.path.now c.bind_number-done.result c.zero.result (to_z-of_z w64 c.args.fd c.ranges.fd) c.zero.ensures c.requires.stands
     c.heap_is_well_formed.ensures c.bind_number-done.ensures.changes c.bind_number-done.ensures.listed c.bind_number-done.ensures.owners c.bind_number-done.ensures.queues c.bind_number-done.ensures.places
-    (λ n o plain hold works. anew c.args.objects.now.heap n o c.args.objects.now c.bind_number-done.new.heap c.bind_number-done.new.tree c.bind_number-done.new.names c.args.script.now plain c.args.pid _ _ (c.bind_number-done.ensures.answers n o c.args.script.now plain hold works)))
+    (λ n o plain hold works. anew c.args.objects.now.heap n o c.args.objects.now c.bind_number-done.new.heap c.bind_number-done.new.tree c.bind_number-done.new.names c.args.script.now plain c.args.caller.now.place.pid _ _ (c.bind_number-done.ensures.answers n o c.args.script.now plain hold works)))
     (call.Bind c.args.fd c.args.path.now) c.args.purse.now c.bind_number-done.new.purse c.go_on.result c.go_on.new.objects c.bind_number-done.ensures.paid c.requires.needed c.bind_number-done.ensures.reads c.go_on.ensures.told c.go_on.ensures.goes
-    (no_frames (call.Bind c.args.fd c.args.path.now) (λ frames pid value. refl) c.args.pid c.zero.result)
-    (λ world stands files then. bind_cached c.args.objects.now _ world c.args.pid c.args.fd c.args.path.now c.zero.result (with_files world.plain files) c.requires.right)
+    (no_frames (call.Bind c.args.fd c.args.path.now) (λ frames pid value. refl) c.args.caller.now.place.pid c.zero.result)
+    (λ world stands files then. bind_cached c.args.objects.now _ world c.args.caller.now.place.pid c.args.fd c.args.path.now c.zero.result (with_files world.plain files) c.requires.right)

@@ -11,7 +11,7 @@ use Rattle.store_objects.proofs.Replying.{no_frames}
 use Rattle.store_objects.proofs.Keeping.{listed_in}
 use Rattle.store_objects.proofs.Paying.{uses_nothing, uses_then}
 use Rattle.store_objects.proofs.Within.{within_same}
-use Rattle.file_calls.proofs.CallingOpens.{holds_some_names, kept_mid, key_who_runs, mid, runs_mid, serves_naming}
+use Rattle.file_calls.proofs.CallingOpens.{holds_some_names, kept_mid, mid, runs_mid, serves_naming}
 use Rattle.file_calls.proofs.Purses.{can_pay, may_close, uses_back}
 use Rattle.file_calls.proofs.Reached.{closed_off, first_off, leaves_numbers}
 use Rattle.file_calls.proofs.closing.close.Goals as goal
@@ -21,9 +21,6 @@ close_number-closed-requires-clause-listed c = listed_in c.args.script.now c.arg
 
 pub close_number-closed-requires-clause-owners : goal.close_number-closed-requires-clause-owners
 close_number-closed-requires-clause-owners c = c.requires.stands.1.kept.owners
-
-pub close_number-closed-requires-clause-there : goal.close_number-closed-requires-clause-there
-close_number-closed-requires-clause-there c = key_who_runs c.args.script.now c.args.objects.now c.args.pid c.args.control c.requires.stands.1.kept c.requires.runs
 
 pub close_number-closed-requires-clause-hold : goal.close_number-closed-requires-clause-hold
 close_number-closed-requires-clause-hold c =
@@ -38,14 +35,14 @@ pub go_on-requires-clause-kept : goal.go_on-requires-clause-kept
 go_on-requires-clause-kept c =
     let n = c.close_number-closed in
     let some = n.ensures.hold in
-    kept_mid c.args.script.now c.args.objects.now n.new.heap n.new.tree n.new.names c.args.pid c.args.control c.requires.stands.1.kept c.requires.runs n.ensures.changes n.ensures.listed n.ensures.owners
+    kept_mid c.args.script.now c.args.objects.now n.new.heap n.new.tree n.new.names c.args.caller.now.place.pid c.args.caller.now.control c.requires.stands.1.kept c.requires.runs n.ensures.changes n.ensures.listed n.ensures.owners
     some.hold.bound n.ensures.places (record { numbers = some.numbers; others = some.others; files = some.files; hold = some.hold.held })
 
 pub go_on-requires-clause-runs : goal.go_on-requires-clause-runs
 go_on-requires-clause-runs c =
     let n = c.close_number-closed in
     let some = n.ensures.hold in
-    runs_mid c.args.script.now c.args.objects.now n.new.heap n.new.tree n.new.names c.args.pid c.args.control c.requires.stands.1.kept c.requires.runs n.ensures.changes n.ensures.listed n.ensures.owners
+    runs_mid c.args.script.now c.args.objects.now n.new.heap n.new.tree n.new.names c.args.caller.now.place.pid c.args.caller.now.control c.requires.stands.1.kept c.requires.runs n.ensures.changes n.ensures.listed n.ensures.owners
     some.hold.bound n.ensures.places (record { numbers = some.numbers; others = some.others; files = some.files; hold = some.hold.held })
 
 pub returns-clause-uses : goal.returns-clause-uses
@@ -60,7 +57,7 @@ pub returns-clause-does : goal.returns-clause-does
 returns-clause-does c =
     let script = c.args.script.now in
     let old = c.args.objects.now in
-    let pid = c.args.pid in
+    let pid = c.args.caller.now.place.pid in
     let n = c.close_number-closed in
     let some = n.ensures.hold in
     let kept = c.requires.stands.1.kept in
@@ -68,9 +65,9 @@ returns-clause-does c =
     let said = c.zero.result in
     let fd = to_z-of_z w64 c.args.fd c.ranges.fd in
     let one : HoldSome n.new.heap old.procs n.new.tree = record { numbers = some.numbers; others = some.others; files = some.files; hold = some.hold.held } in
-    serves_naming script old n.new.heap n.new.tree n.new.names pid c.args.control kept c.requires.runs n.ensures.changes n.ensures.listed n.ensures.owners some.hold.bound n.ensures.places one
+    serves_naming script old n.new.heap n.new.tree n.new.names pid c.args.caller.now.control kept c.requires.runs n.ensures.changes n.ensures.listed n.ensures.owners some.hold.bound n.ensures.places one
     which said c.go_on.result c.go_on.new.objects (λ plain. close script plain pid c.args.fd) c.heap_is_well_formed.ensures
-    (within_same old (mid script old n.new.heap n.new.tree n.new.names pid c.args.control kept c.requires.runs n.ensures.changes n.ensures.listed n.ensures.owners some.hold.bound n.ensures.places one)
+    (within_same old (mid script old n.new.heap n.new.tree n.new.names pid c.args.caller.now.control kept c.requires.runs n.ensures.changes n.ensures.listed n.ensures.owners some.hold.bound n.ensures.places one)
     c.kept_back-purse.result n.new.purse which n.ensures.paid n.ensures.same n.ensures.reads)
     n.ensures.queues c.go_on.ensures.told c.go_on.ensures.goes (no_frames which (λ frames pid value. refl) pid said)
     (λ numbers others plain hold.
@@ -78,7 +75,7 @@ returns-clause-does c =
     (subst (λ z. AnswersNaming numbers others n.new.heap old.procs n.new.tree n.new.names script plain pid (close script plain pid z) (zero_of n.result)) fd
     (n.ensures.answers numbers others script plain hold)))
     (λ world next stands.
-    leaves_numbers old (mid script old n.new.heap n.new.tree n.new.names pid c.args.control kept c.requires.runs n.ensures.changes n.ensures.listed n.ensures.owners some.hold.bound n.ensures.places one)
+    leaves_numbers old (mid script old n.new.heap n.new.tree n.new.names pid c.args.caller.now.control kept c.requires.runs n.ensures.changes n.ensures.listed n.ensures.owners some.hold.bound n.ensures.places one)
     world pid which (record { right = refl; paths = refl; leaves = refl; walks = refl }) said next
     (λ off.
     (subst (λ z. node_closed old.heap.descs (named_by old.heap old.procs pid z) ≡ None → n.new.tree ≡ old.tree) fd n.ensures.stays)

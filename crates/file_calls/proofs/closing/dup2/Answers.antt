@@ -13,10 +13,10 @@ use Rattle.store_objects.proofs.Replying.{no_frames}
 use Rattle.store_objects.specs.Trees.{others_in}
 use Rattle.store_objects.proofs.StoreFiles.{holds_names}
 use Rattle.store_objects.proofs.Keeping.{listed_in}
-use Rattle.store_objects.proofs.Paying.{uses_nothing, uses_then}
+use Rattle.store_objects.proofs.Paying.{uses_nothing, uses_then, uses_more}
 use Rattle.store_objects.proofs.Within.{within_same}
-use Rattle.file_calls.proofs.CallingOpens.{holds_some_names, kept_mid, key_who_runs, mid, runs_mid, serves_naming}
-use Rattle.file_calls.proofs.Purses.{can_pay, may_close, uses_back}
+use Rattle.file_calls.proofs.CallingOpens.{holds_some_names, kept_mid, mid, runs_mid, serves_naming}
+use Rattle.file_calls.proofs.Purses.{can_pay, may_close, uses_back, room_kept}
 use Rattle.file_calls.proofs.Reached.{leaves_numbers, second_off, stays_replaced}
 use Rattle.file_calls.proofs.closing.dup2.Goals as goal
 
@@ -26,45 +26,43 @@ dup_number-made-requires-clause-listed c = listed_in c.args.script.now c.args.ob
 pub dup_number-made-requires-clause-owners : goal.dup_number-made-requires-clause-owners
 dup_number-made-requires-clause-owners c = c.requires.stands.1.kept.owners
 
-pub dup_number-made-requires-clause-there : goal.dup_number-made-requires-clause-there
-dup_number-made-requires-clause-there c = key_who_runs c.args.script.now c.args.objects.now c.args.pid c.args.control c.requires.stands.1.kept c.requires.runs
-
 pub dup_number-made-requires-clause-hold : goal.dup_number-made-requires-clause-hold
 dup_number-made-requires-clause-hold c =
     holds_some_names c.args.script.now c.args.objects.now c.requires.stands.0 c.requires.stands.1 c.requires.stands.2 c.heap_is_well_formed.ensures
 
 pub dup_number-made-requires-clause-may : goal.dup_number-made-requires-clause-may
 dup_number-made-requires-clause-may c =
-    let purse = c.kept_back-purse in
-    may_close c.args.objects.now.heap purse.result purse.ensures.value (can_pay c.args.objects.now.heap purse.result purse.ensures.bytes c.requires.room)
+    let purse = c.kept_back-back in
+    may_close c.args.objects.now.heap purse.result purse.ensures.value (can_pay c.args.objects.now.heap purse.result purse.ensures.bytes (room_kept c.args.objects.now.heap _ c.requires.room))
 
 pub go_on-requires-clause-kept : goal.go_on-requires-clause-kept
 go_on-requires-clause-kept c =
     let n = c.dup_number-made in
     let some = n.ensures.hold in
-    kept_mid c.args.script.now c.args.objects.now n.new.heap n.new.tree n.new.names c.args.pid c.args.control c.requires.stands.1.kept c.requires.runs n.ensures.changes n.ensures.listed n.ensures.owners
+    kept_mid c.args.script.now c.args.objects.now n.new.heap n.new.tree n.new.names c.args.caller.now.place.pid c.args.caller.now.control c.requires.stands.1.kept c.requires.runs n.ensures.changes n.ensures.listed n.ensures.owners
     some.hold.bound n.ensures.places (record { numbers = some.numbers; others = some.others; files = some.files; hold = some.hold.held })
 
 pub go_on-requires-clause-runs : goal.go_on-requires-clause-runs
 go_on-requires-clause-runs c =
     let n = c.dup_number-made in
     let some = n.ensures.hold in
-    runs_mid c.args.script.now c.args.objects.now n.new.heap n.new.tree n.new.names c.args.pid c.args.control c.requires.stands.1.kept c.requires.runs n.ensures.changes n.ensures.listed n.ensures.owners
+    runs_mid c.args.script.now c.args.objects.now n.new.heap n.new.tree n.new.names c.args.caller.now.place.pid c.args.caller.now.control c.requires.stands.1.kept c.requires.runs n.ensures.changes n.ensures.listed n.ensures.owners
     some.hold.bound n.ensures.places (record { numbers = some.numbers; others = some.others; files = some.files; hold = some.hold.held })
 
 pub returns-clause-uses : goal.returns-clause-uses
 returns-clause-uses c =
     let n = c.dup_number-made in
-    let purse = c.kept_back-purse in
-    uses_then c.args.objects.now.heap n.new.heap c.go_on.new.objects.heap _
-    (uses_back c.args.objects.now.heap n.new.heap purse.result n.new.purse n.ensures.same purse.ensures.bytes n.ensures.paid)
-    (uses_nothing n.new.heap c.go_on.new.objects.heap 0 _ c.go_on.ensures.takes)
+    let purse = c.kept_back-back in
+    uses_more c.args.objects.now.heap c.go_on.new.objects.heap _ _
+    (uses_then c.args.objects.now.heap n.new.heap c.go_on.new.objects.heap _
+    (uses_back c.args.objects.now.heap n.new.heap purse.result n.new.back n.ensures.same purse.ensures.bytes n.ensures.paid)
+    (uses_nothing n.new.heap c.go_on.new.objects.heap 0 _ c.go_on.ensures.takes))
 
 pub returns-clause-does : goal.returns-clause-does
 returns-clause-does c =
     let script = c.args.script.now in
     let old = c.args.objects.now in
-    let pid = c.args.pid in
+    let pid = c.args.caller.now.place.pid in
     let n = c.dup_number-made in
     let some = n.ensures.hold in
     let kept = c.requires.stands.1.kept in
@@ -73,10 +71,10 @@ returns-clause-does c =
     let fd = to_z-of_z w64 c.args.fd c.ranges.fd in
     let to = to_z-of_z w64 c.args.to c.ranges.to in
     let one : HoldSome n.new.heap old.procs n.new.tree = record { numbers = some.numbers; others = some.others; files = some.files; hold = some.hold.held } in
-    serves_naming script old n.new.heap n.new.tree n.new.names pid c.args.control kept c.requires.runs n.ensures.changes n.ensures.listed n.ensures.owners some.hold.bound n.ensures.places one
+    serves_naming script old n.new.heap n.new.tree n.new.names pid c.args.caller.now.control kept c.requires.runs n.ensures.changes n.ensures.listed n.ensures.owners some.hold.bound n.ensures.places one
     which said c.go_on.result c.go_on.new.objects (λ plain. dup2 script plain pid c.args.fd c.args.to) c.heap_is_well_formed.ensures
-    (within_same old (mid script old n.new.heap n.new.tree n.new.names pid c.args.control kept c.requires.runs n.ensures.changes n.ensures.listed n.ensures.owners some.hold.bound n.ensures.places one)
-    c.kept_back-purse.result n.new.purse which n.ensures.paid n.ensures.same n.ensures.reads)
+    (within_same old (mid script old n.new.heap n.new.tree n.new.names pid c.args.caller.now.control kept c.requires.runs n.ensures.changes n.ensures.listed n.ensures.owners some.hold.bound n.ensures.places one)
+    c.kept_back-back.result n.new.back which n.ensures.paid n.ensures.same n.ensures.reads)
     n.ensures.queues c.go_on.ensures.told c.go_on.ensures.goes (no_frames which (λ frames pid value. refl) pid said)
     (λ numbers others plain hold.
     subst (AnswersNaming numbers others n.new.heap old.procs n.new.tree n.new.names script plain pid (dup2 script plain pid c.args.fd c.args.to)) (sym c.value.ensures)
@@ -84,7 +82,7 @@ returns-clause-does c =
     (subst (λ z. AnswersNaming numbers others n.new.heap old.procs n.new.tree n.new.names script plain pid (dup2 script plain pid z (to_z w64 (of_z w64 c.args.to))) (value_of n.result)) fd
     (n.ensures.answers numbers others script plain hold))))
     (λ world next stands.
-    leaves_numbers old (mid script old n.new.heap n.new.tree n.new.names pid c.args.control kept c.requires.runs n.ensures.changes n.ensures.listed n.ensures.owners some.hold.bound n.ensures.places one)
+    leaves_numbers old (mid script old n.new.heap n.new.tree n.new.names pid c.args.caller.now.control kept c.requires.runs n.ensures.changes n.ensures.listed n.ensures.owners some.hold.bound n.ensures.places one)
     world pid which (record { right = refl; paths = refl; leaves = refl; walks = refl }) said next
     (λ off.
     let first = c.requires.stands in

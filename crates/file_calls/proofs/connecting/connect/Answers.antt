@@ -21,7 +21,7 @@ use Rattle.store_objects.specs.Standing.{IsSound, StandsFor}
 use Rattle.store_objects.proofs.StoreFiles.{works_in_some}
 use Rattle.store_objects.proofs.Keeping.{listed_in}
 use Rattle.store_objects.proofs.Replying.{no_frames}
-use Rattle.file_calls.proofs.CallingNames.{AnswersSo, HasNamed, alive_who_runs, connect_cached, kept_named, key_who_runs, left_sock, mid_of, runs_named, serves_named}
+use Rattle.file_calls.proofs.CallingNames.{AnswersSo, HasNamed, alive_who_runs, connect_cached, kept_named, left_sock, mid_of, runs_named, serves_named}
 use Rattle.file_calls.proofs.connecting.connect.Goals as goal
 
 named : (script : Script) (old : Objects) (heap : Heap) (fs : TreeView) (names : List (Option ℕ)) (pid : ℕ) (fd as_fd : ℤ) (path : List ℕ) (is : Result (Unit {0}) Errno) (said : Reply) → as_fd ≡ fd → said ≡ zero_of is
@@ -48,14 +48,10 @@ pub connect_number-done-requires-clause-owners : goal.connect_number-done-requir
 connect_number-done-requires-clause-owners c =
     c.requires.stands.1.kept.owners
 
-pub connect_number-done-requires-clause-there : goal.connect_number-done-requires-clause-there
-connect_number-done-requires-clause-there c =
-    key_who_runs c.args.script.now c.args.objects.now c.args.pid c.args.control c.requires.stands.1.kept c.requires.runs
-
 pub connect_number-done-requires-clause-hold : goal.connect_number-done-requires-clause-hold
 connect_number-done-requires-clause-hold c =
-    works_in_some c.args.script.now c.args.objects.now c.requires.stands.0 c.requires.stands.1 c.heap_is_well_formed.ensures c.requires.stands.2 c.args.pid
-    (alive_who_runs c.args.objects.now c.args.pid c.args.control c.requires.runs)
+    works_in_some c.args.script.now c.args.objects.now c.requires.stands.0 c.requires.stands.1 c.heap_is_well_formed.ensures c.requires.stands.2 c.args.caller.now.place.pid
+    (alive_who_runs c.args.objects.now c.args.caller.now.place.pid c.args.caller.now.control c.requires.runs)
 
 pub connect_number-done-requires-clause-path : goal.connect_number-done-requires-clause-path
 connect_number-done-requires-clause-path c =
@@ -67,18 +63,18 @@ connect_number-done-requires-clause-left c =
 
 pub go_on-requires-clause-kept : goal.go_on-requires-clause-kept
 go_on-requires-clause-kept c =
-    kept_named c.args.script.now c.args.objects.now c.connect_number-done.new.heap c.connect_number-done.new.tree c.args.objects.now.names c.args.pid (λ plain. connect c.args.script.now plain c.args.pid c.args.fd c.args.path.now) c.zero.result
-    (named c.args.script.now c.args.objects.now c.connect_number-done.new.heap c.connect_number-done.new.tree c.args.objects.now.names c.args.pid c.args.fd _ c.args.path.now c.connect_number-done.result c.zero.result (to_z-of_z w64 c.args.fd c.ranges.fd) c.zero.ensures c.requires.stands
+    kept_named c.args.script.now c.args.objects.now c.connect_number-done.new.heap c.connect_number-done.new.tree c.args.objects.now.names c.args.caller.now.place.pid (λ plain. connect c.args.script.now plain c.args.caller.now.place.pid c.args.fd c.args.path.now) c.zero.result
+    (named c.args.script.now c.args.objects.now c.connect_number-done.new.heap c.connect_number-done.new.tree c.args.objects.now.names c.args.caller.now.place.pid c.args.fd _ c.args.path.now c.connect_number-done.result c.zero.result (to_z-of_z w64 c.args.fd c.ranges.fd) c.zero.ensures c.requires.stands
     c.heap_is_well_formed.ensures c.connect_number-done.ensures.changes c.connect_number-done.ensures.listed c.connect_number-done.ensures.owners c.connect_number-done.ensures.queues refl
     (λ n o plain hold works. c.connect_number-done.ensures.answers n o c.args.script.now plain hold works))
 
 pub go_on-requires-clause-runs : goal.go_on-requires-clause-runs
 go_on-requires-clause-runs c =
-    runs_named c.args.script.now c.args.objects.now c.connect_number-done.new.heap c.connect_number-done.new.tree c.args.objects.now.names c.args.pid (λ plain. connect c.args.script.now plain c.args.pid c.args.fd c.args.path.now) c.zero.result
-    (named c.args.script.now c.args.objects.now c.connect_number-done.new.heap c.connect_number-done.new.tree c.args.objects.now.names c.args.pid c.args.fd _ c.args.path.now c.connect_number-done.result c.zero.result (to_z-of_z w64 c.args.fd c.ranges.fd) c.zero.ensures c.requires.stands
+    runs_named c.args.script.now c.args.objects.now c.connect_number-done.new.heap c.connect_number-done.new.tree c.args.objects.now.names c.args.caller.now.place.pid (λ plain. connect c.args.script.now plain c.args.caller.now.place.pid c.args.fd c.args.path.now) c.zero.result
+    (named c.args.script.now c.args.objects.now c.connect_number-done.new.heap c.connect_number-done.new.tree c.args.objects.now.names c.args.caller.now.place.pid c.args.fd _ c.args.path.now c.connect_number-done.result c.zero.result (to_z-of_z w64 c.args.fd c.ranges.fd) c.zero.ensures c.requires.stands
     c.heap_is_well_formed.ensures c.connect_number-done.ensures.changes c.connect_number-done.ensures.listed c.connect_number-done.ensures.owners c.connect_number-done.ensures.queues refl
     (λ n o plain hold works. c.connect_number-done.ensures.answers n o c.args.script.now plain hold works))
-    c.args.control c.requires.runs
+    c.args.caller.now.control c.requires.runs
 
 pub returns-clause-paid : goal.returns-clause-paid
 returns-clause-paid c =
@@ -87,14 +83,14 @@ returns-clause-paid c =
 
 pub returns-clause-does : goal.returns-clause-does
 returns-clause-does c =
-    serves_named c.args.script.now c.args.objects.now c.connect_number-done.new.heap c.connect_number-done.new.tree c.args.objects.now.names c.args.pid (λ plain. connect c.args.script.now plain c.args.pid c.args.fd c.args.path.now) c.zero.result
-    (named c.args.script.now c.args.objects.now c.connect_number-done.new.heap c.connect_number-done.new.tree c.args.objects.now.names c.args.pid c.args.fd _ c.args.path.now c.connect_number-done.result c.zero.result (to_z-of_z w64 c.args.fd c.ranges.fd) c.zero.ensures c.requires.stands
+    serves_named c.args.script.now c.args.objects.now c.connect_number-done.new.heap c.connect_number-done.new.tree c.args.objects.now.names c.args.caller.now.place.pid (λ plain. connect c.args.script.now plain c.args.caller.now.place.pid c.args.fd c.args.path.now) c.zero.result
+    (named c.args.script.now c.args.objects.now c.connect_number-done.new.heap c.connect_number-done.new.tree c.args.objects.now.names c.args.caller.now.place.pid c.args.fd _ c.args.path.now c.connect_number-done.result c.zero.result (to_z-of_z w64 c.args.fd c.ranges.fd) c.zero.ensures c.requires.stands
     c.heap_is_well_formed.ensures c.connect_number-done.ensures.changes c.connect_number-done.ensures.listed c.connect_number-done.ensures.owners c.connect_number-done.ensures.queues refl
     (λ n o plain hold works. c.connect_number-done.ensures.answers n o c.args.script.now plain hold works))
     (call.Connect c.args.fd c.args.path.now) c.args.purse.now c.connect_number-done.new.purse c.go_on.result c.go_on.new.objects c.connect_number-done.ensures.paid c.requires.needed c.connect_number-done.ensures.reads c.go_on.ensures.told c.go_on.ensures.goes
-    (no_frames (call.Connect c.args.fd c.args.path.now) (λ frames pid value. refl) c.args.pid c.zero.result)
+    (no_frames (call.Connect c.args.fd c.args.path.now) (λ frames pid value. refl) c.args.caller.now.place.pid c.zero.result)
     (λ world stands files then.
     let m = c.connect_number-done in
-    subst (λ said. LeavesCached c.args.objects.now (mid_of c.args.objects.now m.new.heap m.new.tree c.args.objects.now.names) world c.args.pid (call.Connect c.args.fd c.args.path.now) said (with_files world.plain files)) (sym c.zero.ensures)
-    (connect_cached c.args.script.now c.args.objects.now (mid_of c.args.objects.now m.new.heap m.new.tree c.args.objects.now.names) c.args.pid c.args.control c.requires.runs c.args.fd c.args.path.now c.args.purse.now m.result
+    subst (λ said. LeavesCached c.args.objects.now (mid_of c.args.objects.now m.new.heap m.new.tree c.args.objects.now.names) world c.args.caller.now.place.pid (call.Connect c.args.fd c.args.path.now) said (with_files world.plain files)) (sym c.zero.ensures)
+    (connect_cached c.args.script.now c.args.objects.now (mid_of c.args.objects.now m.new.heap m.new.tree c.args.objects.now.names) c.args.caller.now.place.pid c.args.caller.now.control c.requires.runs c.args.fd c.args.path.now c.args.purse.now m.result
     c.requires.right m.ensures.bytes m.ensures.saved m.ensures.kept m.ensures.found world stands files then))

@@ -19,7 +19,7 @@ use Rattle.store_objects.specs.declared.objects.Objects.{Objects}
 use Rattle.store_objects.specs.Standing.{IsSound, StandsFor}
 use Rattle.store_objects.proofs.Keeping.{listed_in}
 use Rattle.store_objects.proofs.Within.{within_paid}
-use Rattle.file_calls.proofs.Calling.{AnswersSo, HasChanged, holds_some, kept_changed, key_who_runs, leaves_others, mid_of, runs_changed, serves_changed}
+use Rattle.file_calls.proofs.Calling.{AnswersSo, HasChanged, holds_some, kept_changed, leaves_others, mid_of, runs_changed, serves_changed}
 use Rattle.file_calls.proofs.Needed.{of_two}
 use Rattle.file_calls.proofs.offsets.ftruncate.Goals as goal
 
@@ -48,26 +48,23 @@ size_number-done-requires-clause-listed c = listed_in c.args.script.now c.args.o
 pub size_number-done-requires-clause-owners : goal.size_number-done-requires-clause-owners
 size_number-done-requires-clause-owners c = c.requires.stands.1.kept.owners
 
-pub size_number-done-requires-clause-there : goal.size_number-done-requires-clause-there
-size_number-done-requires-clause-there c = key_who_runs c.args.script.now c.args.objects.now c.args.pid c.args.control c.requires.stands.1.kept c.requires.runs
-
 pub size_number-done-requires-clause-hold : goal.size_number-done-requires-clause-hold
 size_number-done-requires-clause-hold c = holds_some c.args.script.now c.args.objects.now c.requires.stands.0 c.requires.stands.1 c.requires.stands.2 c.heap_is_well_formed.ensures
 
 pub go_on-requires-clause-kept : goal.go_on-requires-clause-kept
 go_on-requires-clause-kept c =
-    kept_changed c.args.script.now c.args.objects.now c.size_number-done.new.heap c.size_number-done.new.tree c.args.pid (call.Ftruncate c.args.fd c.args.size) c.args.fd (λ plain. ftruncate c.args.script.now plain c.args.pid c.args.fd c.args.size) c.zero.result
-    (changed c.args.script.now c.args.objects.now c.size_number-done.new.heap c.size_number-done.new.tree c.args.pid c.args.fd c.args.size _ _ c.size_number-done.result c.zero.result
+    kept_changed c.args.script.now c.args.objects.now c.size_number-done.new.heap c.size_number-done.new.tree c.args.caller.now.place.pid (call.Ftruncate c.args.fd c.args.size) c.args.fd (λ plain. ftruncate c.args.script.now plain c.args.caller.now.place.pid c.args.fd c.args.size) c.zero.result
+    (changed c.args.script.now c.args.objects.now c.size_number-done.new.heap c.size_number-done.new.tree c.args.caller.now.place.pid c.args.fd c.args.size _ _ c.size_number-done.result c.zero.result
     (to_z-of_z w64 c.args.fd c.ranges.fd) (to_z-of_z w64 c.args.size c.ranges.size) c.zero.ensures c.size_number-done.ensures.pays.only c.requires.stands
     c.heap_is_well_formed.ensures c.size_number-done.ensures.listed c.size_number-done.ensures.owners c.requires.right c.size_number-done.ensures.stays (λ numbers others plain. c.size_number-done.ensures.answers numbers others c.args.script.now plain))
 
 pub go_on-requires-clause-runs : goal.go_on-requires-clause-runs
 go_on-requires-clause-runs c =
-    runs_changed c.args.script.now c.args.objects.now c.size_number-done.new.heap c.size_number-done.new.tree c.args.pid (call.Ftruncate c.args.fd c.args.size) c.args.fd (λ plain. ftruncate c.args.script.now plain c.args.pid c.args.fd c.args.size) c.zero.result
-    (changed c.args.script.now c.args.objects.now c.size_number-done.new.heap c.size_number-done.new.tree c.args.pid c.args.fd c.args.size _ _ c.size_number-done.result c.zero.result
+    runs_changed c.args.script.now c.args.objects.now c.size_number-done.new.heap c.size_number-done.new.tree c.args.caller.now.place.pid (call.Ftruncate c.args.fd c.args.size) c.args.fd (λ plain. ftruncate c.args.script.now plain c.args.caller.now.place.pid c.args.fd c.args.size) c.zero.result
+    (changed c.args.script.now c.args.objects.now c.size_number-done.new.heap c.size_number-done.new.tree c.args.caller.now.place.pid c.args.fd c.args.size _ _ c.size_number-done.result c.zero.result
     (to_z-of_z w64 c.args.fd c.ranges.fd) (to_z-of_z w64 c.args.size c.ranges.size) c.zero.ensures c.size_number-done.ensures.pays.only c.requires.stands
     c.heap_is_well_formed.ensures c.size_number-done.ensures.listed c.size_number-done.ensures.owners c.requires.right c.size_number-done.ensures.stays (λ numbers others plain. c.size_number-done.ensures.answers numbers others c.args.script.now plain))
-    c.args.control c.requires.runs
+    c.args.caller.now.control c.requires.runs
 
 pub returns-clause-paid : goal.returns-clause-paid
 returns-clause-paid c =
@@ -76,11 +73,11 @@ returns-clause-paid c =
 
 pub returns-clause-does : goal.returns-clause-does
 returns-clause-does c =
-    serves_changed c.args.script.now c.args.objects.now c.size_number-done.new.heap c.size_number-done.new.tree c.args.pid (call.Ftruncate c.args.fd c.args.size) c.args.fd (λ plain. ftruncate c.args.script.now plain c.args.pid c.args.fd c.args.size) c.zero.result
-    (changed c.args.script.now c.args.objects.now c.size_number-done.new.heap c.size_number-done.new.tree c.args.pid c.args.fd c.args.size _ _ c.size_number-done.result c.zero.result
+    serves_changed c.args.script.now c.args.objects.now c.size_number-done.new.heap c.size_number-done.new.tree c.args.caller.now.place.pid (call.Ftruncate c.args.fd c.args.size) c.args.fd (λ plain. ftruncate c.args.script.now plain c.args.caller.now.place.pid c.args.fd c.args.size) c.zero.result
+    (changed c.args.script.now c.args.objects.now c.size_number-done.new.heap c.size_number-done.new.tree c.args.caller.now.place.pid c.args.fd c.args.size _ _ c.size_number-done.result c.zero.result
     (to_z-of_z w64 c.args.fd c.ranges.fd) (to_z-of_z w64 c.args.size c.ranges.size) c.zero.ensures c.size_number-done.ensures.pays.only c.requires.stands
     c.heap_is_well_formed.ensures c.size_number-done.ensures.listed c.size_number-done.ensures.owners c.requires.right c.size_number-done.ensures.stays (λ numbers others plain. c.size_number-done.ensures.answers numbers others c.args.script.now plain))
     c.go_on.result c.go_on.new.objects
     (within_paid c.args.objects.now (mid_of c.args.objects.now c.size_number-done.new.heap c.size_number-done.new.tree) c.args.purse.now c.size_number-done.new.purse (call.Ftruncate c.args.fd c.args.size) c.size_number-done.ensures.pays.paid
     (ap (λ need. need.name) c.requires.needed) (ap (λ need. need.block) c.requires.needed) (ap (λ need. need.vnode) c.requires.needed) c.size_number-done.ensures.pays.reads)
-    c.go_on.ensures.told c.go_on.ensures.goes (no_frames (call.Ftruncate c.args.fd c.args.size) (λ frames pid value. refl) c.args.pid c.zero.result)
+    c.go_on.ensures.told c.go_on.ensures.goes (no_frames (call.Ftruncate c.args.fd c.args.size) (λ frames pid value. refl) c.args.caller.now.place.pid c.zero.result)

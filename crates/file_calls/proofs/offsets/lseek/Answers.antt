@@ -21,7 +21,7 @@ use Rattle.store_objects.specs.Trees.{others_in}
 use Rattle.store_objects.proofs.StoreFiles.{holds_names}
 use Rattle.store_objects.proofs.Keeping.{listed_in}
 use Rattle.store_objects.proofs.Within.{within_nothing}
-use Rattle.file_calls.proofs.Calling.{AnswersSo, HasChanged, holds_some, kept_changed, key_who_runs, leaves_others, mid_of, runs_changed, serves_changed}
+use Rattle.file_calls.proofs.Calling.{AnswersSo, HasChanged, holds_some, kept_changed, leaves_others, mid_of, runs_changed, serves_changed}
 use Rattle.file_calls.proofs.Needed.{of_three}
 use Rattle.file_calls.proofs.Sought.{told_within}
 use Rattle.file_calls.proofs.offsets.lseek.Goals as goal
@@ -54,9 +54,6 @@ seek_number-sought-requires-clause-listed c = listed_in c.args.script.now c.args
 pub seek_number-sought-requires-clause-owners : goal.seek_number-sought-requires-clause-owners
 seek_number-sought-requires-clause-owners c = c.requires.stands.1.kept.owners
 
-pub seek_number-sought-requires-clause-there : goal.seek_number-sought-requires-clause-there
-seek_number-sought-requires-clause-there c = key_who_runs c.args.script.now c.args.objects.now c.args.pid c.args.control c.requires.stands.1.kept c.requires.runs
-
 pub seek_number-sought-requires-clause-hold : goal.seek_number-sought-requires-clause-hold
 seek_number-sought-requires-clause-hold c = holds_some c.args.script.now c.args.objects.now c.requires.stands.0 c.requires.stands.1 c.requires.stands.2 c.heap_is_well_formed.ensures
 
@@ -65,32 +62,32 @@ offset-requires c =
     let some = c.requires.stands in
     let holds = holds_names c.args.script.now c.args.objects.now some.0 some.1 c.heap_is_well_formed.ensures some.2 in
     let it = c.seek_number-sought.ensures.answers some.1.files.numbers (others_in some.0.plain) c.args.script.now some.0.plain holds.held in
-    told_within c.args.script.now some.0.plain c.args.pid _ _ _ c.seek_number-sought.result it.files it.replies
+    told_within c.args.script.now some.0.plain c.args.caller.now.place.pid _ _ _ c.seek_number-sought.result it.files it.replies
 
 pub go_on-requires-clause-kept : goal.go_on-requires-clause-kept
 go_on-requires-clause-kept c =
-    kept_changed c.args.script.now c.args.objects.now c.seek_number-sought.new.heap c.seek_number-sought.new.tree c.args.pid (call.Lseek c.args.fd c.args.distance c.args.whence) c.args.fd (λ plain. lseek c.args.script.now plain c.args.pid c.args.fd c.args.distance c.args.whence) c.offset.result
-    (changed c.args.script.now c.args.objects.now c.seek_number-sought.new.heap c.seek_number-sought.new.tree c.args.pid c.args.fd c.args.distance c.args.whence _ _ _ c.seek_number-sought.result c.offset.result
+    kept_changed c.args.script.now c.args.objects.now c.seek_number-sought.new.heap c.seek_number-sought.new.tree c.args.caller.now.place.pid (call.Lseek c.args.fd c.args.distance c.args.whence) c.args.fd (λ plain. lseek c.args.script.now plain c.args.caller.now.place.pid c.args.fd c.args.distance c.args.whence) c.offset.result
+    (changed c.args.script.now c.args.objects.now c.seek_number-sought.new.heap c.seek_number-sought.new.tree c.args.caller.now.place.pid c.args.fd c.args.distance c.args.whence _ _ _ c.seek_number-sought.result c.offset.result
     (to_z-of_z w64 c.args.fd c.ranges.fd) (to_z-of_z w64 c.args.distance c.ranges.distance) (to_z-of_z w64 c.args.whence c.ranges.whence) c.offset.ensures c.seek_number-sought.ensures.beside c.requires.stands
     c.heap_is_well_formed.ensures c.seek_number-sought.ensures.listed c.seek_number-sought.ensures.owners c.requires.right c.seek_number-sought.ensures.stays (λ numbers others plain. c.seek_number-sought.ensures.answers numbers others c.args.script.now plain))
 
 pub go_on-requires-clause-runs : goal.go_on-requires-clause-runs
 go_on-requires-clause-runs c =
-    runs_changed c.args.script.now c.args.objects.now c.seek_number-sought.new.heap c.seek_number-sought.new.tree c.args.pid (call.Lseek c.args.fd c.args.distance c.args.whence) c.args.fd (λ plain. lseek c.args.script.now plain c.args.pid c.args.fd c.args.distance c.args.whence) c.offset.result
-    (changed c.args.script.now c.args.objects.now c.seek_number-sought.new.heap c.seek_number-sought.new.tree c.args.pid c.args.fd c.args.distance c.args.whence _ _ _ c.seek_number-sought.result c.offset.result
+    runs_changed c.args.script.now c.args.objects.now c.seek_number-sought.new.heap c.seek_number-sought.new.tree c.args.caller.now.place.pid (call.Lseek c.args.fd c.args.distance c.args.whence) c.args.fd (λ plain. lseek c.args.script.now plain c.args.caller.now.place.pid c.args.fd c.args.distance c.args.whence) c.offset.result
+    (changed c.args.script.now c.args.objects.now c.seek_number-sought.new.heap c.seek_number-sought.new.tree c.args.caller.now.place.pid c.args.fd c.args.distance c.args.whence _ _ _ c.seek_number-sought.result c.offset.result
     (to_z-of_z w64 c.args.fd c.ranges.fd) (to_z-of_z w64 c.args.distance c.ranges.distance) (to_z-of_z w64 c.args.whence c.ranges.whence) c.offset.ensures c.seek_number-sought.ensures.beside c.requires.stands
     c.heap_is_well_formed.ensures c.seek_number-sought.ensures.listed c.seek_number-sought.ensures.owners c.requires.right c.seek_number-sought.ensures.stays (λ numbers others plain. c.seek_number-sought.ensures.answers numbers others c.args.script.now plain))
-    c.args.control c.requires.runs
+    c.args.caller.now.control c.requires.runs
 
 pub returns-clause-takes : goal.returns-clause-takes
 returns-clause-takes c = TakesNothing-trans c.args.objects.now.heap c.seek_number-sought.new.heap c.go_on.new.objects.heap c.seek_number-sought.ensures.takes c.go_on.ensures.takes
 
 pub returns-clause-does : goal.returns-clause-does
 returns-clause-does c =
-    serves_changed c.args.script.now c.args.objects.now c.seek_number-sought.new.heap c.seek_number-sought.new.tree c.args.pid (call.Lseek c.args.fd c.args.distance c.args.whence) c.args.fd (λ plain. lseek c.args.script.now plain c.args.pid c.args.fd c.args.distance c.args.whence) c.offset.result
-    (changed c.args.script.now c.args.objects.now c.seek_number-sought.new.heap c.seek_number-sought.new.tree c.args.pid c.args.fd c.args.distance c.args.whence _ _ _ c.seek_number-sought.result c.offset.result
+    serves_changed c.args.script.now c.args.objects.now c.seek_number-sought.new.heap c.seek_number-sought.new.tree c.args.caller.now.place.pid (call.Lseek c.args.fd c.args.distance c.args.whence) c.args.fd (λ plain. lseek c.args.script.now plain c.args.caller.now.place.pid c.args.fd c.args.distance c.args.whence) c.offset.result
+    (changed c.args.script.now c.args.objects.now c.seek_number-sought.new.heap c.seek_number-sought.new.tree c.args.caller.now.place.pid c.args.fd c.args.distance c.args.whence _ _ _ c.seek_number-sought.result c.offset.result
     (to_z-of_z w64 c.args.fd c.ranges.fd) (to_z-of_z w64 c.args.distance c.ranges.distance) (to_z-of_z w64 c.args.whence c.ranges.whence) c.offset.ensures c.seek_number-sought.ensures.beside c.requires.stands
     c.heap_is_well_formed.ensures c.seek_number-sought.ensures.listed c.seek_number-sought.ensures.owners c.requires.right c.seek_number-sought.ensures.stays (λ numbers others plain. c.seek_number-sought.ensures.answers numbers others c.args.script.now plain))
     c.go_on.result c.go_on.new.objects
     (within_nothing c.args.objects.now (mid_of c.args.objects.now c.seek_number-sought.new.heap c.seek_number-sought.new.tree) (call.Lseek c.args.fd c.args.distance c.args.whence) c.seek_number-sought.ensures.takes (reads_used c.args.objects.now.tree c.seek_number-sought.new.tree c.seek_number-sought.ensures.used))
-    c.go_on.ensures.told c.go_on.ensures.goes (no_frames (call.Lseek c.args.fd c.args.distance c.args.whence) (λ frames pid value. refl) c.args.pid c.offset.result)
+    c.go_on.ensures.told c.go_on.ensures.goes (no_frames (call.Lseek c.args.fd c.args.distance c.args.whence) (λ frames pid value. refl) c.args.caller.now.place.pid c.offset.result)

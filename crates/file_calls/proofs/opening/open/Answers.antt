@@ -19,7 +19,7 @@ use Rattle.store_objects.proofs.StoreFiles.{works_somewhere}
 use Rattle.store_objects.proofs.Keeping.{listed_in}
 use Rattle.store_objects.proofs.Replies.{GoesOn}
 use Rattle.store_objects.proofs.Within.{within_paid}
-use Rattle.file_calls.proofs.CallingOpens.{alive_who_runs, bound_still, kept_mid, key_who_runs, mid, runs_mid, serves_anew}
+use Rattle.file_calls.proofs.CallingOpens.{alive_who_runs, bound_still, kept_mid, mid, runs_mid, serves_anew}
 use Rattle.file_calls.proofs.Opens.{leaves_open, one_left}
 use Rattle.file_calls.proofs.opening.open.Goals as goal
 
@@ -29,13 +29,10 @@ open_path-opened-requires-clause-listed c = listed_in c.args.script.now c.args.o
 pub open_path-opened-requires-clause-owners : goal.open_path-opened-requires-clause-owners
 open_path-opened-requires-clause-owners c = c.requires.stands.1.kept.owners
 
-pub open_path-opened-requires-clause-there : goal.open_path-opened-requires-clause-there
-open_path-opened-requires-clause-there c = key_who_runs c.args.script.now c.args.objects.now c.args.pid c.args.control c.requires.stands.1.kept c.requires.runs
-
 pub open_path-opened-requires-clause-works : goal.open_path-opened-requires-clause-works
 open_path-opened-requires-clause-works c =
     let some = c.requires.stands in
-    works_somewhere c.args.script.now c.args.objects.now some.0 some.1 c.heap_is_well_formed.ensures some.2 c.args.pid (alive_who_runs c.args.objects.now c.args.pid c.args.control c.requires.runs)
+    works_somewhere c.args.script.now c.args.objects.now some.0 some.1 c.heap_is_well_formed.ensures some.2 c.args.caller.now.place.pid (alive_who_runs c.args.objects.now c.args.caller.now.place.pid c.args.caller.now.control c.requires.runs)
 
 pub open_path-opened-requires-clause-right : goal.open_path-opened-requires-clause-right
 open_path-opened-requires-clause-right c =
@@ -48,14 +45,14 @@ pub go_on-requires-clause-kept : goal.go_on-requires-clause-kept
 go_on-requires-clause-kept c =
     let n = c.open_path-opened in
     let kept = c.requires.stands.1.kept in
-    kept_mid c.args.script.now c.args.objects.now n.new.heap n.new.tree c.args.objects.now.names c.args.pid c.args.control kept c.requires.runs n.ensures.changes n.ensures.listed n.ensures.owners
+    kept_mid c.args.script.now c.args.objects.now n.new.heap n.new.tree c.args.objects.now.names c.args.caller.now.place.pid c.args.caller.now.control kept c.requires.runs n.ensures.changes n.ensures.listed n.ensures.owners
     (bound_still c.args.script.now c.args.objects.now n.new.heap kept n.ensures.socks) refl n.ensures.hold
 
 pub go_on-requires-clause-runs : goal.go_on-requires-clause-runs
 go_on-requires-clause-runs c =
     let n = c.open_path-opened in
     let kept = c.requires.stands.1.kept in
-    runs_mid c.args.script.now c.args.objects.now n.new.heap n.new.tree c.args.objects.now.names c.args.pid c.args.control kept c.requires.runs n.ensures.changes n.ensures.listed n.ensures.owners
+    runs_mid c.args.script.now c.args.objects.now n.new.heap n.new.tree c.args.objects.now.names c.args.caller.now.place.pid c.args.caller.now.control kept c.requires.runs n.ensures.changes n.ensures.listed n.ensures.owners
     (bound_still c.args.script.now c.args.objects.now n.new.heap kept n.ensures.socks) refl n.ensures.hold
 
 pub returns-clause-paid : goal.returns-clause-paid
@@ -68,7 +65,7 @@ pub returns-clause-does : goal.returns-clause-does
 returns-clause-does c =
     let script = c.args.script.now in
     let old = c.args.objects.now in
-    let pid = c.args.pid in
+    let pid = c.args.caller.now.place.pid in
     let path = c.args.path.now in
     let n = c.open_path-opened in
     let kept = c.requires.stands.1.kept in
@@ -76,8 +73,8 @@ returns-clause-does c =
     let said = value_of n.result in
     let flags = to_z-of_z w64 c.args.flags c.ranges.flags in
     let bound = bound_still script old n.new.heap kept n.ensures.socks in
-    let then = mid script old n.new.heap n.new.tree old.names pid c.args.control kept c.requires.runs n.ensures.changes n.ensures.listed n.ensures.owners bound refl n.ensures.hold in
-    serves_anew script old n.new.heap n.new.tree old.names pid c.args.control kept c.requires.runs n.ensures.changes n.ensures.listed n.ensures.owners bound refl n.ensures.hold
+    let then = mid script old n.new.heap n.new.tree old.names pid c.args.caller.now.control kept c.requires.runs n.ensures.changes n.ensures.listed n.ensures.owners bound refl n.ensures.hold in
+    serves_anew script old n.new.heap n.new.tree old.names pid c.args.caller.now.control kept c.requires.runs n.ensures.changes n.ensures.listed n.ensures.owners bound refl n.ensures.hold
     which said c.go_on.result c.go_on.new.objects (λ plain. open_file script plain pid path c.args.flags) c.heap_is_well_formed.ensures
     (within_paid old then c.args.purse.now n.new.purse which n.ensures.paid
     (ap (λ (need : Need). need.name) c.requires.needed) (ap (λ (need : Need). need.block) c.requires.needed) (ap (λ (need : Need). need.vnode) c.requires.needed) n.ensures.reads)

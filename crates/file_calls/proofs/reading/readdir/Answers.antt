@@ -43,7 +43,7 @@ pub read_entries-moved-requires-clause-kept : goal.read_entries-moved-requires-c
 read_entries-moved-requires-clause-kept c = is_kept c.args.script.now c.args.objects.now c.requires.stands.1.kept
 
 pub read_entries-moved-requires-clause-alive : goal.read_entries-moved-requires-clause-alive
-read_entries-moved-requires-clause-alive c = alive_who_runs c.args.objects.now c.args.pid c.args.control c.requires.runs
+read_entries-moved-requires-clause-alive c = alive_who_runs c.args.objects.now c.args.caller.now.place.pid c.args.caller.now.control c.requires.runs
 
 pub read_entries-moved-requires-clause-hold : goal.read_entries-moved-requires-clause-hold
 read_entries-moved-requires-clause-hold c = holds_some c.args.script.now c.args.objects.now c.requires.stands.0 c.requires.stands.1 c.requires.stands.2 c.heap_is_well_formed.ensures
@@ -55,18 +55,18 @@ read_entries-moved-requires-clause-left c =
 
 pub go_on-requires-clause-kept : goal.go_on-requires-clause-kept
 go_on-requires-clause-kept c =
-    kept_moved c.args.script.now c.args.objects.now c.read_entries-moved.new.heap c.read_entries-moved.new.tree c.args.pid (call.Readdir c.args.fd c.args.addr c.args.n) c.args.fd (λ plain. readdir c.args.script.now plain c.args.pid c.args.fd c.args.addr c.args.n) c.value.result
-    (moved c.args.script.now c.args.objects.now c.read_entries-moved.new.heap c.read_entries-moved.new.tree c.args.pid c.args.fd c.args.addr c.args.n _ _ _ c.read_entries-moved.result c.value.result
+    kept_moved c.args.script.now c.args.objects.now c.read_entries-moved.new.heap c.read_entries-moved.new.tree c.args.caller.now.place.pid (call.Readdir c.args.fd c.args.addr c.args.n) c.args.fd (λ plain. readdir c.args.script.now plain c.args.caller.now.place.pid c.args.fd c.args.addr c.args.n) c.value.result
+    (moved c.args.script.now c.args.objects.now c.read_entries-moved.new.heap c.read_entries-moved.new.tree c.args.caller.now.place.pid c.args.fd c.args.addr c.args.n _ _ _ c.read_entries-moved.result c.value.result
     (to_z-of_z w64 c.args.fd c.ranges.fd) (to_z-of_z w64 c.args.addr c.ranges.addr) (to_z-of_z w64 c.args.n c.ranges.n) c.value.ensures c.read_entries-moved.ensures.beside c.requires.stands
     c.heap_is_well_formed.ensures c.read_entries-moved.ensures.kept c.requires.right c.read_entries-moved.ensures.stays (c.read_entries-moved.ensures.leads c.args.script.now))
 
 pub go_on-requires-clause-runs : goal.go_on-requires-clause-runs
 go_on-requires-clause-runs c =
-    runs_moved c.args.script.now c.args.objects.now c.read_entries-moved.new.heap c.read_entries-moved.new.tree c.args.pid (call.Readdir c.args.fd c.args.addr c.args.n) c.args.fd (λ plain. readdir c.args.script.now plain c.args.pid c.args.fd c.args.addr c.args.n) c.value.result
-    (moved c.args.script.now c.args.objects.now c.read_entries-moved.new.heap c.read_entries-moved.new.tree c.args.pid c.args.fd c.args.addr c.args.n _ _ _ c.read_entries-moved.result c.value.result
+    runs_moved c.args.script.now c.args.objects.now c.read_entries-moved.new.heap c.read_entries-moved.new.tree c.args.caller.now.place.pid (call.Readdir c.args.fd c.args.addr c.args.n) c.args.fd (λ plain. readdir c.args.script.now plain c.args.caller.now.place.pid c.args.fd c.args.addr c.args.n) c.value.result
+    (moved c.args.script.now c.args.objects.now c.read_entries-moved.new.heap c.read_entries-moved.new.tree c.args.caller.now.place.pid c.args.fd c.args.addr c.args.n _ _ _ c.read_entries-moved.result c.value.result
     (to_z-of_z w64 c.args.fd c.ranges.fd) (to_z-of_z w64 c.args.addr c.ranges.addr) (to_z-of_z w64 c.args.n c.ranges.n) c.value.ensures c.read_entries-moved.ensures.beside c.requires.stands
     c.heap_is_well_formed.ensures c.read_entries-moved.ensures.kept c.requires.right c.read_entries-moved.ensures.stays (c.read_entries-moved.ensures.leads c.args.script.now))
-    c.args.control c.requires.runs
+    c.args.caller.now.control c.requires.runs
 
 pub returns-clause-paid : goal.returns-clause-paid
 returns-clause-paid c =
@@ -75,17 +75,17 @@ returns-clause-paid c =
 
 pub returns-clause-does : goal.returns-clause-does
 returns-clause-does c =
-    serves_moved c.args.script.now c.args.objects.now c.read_entries-moved.new.heap c.read_entries-moved.new.tree c.args.pid (call.Readdir c.args.fd c.args.addr c.args.n) c.args.fd (λ plain. readdir c.args.script.now plain c.args.pid c.args.fd c.args.addr c.args.n) c.value.result
-    (moved c.args.script.now c.args.objects.now c.read_entries-moved.new.heap c.read_entries-moved.new.tree c.args.pid c.args.fd c.args.addr c.args.n _ _ _ c.read_entries-moved.result c.value.result
+    serves_moved c.args.script.now c.args.objects.now c.read_entries-moved.new.heap c.read_entries-moved.new.tree c.args.caller.now.place.pid (call.Readdir c.args.fd c.args.addr c.args.n) c.args.fd (λ plain. readdir c.args.script.now plain c.args.caller.now.place.pid c.args.fd c.args.addr c.args.n) c.value.result
+    (moved c.args.script.now c.args.objects.now c.read_entries-moved.new.heap c.read_entries-moved.new.tree c.args.caller.now.place.pid c.args.fd c.args.addr c.args.n _ _ _ c.read_entries-moved.result c.value.result
     (to_z-of_z w64 c.args.fd c.ranges.fd) (to_z-of_z w64 c.args.addr c.ranges.addr) (to_z-of_z w64 c.args.n c.ranges.n) c.value.ensures c.read_entries-moved.ensures.beside c.requires.stands
     c.heap_is_well_formed.ensures c.read_entries-moved.ensures.kept c.requires.right c.read_entries-moved.ensures.stays (c.read_entries-moved.ensures.leads c.args.script.now))
     c.go_on.result c.go_on.new.objects
     (within_paid c.args.objects.now (mid_of c.args.objects.now c.read_entries-moved.new.heap c.read_entries-moved.new.tree) c.args.purse.now c.read_entries-moved.new.purse (call.Readdir c.args.fd c.args.addr c.args.n) c.read_entries-moved.ensures.paid
     (ap (λ need. need.name) c.requires.needed) (ap (λ need. need.block) c.requires.needed) (ap (λ need. need.vnode) c.requires.needed) c.read_entries-moved.ensures.reads)
-    c.go_on.ensures.told c.go_on.ensures.goes (λ plain. readdir_kin c.args.script.now plain c.args.pid c.args.fd c.args.addr c.args.n)
+    c.go_on.ensures.told c.go_on.ensures.goes (λ plain. readdir_kin c.args.script.now plain c.args.caller.now.place.pid c.args.fd c.args.addr c.args.n)
 
 pub returns-clause-cached : goal.returns-clause-cached
 returns-clause-cached c =
     let m = c.read_entries-moved in
-    bytes_cached c.args.objects.now c.go_on.new.objects m.new.tree c.args.pid _ c.args.fd _ (λ (desc : Desc). desc.offset) m.result c.value.result c.go_on.result
+    bytes_cached c.args.objects.now c.go_on.new.objects m.new.tree c.args.caller.now.place.pid _ c.args.fd _ (λ (desc : Desc). desc.offset) m.result c.value.result c.go_on.result
     (to_z-of_z w64 c.args.fd c.ranges.fd) (refl) c.value.ensures c.go_on.ensures.told c.go_on.ensures.tree m.ensures.saved m.ensures.last

@@ -1,5 +1,4 @@
 use Rattle.store_objects.proofs.Keeping.{listed_in}
-use Rattle.store_objects.proofs.RunningProcs.{has_key}
 use Rattle.store_objects.proofs.FileMoving.{kept_turned, runs_turned}
 use Rattle.file_calls.proofs.CallingOpens.{holds_some_names}
 use Rattle.file_calls.proofs.Purses.{can_pay, may_close, uses_back}
@@ -11,9 +10,6 @@ close_at_exec-requires-clause-listed c = listed_in c.args.script.now c.args.obje
 
 pub close_at_exec-requires-clause-owners : goal.close_at_exec-requires-clause-owners
 close_at_exec-requires-clause-owners c = c.requires.stands.1.kept.owners
-
-pub close_at_exec-requires-clause-there : goal.close_at_exec-requires-clause-there
-close_at_exec-requires-clause-there c = has_key c.args.script.now c.args.objects.now c.args.pid c.requires.stands.1.kept c.requires.alive
 
 pub close_at_exec-requires-clause-hold : goal.close_at_exec-requires-clause-hold
 close_at_exec-requires-clause-hold c =
@@ -29,14 +25,14 @@ returns-clause-kept c =
     let n = c.close_at_exec in
     let kept = c.requires.stands.1.kept in
     kept_turned c.args.script.now c.args.objects.now _ kept
-    (moves_shed c.args.script.now c.args.objects.now n.new.heap n.new.tree n.new.names c.args.pid kept c.requires.alive n.ensures.changes n.ensures.listed n.ensures.owners n.ensures.places n.ensures.hold)
+    (moves_shed c.args.script.now c.args.objects.now n.new.heap n.new.tree n.new.names c.args.place.pid kept c.requires.alive n.ensures.changes n.ensures.listed n.ensures.owners n.ensures.places n.ensures.hold)
 
 pub returns-clause-runs : goal.returns-clause-runs
 returns-clause-runs c = λ control runs.
     let n = c.close_at_exec in
     let kept = c.requires.stands.1.kept in
-    runs_turned c.args.objects.now _ c.args.pid control
-    (moves_shed c.args.script.now c.args.objects.now n.new.heap n.new.tree n.new.names c.args.pid kept c.requires.alive n.ensures.changes n.ensures.listed n.ensures.owners n.ensures.places n.ensures.hold) runs
+    runs_turned c.args.objects.now _ c.args.place.pid control
+    (moves_shed c.args.script.now c.args.objects.now n.new.heap n.new.tree n.new.names c.args.place.pid kept c.requires.alive n.ensures.changes n.ensures.listed n.ensures.owners n.ensures.places n.ensures.hold) runs
 
 pub returns-clause-uses : goal.returns-clause-uses
 returns-clause-uses c =
@@ -52,5 +48,5 @@ pub returns-clause-closed : goal.returns-clause-closed
 returns-clause-closed c = λ world stands sound.
     let n = c.close_at_exec in
     let kept = c.requires.stands.1.kept in
-    stands_shed c.args.script.now c.args.objects.now n.new.heap n.new.tree n.new.names c.args.pid kept c.requires.alive n.ensures.changes n.ensures.listed n.ensures.owners n.ensures.places n.ensures.hold
+    stands_shed c.args.script.now c.args.objects.now n.new.heap n.new.tree n.new.names c.args.place.pid kept c.requires.alive n.ensures.changes n.ensures.listed n.ensures.owners n.ensures.places n.ensures.hold
     n.ensures.queues c.heap_is_well_formed.ensures n.ensures.closed world stands sound

@@ -9,7 +9,7 @@ use Rattle.proc_numbers.specs.Answering.{stat_of}
 use Rattle.store_objects.proofs.Replying.{no_frames}
 use Rattle.store_objects.proofs.Keeping.{listed_in}
 use Rattle.store_objects.proofs.Within.{within_nothing}
-use Rattle.file_calls.proofs.CallingOpens.{holds_some, kept_mid, key_who_runs, mid, runs_mid, serves_holding, takes_none, unchanged}
+use Rattle.file_calls.proofs.CallingOpens.{holds_some, kept_mid, mid, runs_mid, serves_holding, takes_none, unchanged}
 use Rattle.file_calls.proofs.Reached.{first_off, leaves_numbers}
 use Rattle.file_calls.proofs.telling.fstat.Goals as goal
 
@@ -19,9 +19,6 @@ stat_number-told-requires-clause-listed c = listed_in c.args.script.now c.args.o
 pub stat_number-told-requires-clause-owners : goal.stat_number-told-requires-clause-owners
 stat_number-told-requires-clause-owners c = c.requires.stands.1.kept.owners
 
-pub stat_number-told-requires-clause-there : goal.stat_number-told-requires-clause-there
-stat_number-told-requires-clause-there c = key_who_runs c.args.script.now c.args.objects.now c.args.pid c.args.control c.requires.stands.1.kept c.requires.runs
-
 pub stat_number-told-requires-clause-hold : goal.stat_number-told-requires-clause-hold
 stat_number-told-requires-clause-hold c =
     holds_some c.args.script.now c.args.objects.now c.requires.stands.0 c.requires.stands.1 c.requires.stands.2 c.heap_is_well_formed.ensures
@@ -30,29 +27,29 @@ pub go_on-requires-clause-kept : goal.go_on-requires-clause-kept
 go_on-requires-clause-kept c =
     let old = c.args.objects.now in
     let kept = c.requires.stands.1.kept in
-    kept_mid c.args.script.now old old.heap c.stat_number-told.new.tree old.names c.args.pid c.args.control kept c.requires.runs
-    (unchanged c.args.script.now old c.args.pid c.args.control kept c.requires.runs) (listed_in c.args.script.now old kept) kept.owners kept.bound refl c.stat_number-told.ensures.hold
+    kept_mid c.args.script.now old old.heap c.stat_number-told.new.tree old.names c.args.caller.now.place.pid c.args.caller.now.control kept c.requires.runs
+    (unchanged c.args.script.now old c.args.caller.now.place.pid c.args.caller.now.control kept c.requires.runs) (listed_in c.args.script.now old kept) kept.owners kept.bound refl c.stat_number-told.ensures.hold
 
 pub go_on-requires-clause-runs : goal.go_on-requires-clause-runs
 go_on-requires-clause-runs c =
     let old = c.args.objects.now in
     let kept = c.requires.stands.1.kept in
-    runs_mid c.args.script.now old old.heap c.stat_number-told.new.tree old.names c.args.pid c.args.control kept c.requires.runs
-    (unchanged c.args.script.now old c.args.pid c.args.control kept c.requires.runs) (listed_in c.args.script.now old kept) kept.owners kept.bound refl c.stat_number-told.ensures.hold
+    runs_mid c.args.script.now old old.heap c.stat_number-told.new.tree old.names c.args.caller.now.place.pid c.args.caller.now.control kept c.requires.runs
+    (unchanged c.args.script.now old c.args.caller.now.place.pid c.args.caller.now.control kept c.requires.runs) (listed_in c.args.script.now old kept) kept.owners kept.bound refl c.stat_number-told.ensures.hold
 
 pub returns-clause-does : goal.returns-clause-does
 returns-clause-does c =
     let script = c.args.script.now in
     let old = c.args.objects.now in
-    let pid = c.args.pid in
+    let pid = c.args.caller.now.place.pid in
     let n = c.stat_number-told in
     let kept = c.requires.stands.1.kept in
     let which = call.Fstat c.args.fd in
     let said = c.stat.result in
     let fd = to_z-of_z w64 c.args.fd c.ranges.fd in
-    let same = unchanged script old pid c.args.control kept c.requires.runs in
-    let then = mid script old old.heap n.new.tree old.names pid c.args.control kept c.requires.runs same (listed_in script old kept) kept.owners kept.bound refl n.ensures.hold in
-    serves_holding script old old.heap n.new.tree old.names pid c.args.control kept c.requires.runs same (listed_in script old kept) kept.owners kept.bound refl n.ensures.hold
+    let same = unchanged script old pid c.args.caller.now.control kept c.requires.runs in
+    let then = mid script old old.heap n.new.tree old.names pid c.args.caller.now.control kept c.requires.runs same (listed_in script old kept) kept.owners kept.bound refl n.ensures.hold in
+    serves_holding script old old.heap n.new.tree old.names pid c.args.caller.now.control kept c.requires.runs same (listed_in script old kept) kept.owners kept.bound refl n.ensures.hold
     which said c.go_on.result c.go_on.new.objects (λ plain. fstat script plain pid c.args.fd) c.heap_is_well_formed.ensures
     (within_nothing old then which (takes_none old.heap) (used_reads old.tree n.new.tree n.ensures.used))
     (queues_same old.heap old.heap refl refl) c.go_on.ensures.told c.go_on.ensures.goes (no_frames which (λ frames pid value. refl) pid said)

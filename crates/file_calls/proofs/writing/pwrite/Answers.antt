@@ -41,25 +41,25 @@ pub pwrite_file-moved-requires-clause-kept : goal.pwrite_file-moved-requires-cla
 pwrite_file-moved-requires-clause-kept c = is_kept c.args.script.now c.args.objects.now c.requires.stands.1.kept
 
 pub pwrite_file-moved-requires-clause-alive : goal.pwrite_file-moved-requires-clause-alive
-pwrite_file-moved-requires-clause-alive c = alive_who_runs c.args.objects.now c.args.pid c.args.control c.requires.runs
+pwrite_file-moved-requires-clause-alive c = alive_who_runs c.args.objects.now c.args.caller.now.place.pid c.args.caller.now.control c.requires.runs
 
 pub pwrite_file-moved-requires-clause-hold : goal.pwrite_file-moved-requires-clause-hold
 pwrite_file-moved-requires-clause-hold c = holds_some c.args.script.now c.args.objects.now c.requires.stands.0 c.requires.stands.1 c.requires.stands.2 c.heap_is_well_formed.ensures
 
 pub go_on-requires-clause-kept : goal.go_on-requires-clause-kept
 go_on-requires-clause-kept c =
-    kept_moved c.args.script.now c.args.objects.now c.pwrite_file-moved.new.heap c.pwrite_file-moved.new.tree c.args.pid (call.Pwrite c.args.fd c.args.addr c.args.n c.args.at) c.args.fd (λ plain. pwrite c.args.script.now plain c.args.pid c.args.fd c.args.addr c.args.n c.args.at) c.value.result
-    (moved c.args.script.now c.args.objects.now c.pwrite_file-moved.new.heap c.pwrite_file-moved.new.tree c.args.pid c.args.fd c.args.addr c.args.n c.args.at _ _ _ _ c.pwrite_file-moved.result c.value.result
+    kept_moved c.args.script.now c.args.objects.now c.pwrite_file-moved.new.heap c.pwrite_file-moved.new.tree c.args.caller.now.place.pid (call.Pwrite c.args.fd c.args.addr c.args.n c.args.at) c.args.fd (λ plain. pwrite c.args.script.now plain c.args.caller.now.place.pid c.args.fd c.args.addr c.args.n c.args.at) c.value.result
+    (moved c.args.script.now c.args.objects.now c.pwrite_file-moved.new.heap c.pwrite_file-moved.new.tree c.args.caller.now.place.pid c.args.fd c.args.addr c.args.n c.args.at _ _ _ _ c.pwrite_file-moved.result c.value.result
     (to_z-of_z w64 c.args.fd c.ranges.fd) (to_z-of_z w64 c.args.addr c.ranges.addr) (to_z-of_z w64 c.args.n c.ranges.n) (to_z-of_z w64 c.args.at c.ranges.at) c.value.ensures c.pwrite_file-moved.ensures.beside c.requires.stands
     c.heap_is_well_formed.ensures c.pwrite_file-moved.ensures.kept c.requires.right c.pwrite_file-moved.ensures.stays (c.pwrite_file-moved.ensures.leads c.args.script.now))
 
 pub go_on-requires-clause-runs : goal.go_on-requires-clause-runs
 go_on-requires-clause-runs c =
-    runs_moved c.args.script.now c.args.objects.now c.pwrite_file-moved.new.heap c.pwrite_file-moved.new.tree c.args.pid (call.Pwrite c.args.fd c.args.addr c.args.n c.args.at) c.args.fd (λ plain. pwrite c.args.script.now plain c.args.pid c.args.fd c.args.addr c.args.n c.args.at) c.value.result
-    (moved c.args.script.now c.args.objects.now c.pwrite_file-moved.new.heap c.pwrite_file-moved.new.tree c.args.pid c.args.fd c.args.addr c.args.n c.args.at _ _ _ _ c.pwrite_file-moved.result c.value.result
+    runs_moved c.args.script.now c.args.objects.now c.pwrite_file-moved.new.heap c.pwrite_file-moved.new.tree c.args.caller.now.place.pid (call.Pwrite c.args.fd c.args.addr c.args.n c.args.at) c.args.fd (λ plain. pwrite c.args.script.now plain c.args.caller.now.place.pid c.args.fd c.args.addr c.args.n c.args.at) c.value.result
+    (moved c.args.script.now c.args.objects.now c.pwrite_file-moved.new.heap c.pwrite_file-moved.new.tree c.args.caller.now.place.pid c.args.fd c.args.addr c.args.n c.args.at _ _ _ _ c.pwrite_file-moved.result c.value.result
     (to_z-of_z w64 c.args.fd c.ranges.fd) (to_z-of_z w64 c.args.addr c.ranges.addr) (to_z-of_z w64 c.args.n c.ranges.n) (to_z-of_z w64 c.args.at c.ranges.at) c.value.ensures c.pwrite_file-moved.ensures.beside c.requires.stands
     c.heap_is_well_formed.ensures c.pwrite_file-moved.ensures.kept c.requires.right c.pwrite_file-moved.ensures.stays (c.pwrite_file-moved.ensures.leads c.args.script.now))
-    c.args.control c.requires.runs
+    c.args.caller.now.control c.requires.runs
 
 pub returns-clause-paid : goal.returns-clause-paid
 returns-clause-paid c =
@@ -68,11 +68,11 @@ returns-clause-paid c =
 
 pub returns-clause-does : goal.returns-clause-does
 returns-clause-does c =
-    serves_moved c.args.script.now c.args.objects.now c.pwrite_file-moved.new.heap c.pwrite_file-moved.new.tree c.args.pid (call.Pwrite c.args.fd c.args.addr c.args.n c.args.at) c.args.fd (λ plain. pwrite c.args.script.now plain c.args.pid c.args.fd c.args.addr c.args.n c.args.at) c.value.result
-    (moved c.args.script.now c.args.objects.now c.pwrite_file-moved.new.heap c.pwrite_file-moved.new.tree c.args.pid c.args.fd c.args.addr c.args.n c.args.at _ _ _ _ c.pwrite_file-moved.result c.value.result
+    serves_moved c.args.script.now c.args.objects.now c.pwrite_file-moved.new.heap c.pwrite_file-moved.new.tree c.args.caller.now.place.pid (call.Pwrite c.args.fd c.args.addr c.args.n c.args.at) c.args.fd (λ plain. pwrite c.args.script.now plain c.args.caller.now.place.pid c.args.fd c.args.addr c.args.n c.args.at) c.value.result
+    (moved c.args.script.now c.args.objects.now c.pwrite_file-moved.new.heap c.pwrite_file-moved.new.tree c.args.caller.now.place.pid c.args.fd c.args.addr c.args.n c.args.at _ _ _ _ c.pwrite_file-moved.result c.value.result
     (to_z-of_z w64 c.args.fd c.ranges.fd) (to_z-of_z w64 c.args.addr c.ranges.addr) (to_z-of_z w64 c.args.n c.ranges.n) (to_z-of_z w64 c.args.at c.ranges.at) c.value.ensures c.pwrite_file-moved.ensures.beside c.requires.stands
     c.heap_is_well_formed.ensures c.pwrite_file-moved.ensures.kept c.requires.right c.pwrite_file-moved.ensures.stays (c.pwrite_file-moved.ensures.leads c.args.script.now))
     c.go_on.result c.go_on.new.objects
     (within_paid c.args.objects.now (mid_of c.args.objects.now c.pwrite_file-moved.new.heap c.pwrite_file-moved.new.tree) c.args.purse.now c.pwrite_file-moved.new.purse (call.Pwrite c.args.fd c.args.addr c.args.n c.args.at) c.pwrite_file-moved.ensures.paid
     (ap (λ need. need.name) c.requires.needed) (ap (λ need. need.block) c.requires.needed) (ap (λ need. need.vnode) c.requires.needed) c.pwrite_file-moved.ensures.reads)
-    c.go_on.ensures.told c.go_on.ensures.goes (λ plain. pwrite_kin c.args.script.now plain c.args.pid c.args.fd c.args.addr c.args.n c.args.at)
+    c.go_on.ensures.told c.go_on.ensures.goes (λ plain. pwrite_kin c.args.script.now plain c.args.caller.now.place.pid c.args.fd c.args.addr c.args.n c.args.at)

@@ -11,14 +11,14 @@ make_dir-made-requires-clause-stands c =
       some.0.plain.files.tree,
       pins_in some.0.plain,
       some.1.tree.stands,
-      at_directory c.args.script.now c.args.objects.now c.args.pid c.directory_of-cwd.result c.requires.runs.proc c.requires.runs.found c.requires.runs.up (c.directory_of-cwd.ensures c.requires.runs.proc c.requires.runs.found) some.0 some.1,
+      at_directory c.args.script.now c.args.objects.now c.args.caller.now.place.pid c.directory_of-cwd.result c.requires.runs.proc c.requires.runs.found c.requires.runs.up (c.directory_of-cwd.ensures c.requires.runs.proc c.requires.runs.found) some.0 some.1,
     )
 
 pub go_on-requires-clause-kept : goal.go_on-requires-clause-kept
 go_on-requires-clause-kept c =
     let some = c.requires.stands in
     kept_mid c.args.script.now c.args.objects.now c.make_dir-made.new.heap c.make_dir-made.new.self c.args.purse.now c.make_dir-made.new.purse c.make_dir-made.ensures.pays
-    (led_keeps (mkdir_leads c.args.script.now c.args.objects.now c.args.pid c.directory_of-cwd.result c.requires.runs.proc c.requires.runs.found c.requires.runs.up (c.directory_of-cwd.ensures c.requires.runs.proc c.requires.runs.found) c.make_dir-made.new.heap c.make_dir-made.new.self c.done.result c.args.path.now c.make_dir-made.result c.done.ensures c.make_dir-made.ensures.answer some.0 some.1)) some.1.kept
+    (led_keeps (mkdir_leads c.args.script.now c.args.objects.now c.args.caller.now.place.pid c.directory_of-cwd.result c.requires.runs.proc c.requires.runs.found c.requires.runs.up (c.directory_of-cwd.ensures c.requires.runs.proc c.requires.runs.found) c.make_dir-made.new.heap c.make_dir-made.new.self c.done.result c.args.path.now c.make_dir-made.result c.done.ensures c.make_dir-made.ensures.answer some.0 some.1)) some.1.kept
 
 pub returns-clause-paid : goal.returns-clause-paid
 returns-clause-paid c = paid_on c.args.script.now c.args.objects.now c.make_dir-made.new.heap c.make_dir-made.new.self c.args.purse.now c.make_dir-made.new.purse c.make_dir-made.ensures.pays c.go_on.new.objects.heap c.go_on.ensures.takes
@@ -26,6 +26,6 @@ returns-clause-paid c = paid_on c.args.script.now c.args.objects.now c.make_dir-
 pub returns-clause-does : goal.returns-clause-does
 returns-clause-does c =
     leads c.args.script.now c.args.objects.now c.make_dir-made.new.heap c.make_dir-made.new.self c.args.purse.now c.make_dir-made.new.purse c.make_dir-made.ensures.pays
-    c.args.pid (call.Mkdir c.args.path.now) (mkdir_changes c.args.path.now) c.requires.right c.requires.needed c.done.result c.go_on.result c.go_on.new.objects
-    (λ plain. mkdir c.args.script.now plain c.args.pid c.args.path.now) c.go_on.ensures.told c.go_on.ensures.goes
-    (mkdir_leads c.args.script.now c.args.objects.now c.args.pid c.directory_of-cwd.result c.requires.runs.proc c.requires.runs.found c.requires.runs.up (c.directory_of-cwd.ensures c.requires.runs.proc c.requires.runs.found) c.make_dir-made.new.heap c.make_dir-made.new.self c.done.result c.args.path.now c.make_dir-made.result c.done.ensures c.make_dir-made.ensures.answer)
+    c.args.caller.now.place.pid (call.Mkdir c.args.path.now) (mkdir_changes c.args.path.now) c.requires.right c.requires.needed c.done.result c.go_on.result c.go_on.new.objects
+    (λ plain. mkdir c.args.script.now plain c.args.caller.now.place.pid c.args.path.now) c.go_on.ensures.told c.go_on.ensures.goes
+    (mkdir_leads c.args.script.now c.args.objects.now c.args.caller.now.place.pid c.directory_of-cwd.result c.requires.runs.proc c.requires.runs.found c.requires.runs.up (c.directory_of-cwd.ensures c.requires.runs.proc c.requires.runs.found) c.make_dir-made.new.heap c.make_dir-made.new.self c.done.result c.args.path.now c.make_dir-made.result c.done.ensures c.make_dir-made.ensures.answer)

@@ -11,14 +11,14 @@ remove_dir-gone-requires-clause-stands c =
       some.0.plain.files.tree,
       pins_in some.0.plain,
       some.1.tree.stands,
-      at_directory c.args.script.now c.args.objects.now c.args.pid c.directory_of-cwd.result c.requires.runs.proc c.requires.runs.found c.requires.runs.up (c.directory_of-cwd.ensures c.requires.runs.proc c.requires.runs.found) some.0 some.1,
+      at_directory c.args.script.now c.args.objects.now c.args.caller.now.place.pid c.directory_of-cwd.result c.requires.runs.proc c.requires.runs.found c.requires.runs.up (c.directory_of-cwd.ensures c.requires.runs.proc c.requires.runs.found) some.0 some.1,
     )
 
 pub go_on-requires-clause-kept : goal.go_on-requires-clause-kept
 go_on-requires-clause-kept c =
     let some = c.requires.stands in
     kept_mid c.args.script.now c.args.objects.now c.remove_dir-gone.new.heap c.remove_dir-gone.new.self c.args.purse.now c.remove_dir-gone.new.purse c.remove_dir-gone.ensures.pays
-    (led_keeps (rmdir_leads c.args.script.now c.args.objects.now c.args.pid c.directory_of-cwd.result c.requires.runs.proc c.requires.runs.found c.requires.runs.up (c.directory_of-cwd.ensures c.requires.runs.proc c.requires.runs.found) c.remove_dir-gone.new.heap c.remove_dir-gone.new.self c.done.result c.args.path.now c.remove_dir-gone.result c.done.ensures c.remove_dir-gone.ensures.answer some.0 some.1)) some.1.kept
+    (led_keeps (rmdir_leads c.args.script.now c.args.objects.now c.args.caller.now.place.pid c.directory_of-cwd.result c.requires.runs.proc c.requires.runs.found c.requires.runs.up (c.directory_of-cwd.ensures c.requires.runs.proc c.requires.runs.found) c.remove_dir-gone.new.heap c.remove_dir-gone.new.self c.done.result c.args.path.now c.remove_dir-gone.result c.done.ensures c.remove_dir-gone.ensures.answer some.0 some.1)) some.1.kept
 
 pub returns-clause-paid : goal.returns-clause-paid
 returns-clause-paid c = paid_on c.args.script.now c.args.objects.now c.remove_dir-gone.new.heap c.remove_dir-gone.new.self c.args.purse.now c.remove_dir-gone.new.purse c.remove_dir-gone.ensures.pays c.go_on.new.objects.heap c.go_on.ensures.takes
@@ -26,6 +26,6 @@ returns-clause-paid c = paid_on c.args.script.now c.args.objects.now c.remove_di
 pub returns-clause-does : goal.returns-clause-does
 returns-clause-does c =
     leads c.args.script.now c.args.objects.now c.remove_dir-gone.new.heap c.remove_dir-gone.new.self c.args.purse.now c.remove_dir-gone.new.purse c.remove_dir-gone.ensures.pays
-    c.args.pid (call.Rmdir c.args.path.now) (rmdir_changes c.args.path.now) c.requires.right c.requires.needed c.done.result c.go_on.result c.go_on.new.objects
-    (λ plain. rmdir c.args.script.now plain c.args.pid c.args.path.now) c.go_on.ensures.told c.go_on.ensures.goes
-    (rmdir_leads c.args.script.now c.args.objects.now c.args.pid c.directory_of-cwd.result c.requires.runs.proc c.requires.runs.found c.requires.runs.up (c.directory_of-cwd.ensures c.requires.runs.proc c.requires.runs.found) c.remove_dir-gone.new.heap c.remove_dir-gone.new.self c.done.result c.args.path.now c.remove_dir-gone.result c.done.ensures c.remove_dir-gone.ensures.answer)
+    c.args.caller.now.place.pid (call.Rmdir c.args.path.now) (rmdir_changes c.args.path.now) c.requires.right c.requires.needed c.done.result c.go_on.result c.go_on.new.objects
+    (λ plain. rmdir c.args.script.now plain c.args.caller.now.place.pid c.args.path.now) c.go_on.ensures.told c.go_on.ensures.goes
+    (rmdir_leads c.args.script.now c.args.objects.now c.args.caller.now.place.pid c.directory_of-cwd.result c.requires.runs.proc c.requires.runs.found c.requires.runs.up (c.directory_of-cwd.ensures c.requires.runs.proc c.requires.runs.found) c.remove_dir-gone.new.heap c.remove_dir-gone.new.self c.done.result c.args.path.now c.remove_dir-gone.result c.done.ensures c.remove_dir-gone.ensures.answer)

@@ -16,7 +16,7 @@ remove_name-gone-requires-clause-stands c =
       some.0.plain.files.tree,
       pins_in some.0.plain,
       some.1.tree.stands,
-      at_directory c.args.script.now c.args.objects.now c.args.pid c.directory_of-cwd.result c.requires.runs.proc c.requires.runs.found c.requires.runs.up (c.directory_of-cwd.ensures c.requires.runs.proc c.requires.runs.found) some.0 some.1,
+      at_directory c.args.script.now c.args.objects.now c.args.caller.now.place.pid c.directory_of-cwd.result c.requires.runs.proc c.requires.runs.found c.requires.runs.up (c.directory_of-cwd.ensures c.requires.runs.proc c.requires.runs.found) some.0 some.1,
       holds_no_socket some.0.plain some.1.tree.stands.is_tree some.1.works some.2.nodes,
     )
 
@@ -24,27 +24,27 @@ pub name_freed-requires-clause-owners : goal.name_freed-requires-clause-owners
 name_freed-requires-clause-owners c =
     let some = c.requires.stands in
     (kept_mid c.args.script.now c.args.objects.now c.remove_name-gone.new.heap c.remove_name-gone.new.self c.args.purse.now c.remove_name-gone.new.purse c.remove_name-gone.ensures.pays
-    (freed_keeps (unlink_leads c.args.script.now c.args.objects.now c.args.pid c.directory_of-cwd.result c.requires.runs.proc c.requires.runs.found c.requires.runs.up (c.directory_of-cwd.ensures c.requires.runs.proc c.requires.runs.found) c.remove_name-gone.new.heap c.remove_name-gone.new.self (freed_reply c.remove_name-gone.result) c.args.path.now c.remove_name-gone.result c.freed.result refl c.freed.ensures c.remove_name-gone.ensures.answer some.0 some.1 some.2)) some.1.kept).owners
+    (freed_keeps (unlink_leads c.args.script.now c.args.objects.now c.args.caller.now.place.pid c.directory_of-cwd.result c.requires.runs.proc c.requires.runs.found c.requires.runs.up (c.directory_of-cwd.ensures c.requires.runs.proc c.requires.runs.found) c.remove_name-gone.new.heap c.remove_name-gone.new.self (freed_reply c.remove_name-gone.result) c.args.path.now c.remove_name-gone.result c.freed.result refl c.freed.ensures c.remove_name-gone.ensures.answer some.0 some.1 some.2)) some.1.kept).owners
 
 pub name_freed-requires-clause-bound : goal.name_freed-requires-clause-bound
 name_freed-requires-clause-bound c =
     let some = c.requires.stands in
     (kept_mid c.args.script.now c.args.objects.now c.remove_name-gone.new.heap c.remove_name-gone.new.self c.args.purse.now c.remove_name-gone.new.purse c.remove_name-gone.ensures.pays
-    (freed_keeps (unlink_leads c.args.script.now c.args.objects.now c.args.pid c.directory_of-cwd.result c.requires.runs.proc c.requires.runs.found c.requires.runs.up (c.directory_of-cwd.ensures c.requires.runs.proc c.requires.runs.found) c.remove_name-gone.new.heap c.remove_name-gone.new.self (freed_reply c.remove_name-gone.result) c.args.path.now c.remove_name-gone.result c.freed.result refl c.freed.ensures c.remove_name-gone.ensures.answer some.0 some.1 some.2)) some.1.kept).bound
+    (freed_keeps (unlink_leads c.args.script.now c.args.objects.now c.args.caller.now.place.pid c.directory_of-cwd.result c.requires.runs.proc c.requires.runs.found c.requires.runs.up (c.directory_of-cwd.ensures c.requires.runs.proc c.requires.runs.found) c.remove_name-gone.new.heap c.remove_name-gone.new.self (freed_reply c.remove_name-gone.result) c.args.path.now c.remove_name-gone.result c.freed.result refl c.freed.ensures c.remove_name-gone.ensures.answer some.0 some.1 some.2)) some.1.kept).bound
 
 pub go_on-requires-clause-kept : goal.go_on-requires-clause-kept
 go_on-requires-clause-kept c =
     let some = c.requires.stands in
     kept_gone c.args.script.now c.args.objects.now c.remove_name-gone.new.heap c.remove_name-gone.new.self c.args.purse.now c.remove_name-gone.new.purse c.remove_name-gone.ensures.pays
     c.name_freed.new.heap c.name_freed.new.names c.freed.result c.name_freed.ensures.beside c.heap_is_well_formed.ensures c.name_freed.ensures.owners c.name_freed.ensures.names c.name_freed.ensures.queues c.name_freed.ensures.hold
-    some.0 c.args.pid c.gone_reply.result (unlink c.args.script.now some.0.plain c.args.pid c.args.path.now) some.1
-    (unlink_leads c.args.script.now c.args.objects.now c.args.pid c.directory_of-cwd.result c.requires.runs.proc c.requires.runs.found c.requires.runs.up (c.directory_of-cwd.ensures c.requires.runs.proc c.requires.runs.found) c.remove_name-gone.new.heap c.remove_name-gone.new.self c.gone_reply.result c.args.path.now c.remove_name-gone.result c.freed.result c.gone_reply.ensures c.freed.ensures c.remove_name-gone.ensures.answer some.0 some.1 some.2)
+    some.0 c.args.caller.now.place.pid c.gone_reply.result (unlink c.args.script.now some.0.plain c.args.caller.now.place.pid c.args.path.now) some.1
+    (unlink_leads c.args.script.now c.args.objects.now c.args.caller.now.place.pid c.directory_of-cwd.result c.requires.runs.proc c.requires.runs.found c.requires.runs.up (c.directory_of-cwd.ensures c.requires.runs.proc c.requires.runs.found) c.remove_name-gone.new.heap c.remove_name-gone.new.self c.gone_reply.result c.args.path.now c.remove_name-gone.result c.freed.result c.gone_reply.ensures c.freed.ensures c.remove_name-gone.ensures.answer some.0 some.1 some.2)
 
 pub go_on-requires-clause-runs : goal.go_on-requires-clause-runs
 go_on-requires-clause-runs c =
     runs_gone c.args.script.now c.args.objects.now c.remove_name-gone.new.heap c.remove_name-gone.new.self c.args.purse.now c.remove_name-gone.new.purse c.remove_name-gone.ensures.pays
     c.name_freed.new.heap c.name_freed.new.names c.freed.result c.name_freed.ensures.beside c.heap_is_well_formed.ensures c.name_freed.ensures.owners c.name_freed.ensures.names c.name_freed.ensures.queues c.name_freed.ensures.hold
-    c.args.pid c.args.control c.requires.runs
+    c.args.caller.now.place.pid c.args.caller.now.control c.requires.runs
 
 pub returns-clause-paid : goal.returns-clause-paid
 returns-clause-paid c =
@@ -55,6 +55,6 @@ pub returns-clause-does : goal.returns-clause-does
 returns-clause-does c =
     serves c.args.script.now c.args.objects.now c.remove_name-gone.new.heap c.remove_name-gone.new.self c.args.purse.now c.remove_name-gone.new.purse c.remove_name-gone.ensures.pays
     c.name_freed.new.heap c.name_freed.new.names c.freed.result c.name_freed.ensures.beside c.heap_is_well_formed.ensures c.name_freed.ensures.owners c.name_freed.ensures.names c.name_freed.ensures.queues c.name_freed.ensures.hold
-    c.args.pid (call.Unlink c.args.path.now) (unlink_changes c.args.path.now) c.requires.right c.requires.needed c.gone_reply.result c.go_on.result c.go_on.new.objects
-    (λ plain. unlink c.args.script.now plain c.args.pid c.args.path.now) c.go_on.ensures.told c.go_on.ensures.goes
-    (unlink_leads c.args.script.now c.args.objects.now c.args.pid c.directory_of-cwd.result c.requires.runs.proc c.requires.runs.found c.requires.runs.up (c.directory_of-cwd.ensures c.requires.runs.proc c.requires.runs.found) c.remove_name-gone.new.heap c.remove_name-gone.new.self c.gone_reply.result c.args.path.now c.remove_name-gone.result c.freed.result c.gone_reply.ensures c.freed.ensures c.remove_name-gone.ensures.answer)
+    c.args.caller.now.place.pid (call.Unlink c.args.path.now) (unlink_changes c.args.path.now) c.requires.right c.requires.needed c.gone_reply.result c.go_on.result c.go_on.new.objects
+    (λ plain. unlink c.args.script.now plain c.args.caller.now.place.pid c.args.path.now) c.go_on.ensures.told c.go_on.ensures.goes
+    (unlink_leads c.args.script.now c.args.objects.now c.args.caller.now.place.pid c.directory_of-cwd.result c.requires.runs.proc c.requires.runs.found c.requires.runs.up (c.directory_of-cwd.ensures c.requires.runs.proc c.requires.runs.found) c.remove_name-gone.new.heap c.remove_name-gone.new.self c.gone_reply.result c.args.path.now c.remove_name-gone.result c.freed.result c.gone_reply.ensures c.freed.ensures c.remove_name-gone.ensures.answer)

@@ -17,11 +17,11 @@ pub returns-in_default-clause-answers : goal.returns-in_default-clause-answers
 unfolding close
 returns-in_default-clause-answers c = λ numbers others script plain hold.
     let fd = to_z-of_z w64 c.args.fd c.ranges.fd in
-    let held : c.descriptor_of.result ≡ named_by c.args.heap.now c.args.procs.now c.args.pid c.args.fd =
-    subst (λ z. c.descriptor_of.result ≡ named_by c.args.heap.now c.args.procs.now c.args.pid z) fd c.descriptor_of.ensures.held in
+    let held : c.descriptor_of.result ≡ named_by c.args.heap.now c.args.procs.now c.args.place.pid c.args.fd =
+    subst (λ z. c.descriptor_of.result ≡ named_by c.args.heap.now c.args.procs.now c.args.place.pid z) fd c.descriptor_of.ensures.held in
     record {
       files = plain.files;
-      replies = on_nothing numbers c.args.heap.now c.args.procs.now script plain c.args.pid hold.held.opened c.args.fd _ (sym held ∙ no_some c.descriptor_of.result c.in_default.not-Some);
+      replies = on_nothing numbers c.args.heap.now c.args.procs.now script plain c.args.place.pid hold.held.opened c.args.fd _ (sym held ∙ no_some c.descriptor_of.result c.in_default.not-Some);
       holds = hold;
     }
 
@@ -43,32 +43,32 @@ pub returns-clause-answers : goal.returns-clause-answers
 unfolding close
 returns-clause-answers c = λ numbers others script plain hold.
     let fd = to_z-of_z w64 c.args.fd c.ranges.fd in
-    let held : c.descriptor_of.result ≡ named_by c.args.heap.now c.args.procs.now c.args.pid c.args.fd =
-    subst (λ z. c.descriptor_of.result ≡ named_by c.args.heap.now c.args.procs.now c.args.pid z) fd c.descriptor_of.ensures.held in
+    let held : c.descriptor_of.result ≡ named_by c.args.heap.now c.args.procs.now c.args.place.pid c.args.fd =
+    subst (λ z. c.descriptor_of.result ≡ named_by c.args.heap.now c.args.procs.now c.args.place.pid z) fd c.descriptor_of.ensures.held in
     let count : c.count_of-number.result ≡ count_of c.args.fd = subst (λ z. c.count_of-number.result ≡ count_of z) fd c.count_of-number.ensures in
     let is = sym held ∙ c.in-Some.is in
-    let desc = desc_named_by c.args.heap.now c.args.procs.now _ c.requires.listed c.requires.owners c.args.pid c.args.fd c.in-Some._held is in
+    let desc = desc_named_by c.args.heap.now c.args.procs.now _ c.requires.listed c.requires.owners c.args.place.pid c.args.fd c.in-Some._held is in
     record {
-      files = after_close plain.files c.args.pid (count_of c.args.fd);
-      replies = on_it numbers c.args.heap.now c.args.procs.now script plain c.args.pid hold.held.opened c.args.fd c.in-Some._held desc.0 is desc.1 _;
-      holds = subst (λ n. HoldNames numbers others c.close_open.new.heap c.args.procs.now c.close_open.new.tree c.close_open.new.names (after_close plain.files c.args.pid n)) count
+      files = after_close plain.files c.args.place.pid (count_of c.args.fd);
+      replies = on_it numbers c.args.heap.now c.args.procs.now script plain c.args.place.pid hold.held.opened c.args.fd c.in-Some._held desc.0 is desc.1 _;
+      holds = subst (λ n. HoldNames numbers others c.close_open.new.heap c.args.procs.now c.close_open.new.tree c.close_open.new.names (after_close plain.files c.args.place.pid n)) count
           (c.close_open.ensures.closed numbers others plain.files hold);
     }
 
 pub returns-in_default-clause-changes : goal.returns-in_default-clause-changes
 returns-in_default-clause-changes c =
-    holding_of c.args.heap.now c.args.heap.now c.args.procs.now c.args.pid (changes_nothing c.args.heap.now c.args.procs.now c.args.pid c.requires.listed c.requires.there)
+    holding_of c.args.heap.now c.args.heap.now c.args.procs.now c.args.place.pid (changes_nothing c.args.heap.now c.args.procs.now c.args.place.pid c.requires.listed (ap is_some c.requires.there))
 
 pub returns-clause-changes : goal.returns-clause-changes
-returns-clause-changes c = holding_closed c.args.heap.now c.close_open.new.heap c.args.procs.now c.args.pid _ c.close_open.ensures.closes
+returns-clause-changes c = holding_closed c.args.heap.now c.close_open.new.heap c.args.procs.now c.args.place.pid _ c.close_open.ensures.closes
 
 pub returns-clause-stays : goal.returns-clause-stays
 returns-clause-stays c = λ none.
     let fd = to_z-of_z w64 c.args.fd c.ranges.fd in
-    let held : c.descriptor_of.result ≡ named_by c.args.heap.now c.args.procs.now c.args.pid c.args.fd =
-    subst (λ z. c.descriptor_of.result ≡ named_by c.args.heap.now c.args.procs.now c.args.pid z) fd c.descriptor_of.ensures.held in
+    let held : c.descriptor_of.result ≡ named_by c.args.heap.now c.args.procs.now c.args.place.pid c.args.fd =
+    subst (λ z. c.descriptor_of.result ≡ named_by c.args.heap.now c.args.procs.now c.args.place.pid z) fd c.descriptor_of.ensures.held in
     let count : c.count_of-number.result ≡ count_of c.args.fd = subst (λ z. c.count_of-number.result ≡ count_of z) fd c.count_of-number.ensures in
     c.close_open.ensures.stays
     (ap (node_closed c.args.heap.now.descs)
-    (ap (named_at c.args.heap.now c.args.procs.now c.args.pid) count ∙ sym (named_count c.args.heap.now c.args.procs.now c.args.pid c.args.fd c.in-Some._held (sym held ∙ c.in-Some.is)))
+    (ap (named_at c.args.heap.now c.args.procs.now c.args.place.pid) count ∙ sym (named_count c.args.heap.now c.args.procs.now c.args.place.pid c.args.fd c.in-Some._held (sym held ∙ c.in-Some.is)))
     ∙ none)

@@ -1,66 +1,224 @@
-use Rattle.std.proofs.Common.{◌∙◌, ap, refl}
+use Rattle.std.proofs.Common.{◌≡◌, ◌∙◌, [], None, Some, ap, refl, sym}
 use Rattle.kheap_laws.proofs.PaidLemmas.{IsPaid-nothing, IsPaid-trans}
 use Rattle.kheap_slabs.specs.Heap.{Heap}
-use Rattle.proc_numbers.proofs.NumberCloses.{listed_on}
-use Rattle.proc_files.proofs.Closed.{close_on}
-use Rattle.proc_files.specs.SocketGoing.{socket_going, unnamed}
+use Rattle.memfs_ops.proofs.CachedLemmas.{cached_still}
 use Rattle.posix_defs.specs.Files.Closing.{after_close}
+use Rattle.proc_numbers.proofs.Changes.{node_of_number}
+use Rattle.proc_numbers.proofs.Fronts.{queues_same, queues_then}
+use Rattle.proc_numbers.proofs.NumberCloses.{listed_on}
 use Rattle.proc_numbers.specs.Having.{node_closed}
 use Rattle.proc_numbers.specs.Naming.{named_at}
+use Rattle.proc_files.proofs.Beside.{listed_beside, owners_beside, same_pipes, same_socks}
+use Rattle.proc_files.proofs.Closed.{close_again, close_on, fills_on, number_caches}
+use Rattle.proc_files.proofs.OneClosed.{holds_still, holds_without, lets_go}
 use Rattle.proc_files.proofs.UnnamedClosed.{closed_names_hold}
 use Rattle.proc_files.proofs.Unnaming.{closes_before}
+use Rattle.proc_files.specs.SocketGoing.{socket_going, unnamed}
 use Rattle.proc_files.proofs.closing.close_open.Goals as goal
 
-pub close_unbound-requires-clause-hold : goal.close_unbound-requires-clause-hold
-close_unbound-requires-clause-hold c =
-    let some = c.requires.hold in
-    record {
-      numbers = some.numbers;
-      others = some.others;
-      files = unnamed some.numbers some.files (socket_going c.args.heap.now.descs (named_at c.args.heap.now c.args.procs.now c.args.pid c.args.fd));
-      hold = (c.unname_going.ensures.hold some.numbers some.others c.args.tree.now some.files some.hold).held;
-    }
+-- ---- the number is closed
 
-pub close_unbound-requires-clause-may : goal.close_unbound-requires-clause-may
-close_unbound-requires-clause-may c =
-    close_on c.args.heap.now c.unname_going.new.heap c.args.purse.now
-    (record {
+pub close_one-requires-clause-listed : goal.close_one-requires-clause-listed
+close_one-requires-clause-listed c =
+    listed_on c.args.heap.now c.unname_going.new.heap c.args.procs.now (ap (λ (h : Heap). h.procs) c.unname_going.ensures.beside) c.requires.listed
+
+-- ---- no node goes
+
+pub returns-in_default-clause-closed : goal.returns-in_default-clause-closed
+returns-in_default-clause-closed c = λ numbers others files hold.
+    let listed = (listed_on c.args.heap.now c.unname_going.new.heap c.args.procs.now (ap (λ (h : Heap). h.procs) c.unname_going.ensures.beside) c.requires.listed) in
+    let may = (close_on c.args.heap.now c.unname_going.new.heap c.args.purse.now (record {
       vnodes = ap (λ (h : Heap). h.vnodes) c.unname_going.ensures.beside;
       names = ap (λ (h : Heap). h.names) c.unname_going.ensures.beside;
       blocks = ap (λ (h : Heap). h.blocks) c.unname_going.ensures.beside;
       size = ap (λ (h : Heap). h.heap) c.unname_going.ensures.beside;
     })
-    c.unname_going.ensures.takes c.requires.may
-
-pub returns-clause-closed : goal.returns-clause-closed
-returns-clause-closed c = λ numbers others files hold.
-    closed_names_hold numbers others c.args.heap.now c.unname_going.new.heap c.close_unbound.new.heap c.args.procs.now c.args.tree.now c.close_unbound.new.tree c.args.names.now c.unname_going.new.names files c.args.pid c.args.fd
+    c.unname_going.ensures.takes c.requires.may) in
+    closed_names_hold numbers others c.args.heap.now c.unname_going.new.heap c.close_one.new.heap c.args.procs.now c.args.tree.now c.args.tree.now c.args.names.now c.unname_going.new.names files c.args.place.pid c.args.fd
     c.requires.listed c.requires.owners hold (ap (λ (h : Heap). h.procs) c.unname_going.ensures.beside) (ap (λ (h : Heap). h.descs) c.unname_going.ensures.beside)
-    (listed_on c.args.heap.now c.unname_going.new.heap c.args.procs.now (ap (λ (h : Heap). h.procs) c.unname_going.ensures.beside) c.requires.listed)
-    c.unname_going.ensures.owners (c.unname_going.ensures.hold numbers others c.args.tree.now files hold) c.close_unbound.ensures.closes c.close_unbound.ensures.listed c.close_unbound.ensures.closed
+    listed c.unname_going.ensures.owners (c.unname_going.ensures.hold numbers others c.args.tree.now files hold) (record { mid = c.close_one.new.heap; closes = c.close_one.ensures.closes; caches = refl }) c.close_one.ensures.listed
+    (holds_still c.unname_going.new.heap c.close_one.new.heap c.args.procs.now c.args.place.pid c.args.fd c.args.purse.now c.args.tree.now listed c.unname_going.ensures.owners c.close_one.ensures.closes c.close_one.ensures.listed c.close_one.ensures.takes may
+    c.close_one.ensures.closed c.close_one.result (node_of_number c.unname_going.new.heap c.close_one.new.heap c.args.procs.now c.args.place.pid c.args.fd c.close_one.result listed c.close_one.ensures.closes c.close_one.ensures.node) c.in_default.is)
 
-pub returns-clause-paid : goal.returns-clause-paid
-returns-clause-paid c =
-    IsPaid-trans c.args.heap.now c.args.purse.now c.unname_going.new.heap c.args.purse.now c.close_unbound.new.heap c.close_unbound.new.purse
-    (IsPaid-nothing c.args.heap.now c.unname_going.new.heap c.args.purse.now c.args.purse.now c.unname_going.ensures.takes refl refl) c.close_unbound.ensures.paid
-
-pub returns-clause-hold : goal.returns-clause-hold
-returns-clause-hold c =
+pub returns-in_default-clause-hold : goal.returns-in_default-clause-hold
+returns-in_default-clause-hold c =
+    let listed = (listed_on c.args.heap.now c.unname_going.new.heap c.args.procs.now (ap (λ (h : Heap). h.procs) c.unname_going.ensures.beside) c.requires.listed) in
+    let may = (close_on c.args.heap.now c.unname_going.new.heap c.args.purse.now (record {
+      vnodes = ap (λ (h : Heap). h.vnodes) c.unname_going.ensures.beside;
+      names = ap (λ (h : Heap). h.names) c.unname_going.ensures.beside;
+      blocks = ap (λ (h : Heap). h.blocks) c.unname_going.ensures.beside;
+      size = ap (λ (h : Heap). h.heap) c.unname_going.ensures.beside;
+    })
+    c.unname_going.ensures.takes c.requires.may) in
     let some = c.requires.hold in
     record {
       numbers = some.numbers;
       others = some.others;
-      files = after_close some.files c.args.pid c.args.fd;
-      hold = closed_names_hold some.numbers some.others c.args.heap.now c.unname_going.new.heap c.close_unbound.new.heap c.args.procs.now c.args.tree.now c.close_unbound.new.tree c.args.names.now c.unname_going.new.names
-          some.files c.args.pid c.args.fd c.requires.listed c.requires.owners some.hold (ap (λ (h : Heap). h.procs) c.unname_going.ensures.beside) (ap (λ (h : Heap). h.descs) c.unname_going.ensures.beside)
-          (listed_on c.args.heap.now c.unname_going.new.heap c.args.procs.now (ap (λ (h : Heap). h.procs) c.unname_going.ensures.beside) c.requires.listed)
-          c.unname_going.ensures.owners (c.unname_going.ensures.hold some.numbers some.others c.args.tree.now some.files some.hold) c.close_unbound.ensures.closes c.close_unbound.ensures.listed c.close_unbound.ensures.closed;
+      files = after_close some.files c.args.place.pid c.args.fd;
+      hold = closed_names_hold some.numbers some.others c.args.heap.now c.unname_going.new.heap c.close_one.new.heap c.args.procs.now c.args.tree.now c.args.tree.now c.args.names.now c.unname_going.new.names some.files c.args.place.pid c.args.fd
+          c.requires.listed c.requires.owners some.hold (ap (λ (h : Heap). h.procs) c.unname_going.ensures.beside) (ap (λ (h : Heap). h.descs) c.unname_going.ensures.beside)
+          listed c.unname_going.ensures.owners (c.unname_going.ensures.hold some.numbers some.others c.args.tree.now some.files some.hold) (record { mid = c.close_one.new.heap; closes = c.close_one.ensures.closes; caches = refl }) c.close_one.ensures.listed
+          (holds_still c.unname_going.new.heap c.close_one.new.heap c.args.procs.now c.args.place.pid c.args.fd c.args.purse.now c.args.tree.now listed c.unname_going.ensures.owners c.close_one.ensures.closes c.close_one.ensures.listed c.close_one.ensures.takes may
+          c.close_one.ensures.closed c.close_one.result (node_of_number c.unname_going.new.heap c.close_one.new.heap c.args.procs.now c.args.place.pid c.args.fd c.close_one.result listed c.close_one.ensures.closes c.close_one.ensures.node) c.in_default.is);
+    }
+
+pub returns-in_default-clause-closes : goal.returns-in_default-clause-closes
+returns-in_default-clause-closes c =
+    closes_before c.args.heap.now c.unname_going.new.heap c.close_one.new.heap c.args.procs.now c.args.place.pid c.args.fd c.unname_going.ensures.beside c.unname_going.ensures.takes.high
+    (record { mid = c.close_one.new.heap; closes = c.close_one.ensures.closes; caches = refl })
+
+pub returns-in_default-clause-queues : goal.returns-in_default-clause-queues
+returns-in_default-clause-queues c =
+    queues_then c.args.heap.now c.unname_going.new.heap c.close_one.new.heap c.unname_going.ensures.queues c.close_one.ensures.queues
+
+pub returns-in_default-clause-may : goal.returns-in_default-clause-may
+returns-in_default-clause-may c =
+    let listed = (listed_on c.args.heap.now c.unname_going.new.heap c.args.procs.now (ap (λ (h : Heap). h.procs) c.unname_going.ensures.beside) c.requires.listed) in
+    let may = (close_on c.args.heap.now c.unname_going.new.heap c.args.purse.now (record {
+      vnodes = ap (λ (h : Heap). h.vnodes) c.unname_going.ensures.beside;
+      names = ap (λ (h : Heap). h.names) c.unname_going.ensures.beside;
+      blocks = ap (λ (h : Heap). h.blocks) c.unname_going.ensures.beside;
+      size = ap (λ (h : Heap). h.heap) c.unname_going.ensures.beside;
+    })
+    c.unname_going.ensures.takes c.requires.may) in
+    close_on c.unname_going.new.heap c.close_one.new.heap c.args.purse.now (number_caches c.unname_going.new.heap c.close_one.new.heap c.args.procs.now c.args.place.pid c.args.fd c.close_one.ensures.closes) c.close_one.ensures.takes may
+
+pub returns-in_default-clause-paid : goal.returns-in_default-clause-paid
+returns-in_default-clause-paid c =
+    IsPaid-trans c.args.heap.now c.args.purse.now c.unname_going.new.heap c.args.purse.now c.close_one.new.heap c.args.purse.now
+    (IsPaid-nothing c.args.heap.now c.unname_going.new.heap c.args.purse.now c.args.purse.now c.unname_going.ensures.takes refl refl)
+    (IsPaid-nothing c.unname_going.new.heap c.close_one.new.heap c.args.purse.now c.args.purse.now c.close_one.ensures.takes refl refl)
+
+pub returns-in_default-clause-cached : goal.returns-in_default-clause-cached
+returns-in_default-clause-cached c =
+    cached_still c.args.tree.now
+
+-- ---- one does
+
+pub close_node-requires-clause-stands : goal.close_node-requires-clause-stands
+close_node-requires-clause-stands c =
+    let listed = (listed_on c.args.heap.now c.unname_going.new.heap c.args.procs.now (ap (λ (h : Heap). h.procs) c.unname_going.ensures.beside) c.requires.listed) in
+    let may = (close_on c.args.heap.now c.unname_going.new.heap c.args.purse.now (record {
+      vnodes = ap (λ (h : Heap). h.vnodes) c.unname_going.ensures.beside;
+      names = ap (λ (h : Heap). h.names) c.unname_going.ensures.beside;
+      blocks = ap (λ (h : Heap). h.blocks) c.unname_going.ensures.beside;
+      size = ap (λ (h : Heap). h.heap) c.unname_going.ensures.beside;
+    })
+    c.unname_going.ensures.takes c.requires.may) in
+    let some = c.requires.hold in
+    lets_go c.unname_going.new.heap c.close_one.new.heap c.args.procs.now c.args.place.pid c.args.fd c.args.purse.now c.args.tree.now listed c.unname_going.ensures.owners c.close_one.ensures.closes c.close_one.ensures.listed c.close_one.ensures.takes may
+    c.close_one.ensures.closed c.close_one.result (node_of_number c.unname_going.new.heap c.close_one.new.heap c.args.procs.now c.args.place.pid c.args.fd c.close_one.result listed c.close_one.ensures.closes c.close_one.ensures.node) c.in-Some.node c.in-Some.is some.numbers some.others
+    (unnamed some.numbers some.files (socket_going c.args.heap.now.descs (named_at c.args.heap.now c.args.procs.now c.args.place.pid c.args.fd)))
+    (c.unname_going.ensures.hold some.numbers some.others c.args.tree.now some.files some.hold).held
+
+pub close_node-requires-clause-fills : goal.close_node-requires-clause-fills
+close_node-requires-clause-fills c =
+    let listed = (listed_on c.args.heap.now c.unname_going.new.heap c.args.procs.now (ap (λ (h : Heap). h.procs) c.unname_going.ensures.beside) c.requires.listed) in
+    let may = (close_on c.args.heap.now c.unname_going.new.heap c.args.purse.now (record {
+      vnodes = ap (λ (h : Heap). h.vnodes) c.unname_going.ensures.beside;
+      names = ap (λ (h : Heap). h.names) c.unname_going.ensures.beside;
+      blocks = ap (λ (h : Heap). h.blocks) c.unname_going.ensures.beside;
+      size = ap (λ (h : Heap). h.heap) c.unname_going.ensures.beside;
+    })
+    c.unname_going.ensures.takes c.requires.may) in
+    fills_on c.unname_going.new.heap c.close_one.new.heap c.args.purse.now (number_caches c.unname_going.new.heap c.close_one.new.heap c.args.procs.now c.args.place.pid c.args.fd c.close_one.ensures.closes) may.free.fetch.fills
+
+pub returns-clause-closed : goal.returns-clause-closed
+returns-clause-closed c = λ numbers others files hold.
+    let listed = (listed_on c.args.heap.now c.unname_going.new.heap c.args.procs.now (ap (λ (h : Heap). h.procs) c.unname_going.ensures.beside) c.requires.listed) in
+    let may = (close_on c.args.heap.now c.unname_going.new.heap c.args.purse.now (record {
+      vnodes = ap (λ (h : Heap). h.vnodes) c.unname_going.ensures.beside;
+      names = ap (λ (h : Heap). h.names) c.unname_going.ensures.beside;
+      blocks = ap (λ (h : Heap). h.blocks) c.unname_going.ensures.beside;
+      size = ap (λ (h : Heap). h.heap) c.unname_going.ensures.beside;
+    })
+    c.unname_going.ensures.takes c.requires.may) in
+    closed_names_hold numbers others c.args.heap.now c.unname_going.new.heap c.close_node.new.heap c.args.procs.now c.args.tree.now c.close_node.new.self c.args.names.now c.unname_going.new.names files c.args.place.pid c.args.fd
+    c.requires.listed c.requires.owners hold (ap (λ (h : Heap). h.procs) c.unname_going.ensures.beside) (ap (λ (h : Heap). h.descs) c.unname_going.ensures.beside)
+    listed c.unname_going.ensures.owners (c.unname_going.ensures.hold numbers others c.args.tree.now files hold) (record { mid = c.close_one.new.heap; closes = c.close_one.ensures.closes; caches = c.close_node.ensures.pays.only }) (listed_beside c.close_one.new.heap c.close_node.new.heap c.close_node.ensures.pays.only c.args.procs.now c.close_one.ensures.listed)
+    (holds_without c.unname_going.new.heap c.close_one.new.heap c.args.procs.now c.args.place.pid c.args.fd c.args.purse.now c.args.tree.now listed c.unname_going.ensures.owners c.close_one.ensures.closes c.close_one.ensures.listed c.close_one.ensures.takes may
+    c.close_one.ensures.closed c.close_one.result (node_of_number c.unname_going.new.heap c.close_one.new.heap c.args.procs.now c.args.place.pid c.args.fd c.close_one.result listed c.close_one.ensures.closes c.close_one.ensures.node) c.in-Some.node c.in-Some.is c.close_node.new.heap c.close_node.new.self c.close_node.ensures.pays.only c.close_node.ensures.stands)
+
+pub returns-clause-hold : goal.returns-clause-hold
+returns-clause-hold c =
+    let listed = (listed_on c.args.heap.now c.unname_going.new.heap c.args.procs.now (ap (λ (h : Heap). h.procs) c.unname_going.ensures.beside) c.requires.listed) in
+    let may = (close_on c.args.heap.now c.unname_going.new.heap c.args.purse.now (record {
+      vnodes = ap (λ (h : Heap). h.vnodes) c.unname_going.ensures.beside;
+      names = ap (λ (h : Heap). h.names) c.unname_going.ensures.beside;
+      blocks = ap (λ (h : Heap). h.blocks) c.unname_going.ensures.beside;
+      size = ap (λ (h : Heap). h.heap) c.unname_going.ensures.beside;
+    })
+    c.unname_going.ensures.takes c.requires.may) in
+    let some = c.requires.hold in
+    record {
+      numbers = some.numbers;
+      others = some.others;
+      files = after_close some.files c.args.place.pid c.args.fd;
+      hold = closed_names_hold some.numbers some.others c.args.heap.now c.unname_going.new.heap c.close_node.new.heap c.args.procs.now c.args.tree.now c.close_node.new.self c.args.names.now c.unname_going.new.names some.files c.args.place.pid c.args.fd
+          c.requires.listed c.requires.owners some.hold (ap (λ (h : Heap). h.procs) c.unname_going.ensures.beside) (ap (λ (h : Heap). h.descs) c.unname_going.ensures.beside)
+          listed c.unname_going.ensures.owners (c.unname_going.ensures.hold some.numbers some.others c.args.tree.now some.files some.hold) (record { mid = c.close_one.new.heap; closes = c.close_one.ensures.closes; caches = c.close_node.ensures.pays.only }) (listed_beside c.close_one.new.heap c.close_node.new.heap c.close_node.ensures.pays.only c.args.procs.now c.close_one.ensures.listed)
+          (holds_without c.unname_going.new.heap c.close_one.new.heap c.args.procs.now c.args.place.pid c.args.fd c.args.purse.now c.args.tree.now listed c.unname_going.ensures.owners c.close_one.ensures.closes c.close_one.ensures.listed c.close_one.ensures.takes may
+          c.close_one.ensures.closed c.close_one.result (node_of_number c.unname_going.new.heap c.close_one.new.heap c.args.procs.now c.args.place.pid c.args.fd c.close_one.result listed c.close_one.ensures.closes c.close_one.ensures.node) c.in-Some.node c.in-Some.is c.close_node.new.heap c.close_node.new.self c.close_node.ensures.pays.only c.close_node.ensures.stands);
     }
 
 pub returns-clause-closes : goal.returns-clause-closes
 returns-clause-closes c =
-    closes_before c.args.heap.now c.unname_going.new.heap c.close_unbound.new.heap c.args.procs.now c.args.pid c.args.fd c.unname_going.ensures.beside c.unname_going.ensures.takes.high c.close_unbound.ensures.closes
+    closes_before c.args.heap.now c.unname_going.new.heap c.close_node.new.heap c.args.procs.now c.args.place.pid c.args.fd c.unname_going.ensures.beside c.unname_going.ensures.takes.high
+    (record { mid = c.close_one.new.heap; closes = c.close_one.ensures.closes; caches = c.close_node.ensures.pays.only })
+
+pub returns-clause-listed : goal.returns-clause-listed
+returns-clause-listed c =
+    listed_beside c.close_one.new.heap c.close_node.new.heap c.close_node.ensures.pays.only c.args.procs.now c.close_one.ensures.listed
+
+pub returns-clause-owners : goal.returns-clause-owners
+returns-clause-owners c =
+    owners_beside c.close_one.new.heap c.close_node.new.heap c.close_node.ensures.pays.only [] c.close_one.ensures.owners
+
+pub returns-clause-queues : goal.returns-clause-queues
+returns-clause-queues c =
+    queues_then c.args.heap.now c.close_one.new.heap c.close_node.new.heap (queues_then c.args.heap.now c.unname_going.new.heap c.close_one.new.heap c.unname_going.ensures.queues c.close_one.ensures.queues)
+    (queues_same c.close_one.new.heap c.close_node.new.heap (same_pipes c.close_one.new.heap c.close_node.new.heap c.close_node.ensures.pays.only) (same_socks c.close_one.new.heap c.close_node.new.heap c.close_node.ensures.pays.only))
+
+pub returns-clause-same : goal.returns-clause-same
+returns-clause-same c =
+    let listed = (listed_on c.args.heap.now c.unname_going.new.heap c.args.procs.now (ap (λ (h : Heap). h.procs) c.unname_going.ensures.beside) c.requires.listed) in
+    let may = (close_on c.args.heap.now c.unname_going.new.heap c.args.purse.now (record {
+      vnodes = ap (λ (h : Heap). h.vnodes) c.unname_going.ensures.beside;
+      names = ap (λ (h : Heap). h.names) c.unname_going.ensures.beside;
+      blocks = ap (λ (h : Heap). h.blocks) c.unname_going.ensures.beside;
+      size = ap (λ (h : Heap). h.heap) c.unname_going.ensures.beside;
+    })
+    c.unname_going.ensures.takes c.requires.may) in
+    c.close_node.ensures.dropped may.vnodes may.blocks
+
+pub returns-clause-may : goal.returns-clause-may
+returns-clause-may c =
+    let listed = (listed_on c.args.heap.now c.unname_going.new.heap c.args.procs.now (ap (λ (h : Heap). h.procs) c.unname_going.ensures.beside) c.requires.listed) in
+    let may = (close_on c.args.heap.now c.unname_going.new.heap c.args.purse.now (record {
+      vnodes = ap (λ (h : Heap). h.vnodes) c.unname_going.ensures.beside;
+      names = ap (λ (h : Heap). h.names) c.unname_going.ensures.beside;
+      blocks = ap (λ (h : Heap). h.blocks) c.unname_going.ensures.beside;
+      size = ap (λ (h : Heap). h.heap) c.unname_going.ensures.beside;
+    })
+    c.unname_going.ensures.takes c.requires.may) in
+    close_again c.close_one.new.heap c.close_node.new.heap c.args.purse.now c.close_node.new.purse c.args.tree.now c.close_node.new.self c.close_node.ensures.pays
+    (c.close_node.ensures.dropped may.vnodes may.blocks)
+    (close_on c.unname_going.new.heap c.close_one.new.heap c.args.purse.now (number_caches c.unname_going.new.heap c.close_one.new.heap c.args.procs.now c.args.place.pid c.args.fd c.close_one.ensures.closes) c.close_one.ensures.takes may)
+
+pub returns-clause-paid : goal.returns-clause-paid
+returns-clause-paid c =
+    IsPaid-trans c.args.heap.now c.args.purse.now c.close_one.new.heap c.args.purse.now c.close_node.new.heap c.close_node.new.purse
+    (IsPaid-trans c.args.heap.now c.args.purse.now c.unname_going.new.heap c.args.purse.now c.close_one.new.heap c.args.purse.now
+    (IsPaid-nothing c.args.heap.now c.unname_going.new.heap c.args.purse.now c.args.purse.now c.unname_going.ensures.takes refl refl)
+    (IsPaid-nothing c.unname_going.new.heap c.close_one.new.heap c.args.purse.now c.args.purse.now c.close_one.ensures.takes refl refl))
+    c.close_node.ensures.pays.paid
+
+pub returns-clause-cached : goal.returns-clause-cached
+returns-clause-cached c =
+    c.close_node.ensures.cached
 
 pub returns-clause-stays : goal.returns-clause-stays
 returns-clause-stays c = λ none.
-    c.close_unbound.ensures.stays (ap (λ (h : Heap). node_closed h.descs (named_at h c.args.procs.now c.args.pid c.args.fd)) c.unname_going.ensures.beside ∙ none)
+    let listed = (listed_on c.args.heap.now c.unname_going.new.heap c.args.procs.now (ap (λ (h : Heap). h.procs) c.unname_going.ensures.beside) c.requires.listed) in
+    let node = (node_of_number c.unname_going.new.heap c.close_one.new.heap c.args.procs.now c.args.place.pid c.args.fd c.close_one.result listed c.close_one.ensures.closes c.close_one.ensures.node) in
+    absurd (let both : Some c.in-Some.node ≡ None = sym c.in-Some.is ∙ node ∙ (ap (λ (h : Heap). node_closed h.descs (named_at h c.args.procs.now c.args.place.pid c.args.fd)) c.unname_going.ensures.beside ∙ none) in cc)

@@ -7,7 +7,7 @@ use Rattle.proc_files.proofs.closing.socket_going.Goals as goal
 
 pub get_desc-desc-requires : goal.get_desc-desc-requires
 get_desc-desc-requires c =
-    ap is_some (desc_named c.args.heap.now c.args.procs.now [] c.requires.listed c.requires.owners c.args.pid c.args.fd c.in_ok-held.held
+    ap is_some (desc_named c.args.heap.now c.args.procs.now [] c.requires.listed c.requires.owners c.args.place.pid c.args.fd c.in_ok-held.held
     (ap (λ (places : List (Option Descriptor)). slice_index_or places c.args.fd None) (sym c.places_of-places.ensures.places) ∙ c.in_ok-held.was)).1
 
 pub returns-then-desc-eq1-clause-there : goal.returns-then-desc-eq1-clause-there

@@ -13,7 +13,7 @@ use Rattle.proc_files.proofs.closing.unname_going.Goals as goal
 pub returns-in_default-node-clause-hold : goal.returns-in_default-node-clause-hold
 returns-in_default-node-clause-hold c = λ numbers others fs files hold.
     let socketed = hold.held.opened.opened.socketed in
-    let going : socket_going c.args.heap.now.descs (named_at c.args.heap.now c.args.procs.now c.args.pid c.args.fd) ≡ Some c.in-Some.key = sym c.socket_going.ensures.going ∙ c.in-Some.is in
+    let going : socket_going c.args.heap.now.descs (named_at c.args.heap.now c.args.procs.now c.args.place.pid c.args.fd) ≡ Some c.in-Some.key = sym c.socket_going.ensures.going ∙ c.in-Some.is in
     let none : name_of c.args.heap.now.socks c.in-Some.key ≡ None = ap name_in c.get_sock.ensures ∙ c.in_default-node.is in
     subst (λ (o : Option ℕ). HoldNames numbers others c.args.heap.now c.args.procs.now fs c.args.names.now (unnamed numbers files o)) (sym going)
     (nothing_taken numbers others c.args.heap.now c.args.procs.now fs c.args.names.now files hold.held hold.bound hold.places c.in-Some.key
@@ -21,7 +21,7 @@ returns-in_default-node-clause-hold c = λ numbers others fs files hold.
 
 pub returns-clause-hold : goal.returns-clause-hold
 returns-clause-hold c = λ numbers others fs files hold.
-    let going : socket_going c.args.heap.now.descs (named_at c.args.heap.now c.args.procs.now c.args.pid c.args.fd) ≡ Some c.in-Some.key = sym c.socket_going.ensures.going ∙ c.in-Some.is in
+    let going : socket_going c.args.heap.now.descs (named_at c.args.heap.now c.args.procs.now c.args.place.pid c.args.fd) ≡ Some c.in-Some.key = sym c.socket_going.ensures.going ∙ c.in-Some.is in
     let named : name_of c.args.heap.now.socks c.in-Some.key ≡ Some c.in-Some-node.node = ap name_in c.get_sock.ensures ∙ c.in-Some-node.is in
     subst (λ (o : Option ℕ). HoldNames numbers others c.take_name.new.heap c.args.procs.now fs c.take_name.new.names (unnamed numbers files o)) (sym going)
     (name_taken numbers others c.args.heap.now c.args.procs.now fs c.args.names.now files hold.held hold.bound hold.places c.in-Some-node.node c.in-Some.key

@@ -11,18 +11,18 @@ use Rattle.proc_files.proofs.ending.close_at_exec.Goals as goal
 pub returns-clause-closed : goal.returns-clause-closed
 returns-clause-closed c = λ numbers others files hold.
     subst (HoldNames numbers others c.close_marked.new.heap c.args.procs.now c.close_marked.new.tree c.close_marked.new.names)
-    (exec_is (is_marked c.marks_of-marks.result) numbers c.args.heap.now c.args.procs.now files c.args.pid
+    (exec_is (is_marked c.marks_of-marks.result) numbers c.args.heap.now c.args.procs.now files c.args.place.pid
     (λ fd below. c.marks_of-marks.ensures fd below ∙ ap (λ places. goes_at_exec places fd) c.places_of-places.ensures.places) hold.held.opened)
     (c.close_marked.ensures.closed numbers others files hold)
 
 pub returns-clause-stays : goal.returns-clause-stays
 returns-clause-stays c = λ numbers others files hold none.
     let end =
-    exec_is (is_marked c.marks_of-marks.result) numbers c.args.heap.now c.args.procs.now files c.args.pid
+    exec_is (is_marked c.marks_of-marks.result) numbers c.args.heap.now c.args.procs.now files c.args.place.pid
     (λ fd below. c.marks_of-marks.ensures fd below ∙ ap (λ places. goes_at_exec places fd) c.places_of-places.ensures.places) hold.held.opened in
     c.close_marked.ensures.stays numbers others files hold
     (λ n. ap (λ (f : Files). openings f n) end
-    ∙ ends_none files (after_exec_of files c.args.pid) none (subst (OnlyGoes files) end (c.close_marked.ensures.goes numbers others files hold)) n)
+    ∙ ends_none files (after_exec_of files c.args.place.pid) none (subst (OnlyGoes files) end (c.close_marked.ensures.goes numbers others files hold)) n)
 
 pub returns-clause-changes : goal.returns-clause-changes
 returns-clause-changes c = c.close_marked.ensures.closes.changes

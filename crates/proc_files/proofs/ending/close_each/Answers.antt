@@ -1,4 +1,4 @@
-use Rattle.std.proofs.Common.{ap, ◌∙◌, refl, subst, sym}
+use Rattle.std.proofs.Common.{is_some, ap, ◌∙◌, refl, subst, sym}
 use Rattle.posix_defs.specs.Files.Closing.{after_end_of}
 use Rattle.posix_defs.specs.Files.State.{Files}
 use Rattle.proc_numbers.proofs.Fronts.{queues_same}
@@ -15,12 +15,12 @@ use Rattle.proc_files.proofs.ending.close_each.Goals as goal
 pub returns-then-has_none_open-clause-closed : goal.returns-then-has_none_open-clause-closed
 returns-then-has_none_open-clause-closed c = λ numbers others files hold.
     subst (HoldNames numbers others c.args.heap.now c.args.procs.now c.args.tree.now c.args.names.now)
-    (sym (ends_same numbers c.args.heap.now c.args.procs.now files c.args.pid c.requires.listed (is_at c.args.heap.now c.args.procs.now c.args.pid c.requires.listed c.requires.there)
+    (sym (ends_same numbers c.args.heap.now c.args.procs.now files c.args.place.pid c.requires.listed (is_at c.args.heap.now c.args.procs.now c.args.place.pid c.requires.listed (ap is_some c.requires.there))
     (sym c.has_none_open.ensures.all ∙ c.if-has_none_open.true) hold.held.opened)) hold
 
 pub returns-then-has_none_open-clause-closes : goal.returns-then-has_none_open-clause-closes
 returns-then-has_none_open-clause-closes c =
-    each_none c.args.heap.now c.args.procs.now c.args.pid (is_at c.args.heap.now c.args.procs.now c.args.pid c.requires.listed c.requires.there) (c.has_none_open.ensures.none c.if-has_none_open.true)
+    each_none c.args.heap.now c.args.procs.now c.args.place.pid (is_at c.args.heap.now c.args.procs.now c.args.place.pid c.requires.listed (ap is_some c.requires.there)) (c.has_none_open.ensures.none c.if-has_none_open.true)
 
 pub returns-then-has_none_open-clause-queues : goal.returns-then-has_none_open-clause-queues
 returns-then-has_none_open-clause-queues c = queues_same c.args.heap.now c.args.heap.now refl refl
@@ -29,16 +29,16 @@ returns-then-has_none_open-clause-queues c = queues_same c.args.heap.now c.args.
 
 pub returns-clause-closed : goal.returns-clause-closed
 returns-clause-closed c = λ numbers others files hold.
-    subst (HoldNames numbers others c.close_marked.new.heap c.args.procs.now c.close_marked.new.tree c.close_marked.new.names) (end_is (is_marked c.all_marks-marks.result) files c.args.pid c.all_marks-marks.ensures)
+    subst (HoldNames numbers others c.close_marked.new.heap c.args.procs.now c.close_marked.new.tree c.close_marked.new.names) (end_is (is_marked c.all_marks-marks.result) files c.args.place.pid c.all_marks-marks.ensures)
     (c.close_marked.ensures.closed numbers others files hold)
 
 pub returns-clause-closes : goal.returns-clause-closes
 returns-clause-closes c =
-    each_closed c.args.heap.now c.close_marked.new.heap c.args.procs.now c.args.pid (is_marked c.all_marks-marks.result) c.all_marks-marks.ensures c.is_well_formed.ensures c.close_marked.ensures.closes
+    each_closed c.args.heap.now c.close_marked.new.heap c.args.procs.now c.args.place.pid (is_marked c.all_marks-marks.result) c.all_marks-marks.ensures c.is_well_formed.ensures c.close_marked.ensures.closes
 
 pub returns-clause-stays : goal.returns-clause-stays
 returns-clause-stays c = λ numbers others files hold none.
-    let end = end_is (is_marked c.all_marks-marks.result) files c.args.pid c.all_marks-marks.ensures in
+    let end = end_is (is_marked c.all_marks-marks.result) files c.args.place.pid c.all_marks-marks.ensures in
     c.close_marked.ensures.stays numbers others files hold
     (λ n. ap (λ (f : Files). openings f n) end
-    ∙ ends_none files (after_end_of files c.args.pid) none (subst (OnlyGoes files) end (c.close_marked.ensures.goes numbers others files hold)) n)
+    ∙ ends_none files (after_end_of files c.args.place.pid) none (subst (OnlyGoes files) end (c.close_marked.ensures.goes numbers others files hold)) n)

@@ -1,4 +1,4 @@
-use Rattle.std.proofs.Common.{◌≡◌, ◌+◌, ◌∙◌, ℕ, cond, suc, refl, sym, subst, arith}
+use Rattle.std.proofs.Common.{is_some, ap, ◌≡◌, ◌+◌, ◌∙◌, ℕ, cond, suc, refl, sym, subst, arith}
 use Rattle.memfs_ops.proofs.CachedLemmas.{cached_still, cached_then}
 use Rattle.kheap_laws.proofs.PaidLemmas.{IsPaid-refl, IsPaid-trans}
 use Rattle.posix_defs.specs.Files.Closing.{after_close}
@@ -18,7 +18,7 @@ loop-fd-init c = record {
   listed = c.requires.listed;
   owners = c.requires.owners;
   hold = c.requires.hold;
-  closes = marked_begins c.args.heap.now c.args.procs.now c.args.pid (is_marked c.args.marks.now) (is_at c.args.heap.now c.args.procs.now c.args.pid c.requires.listed c.requires.there);
+  closes = marked_begins c.args.heap.now c.args.procs.now c.args.place.pid (is_marked c.args.marks.now) (is_at c.args.heap.now c.args.procs.now c.args.place.pid c.requires.listed (ap is_some c.requires.there));
   queues = queues_same c.args.heap.now c.args.heap.now refl refl;
   same = refl;
   may = c.requires.may;
@@ -41,37 +41,37 @@ loop-fd-preserved c =
     let was = c.loop-fd.invariant in
     record {
       closed = λ numbers others files hold.
-          let before = closed_where (is_marked c.args.marks.now) files c.args.pid fd in
-          subst (λ n. HoldNames numbers others new c.args.procs.now c.close_if.new.tree c.close_if.new.names (closed_where (is_marked c.args.marks.now) files c.args.pid n)) (next_one fd)
-          (subst (λ b. HoldNames numbers others new c.args.procs.now c.close_if.new.tree c.close_if.new.names (cond b (after_close before c.args.pid fd) before)) c.mark_at-marked.ensures
+          let before = closed_where (is_marked c.args.marks.now) files c.args.place.pid fd in
+          subst (λ n. HoldNames numbers others new c.args.procs.now c.close_if.new.tree c.close_if.new.names (closed_where (is_marked c.args.marks.now) files c.args.place.pid n)) (next_one fd)
+          (subst (λ b. HoldNames numbers others new c.args.procs.now c.close_if.new.tree c.close_if.new.names (cond b (after_close before c.args.place.pid fd) before)) c.mark_at-marked.ensures
           (c.close_if.ensures.closed numbers others before (was.closed numbers others files hold)));
       listed = c.close_if.ensures.listed;
       owners = c.close_if.ensures.owners;
       hold = c.close_if.ensures.hold;
       closes =
-          subst (ClosesMarked c.args.heap.now new c.args.procs.now c.args.pid (is_marked c.args.marks.now)) (next_one fd)
-          (marked_more c.args.heap.now mid new c.args.procs.now c.args.pid fd (is_marked c.args.marks.now) was.closes
-          (subst (ClosesIf mid new c.args.procs.now c.args.pid fd) c.mark_at-marked.ensures c.close_if.ensures.closes));
+          subst (ClosesMarked c.args.heap.now new c.args.procs.now c.args.place.pid (is_marked c.args.marks.now)) (next_one fd)
+          (marked_more c.args.heap.now mid new c.args.procs.now c.args.place.pid fd (is_marked c.args.marks.now) was.closes
+          (subst (ClosesIf mid new c.args.procs.now c.args.place.pid fd) c.mark_at-marked.ensures c.close_if.ensures.closes));
       queues = queues_then c.args.heap.now mid new was.queues c.close_if.ensures.queues;
       same = c.close_if.ensures.same ∙ was.same;
       may = c.close_if.ensures.may;
       places = c.close_if.ensures.places ∙ was.places;
       paid = IsPaid-trans c.args.heap.now c.args.purse.now mid c.loop-fd.purse new c.close_if.new.purse was.paid c.close_if.ensures.paid;
       goes = λ numbers others files hold.
-          let before = closed_where (is_marked c.args.marks.now) files c.args.pid fd in
-          subst (λ n. OnlyGoes files (closed_where (is_marked c.args.marks.now) files c.args.pid n)) (next_one fd)
-          (goes_then files before (closed_where (is_marked c.args.marks.now) files c.args.pid (suc fd)) (was.goes numbers others files hold)
-          (subst (λ b. OnlyGoes before (cond b (after_close before c.args.pid fd) before)) c.mark_at-marked.ensures (c.close_if.ensures.goes numbers others before (was.closed numbers others files hold))));
+          let before = closed_where (is_marked c.args.marks.now) files c.args.place.pid fd in
+          subst (λ n. OnlyGoes files (closed_where (is_marked c.args.marks.now) files c.args.place.pid n)) (next_one fd)
+          (goes_then files before (closed_where (is_marked c.args.marks.now) files c.args.place.pid (suc fd)) (was.goes numbers others files hold)
+          (subst (λ b. OnlyGoes before (cond b (after_close before c.args.place.pid fd) before)) c.mark_at-marked.ensures (c.close_if.ensures.goes numbers others before (was.closed numbers others files hold))));
       stays = λ numbers others files hold same.
-          let before = closed_where (is_marked c.args.marks.now) files c.args.pid fd in
-          let next = closed_where (is_marked c.args.marks.now) files c.args.pid (suc fd) in
+          let before = closed_where (is_marked c.args.marks.now) files c.args.place.pid fd in
+          let next = closed_where (is_marked c.args.marks.now) files c.args.place.pid (suc fd) in
           let all : (n : ℕ) → openings next n ≡ openings files n =
-          subst (λ k. (n : ℕ) → openings (closed_where (is_marked c.args.marks.now) files c.args.pid k) n ≡ openings files n) (sym (next_one fd)) same in
+          subst (λ k. (n : ℕ) → openings (closed_where (is_marked c.args.marks.now) files c.args.place.pid k) n ≡ openings files n) (sym (next_one fd)) same in
           let first = was.goes numbers others files hold in
           let second : OnlyGoes before next =
-          subst (λ b. OnlyGoes before (cond b (after_close before c.args.pid fd) before)) c.mark_at-marked.ensures (c.close_if.ensures.goes numbers others before (was.closed numbers others files hold)) in
+          subst (λ b. OnlyGoes before (cond b (after_close before c.args.place.pid fd) before)) c.mark_at-marked.ensures (c.close_if.ensures.goes numbers others before (was.closed numbers others files hold)) in
           c.close_if.ensures.stays numbers others before (was.closed numbers others files hold)
-          (subst (λ b. (n : ℕ) → openings (cond b (after_close before c.args.pid fd) before) n ≡ openings before n) (sym c.mark_at-marked.ensures)
+          (subst (λ b. (n : ℕ) → openings (cond b (after_close before c.args.place.pid fd) before) n ≡ openings before n) (sym c.mark_at-marked.ensures)
           (λ n. (let one = first.fewer n in let two = second.fewer n in let as_many = all n in omega (arith, one, two, as_many))))
           ∙ was.stays numbers others files hold (λ n. (let one = first.fewer n in let two = second.fewer n in let as_many = all n in omega (arith, one, two, as_many)));
       cached = cached_then c.args.tree.now c.loop-fd.tree c.close_if.new.tree was.cached c.close_if.ensures.cached;
@@ -80,21 +80,21 @@ loop-fd-preserved c =
 
 pub returns-clause-closed : goal.returns-clause-closed
 returns-clause-closed c = λ numbers others files hold.
-    subst (λ n. HoldNames numbers others c.loop-fd.heap c.args.procs.now c.loop-fd.tree c.loop-fd.names (closed_where (is_marked c.args.marks.now) files c.args.pid n)) (let e : c.loop-fd.fd ≡ most_descriptors = omega arith in e)
+    subst (λ n. HoldNames numbers others c.loop-fd.heap c.args.procs.now c.loop-fd.tree c.loop-fd.names (closed_where (is_marked c.args.marks.now) files c.args.place.pid n)) (let e : c.loop-fd.fd ≡ most_descriptors = omega arith in e)
     (c.loop-fd.invariant.closed numbers others files hold)
 
 pub returns-clause-closes : goal.returns-clause-closes
 returns-clause-closes c =
-    subst (ClosesMarked c.args.heap.now c.loop-fd.heap c.args.procs.now c.args.pid (is_marked c.args.marks.now)) (let e : c.loop-fd.fd ≡ most_descriptors = omega arith in e) c.loop-fd.invariant.closes
+    subst (ClosesMarked c.args.heap.now c.loop-fd.heap c.args.procs.now c.args.place.pid (is_marked c.args.marks.now)) (let e : c.loop-fd.fd ≡ most_descriptors = omega arith in e) c.loop-fd.invariant.closes
 
 pub returns-clause-goes : goal.returns-clause-goes
 returns-clause-goes c = λ numbers others files hold.
-    subst (λ n. OnlyGoes files (closed_where (is_marked c.args.marks.now) files c.args.pid n)) (let e : c.loop-fd.fd ≡ most_descriptors = omega arith in e) (c.loop-fd.invariant.goes numbers others files hold)
+    subst (λ n. OnlyGoes files (closed_where (is_marked c.args.marks.now) files c.args.place.pid n)) (let e : c.loop-fd.fd ≡ most_descriptors = omega arith in e) (c.loop-fd.invariant.goes numbers others files hold)
 
 pub returns-clause-stays : goal.returns-clause-stays
 returns-clause-stays c = λ numbers others files hold same.
     c.loop-fd.invariant.stays numbers others files hold
-    (subst (λ k. (n : ℕ) → openings (closed_where (is_marked c.args.marks.now) files c.args.pid k) n ≡ openings files n) (sym (let e : c.loop-fd.fd ≡ most_descriptors = omega arith in e)) same)
+    (subst (λ k. (n : ℕ) → openings (closed_where (is_marked c.args.marks.now) files c.args.place.pid k) n ≡ openings files n) (sym (let e : c.loop-fd.fd ≡ most_descriptors = omega arith in e)) same)
 
 pub returns-clause-cached : goal.returns-clause-cached
 returns-clause-cached c = c.loop-fd.invariant.cached

@@ -16,19 +16,19 @@ use Rattle.proc_files.proofs.ending.close_marked.Given as goal
 abbrev pub invariant-loop-fd : goal.invariant-loop-fd
 invariant-loop-fd l = record {
   closed : (numbers : Numbers) (others : ℕ → ℕ) (files : Files) → HoldNames numbers others l.fn.heap l.procs l.fn.tree l.fn.names files
-      → HoldNames numbers others l.heap l.procs l.tree l.names (closed_where (is_marked l.marks) files l.pid l.fd);
+      → HoldNames numbers others l.heap l.procs l.tree l.names (closed_where (is_marked l.marks) files l.place.pid l.fd);
   listed : AreListed l.heap l.procs;
   owners : HasItsOwners l.heap [];
   hold : HoldSomeNames l.heap l.procs l.tree l.names;
-  closes : ClosesMarked l.fn.heap l.heap l.procs l.pid (is_marked l.marks) l.fd;
+  closes : ClosesMarked l.fn.heap l.heap l.procs l.place.pid (is_marked l.marks) l.fd;
   queues : QueuesStand l.fn.heap l.heap;
   same : l.purse ≡ l.fn.purse;
   may : MayClose l.heap l.purse;
   places : length l.names ≡ length l.fn.names;
   paid : IsPaid l.fn.heap l.fn.purse l.heap l.purse;
-  goes : (numbers : Numbers) (others : ℕ → ℕ) (files : Files) → HoldNames numbers others l.fn.heap l.procs l.fn.tree l.fn.names files → OnlyGoes files (closed_where (is_marked l.marks) files l.pid l.fd);
+  goes : (numbers : Numbers) (others : ℕ → ℕ) (files : Files) → HoldNames numbers others l.fn.heap l.procs l.fn.tree l.fn.names files → OnlyGoes files (closed_where (is_marked l.marks) files l.place.pid l.fd);
   stays : (numbers : Numbers) (others : ℕ → ℕ) (files : Files) → HoldNames numbers others l.fn.heap l.procs l.fn.tree l.fn.names files
-      → ((number : ℕ) → openings (closed_where (is_marked l.marks) files l.pid l.fd) number ≡ openings files number) → l.tree ≡ l.fn.tree;
+      → ((number : ℕ) → openings (closed_where (is_marked l.marks) files l.place.pid l.fd) number ≡ openings files number) → l.tree ≡ l.fn.tree;
   reads : l.fn.tree.disk.reads ≤ l.tree.disk.reads;
   cached : KeepsCached l.fn.tree l.tree;
 }

@@ -9,4 +9,4 @@ returns-clause-all c = c.are_none.ensures ∙ ap (list_all is_none) c.places_of-
 
 pub returns-clause-none : goal.returns-clause-none
 returns-clause-none c = λ is.
-    none_named (places_of c.args.heap.now c.args.procs.now c.args.pid) c.places_of-places.ensures.all (sym (c.are_none.ensures ∙ ap (list_all is_none) c.places_of-places.ensures.places) ∙ is)
+    none_named (places_of c.args.heap.now c.args.procs.now c.args.place.pid) c.places_of-places.ensures.all (sym (c.are_none.ensures ∙ ap (list_all is_none) c.places_of-places.ensures.places) ∙ is)

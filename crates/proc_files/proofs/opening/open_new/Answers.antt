@@ -1,7 +1,7 @@
 use Rattle.std.proofs.Common.{◌≡◌, ◌∙◌, [], length, Some, ap, refl, sym, subst, w64}
 use Rattle.std.proofs.lemmas.Int.{to_z-of_z}
 use Rattle.kheap_slabs.specs.Heap.{Heap}
-use Rattle.kheap_laws.proofs.PaidLemmas.{IsPaid-nothing, IsPaid-trans}
+use Rattle.kheap_laws.proofs.PaidLemmas.{IsPaid-trans, CanPay-kept}
 use Rattle.posix_defs.specs.Calls.OnFiles.{description_for}
 use Rattle.posix_defs.specs.Files.Descriptions.{has_flag, o_cloexec}
 use Rattle.posix_defs.specs.Files.State.{with_open}
@@ -20,7 +20,7 @@ open_one-requires-clause-listed c =
     made_listed c.args.heap.now c.describe-desc.new.heap c.describe-desc.result c.args.node _ c.describe-desc.ensures.makes c.args.procs.now c.requires.listed
 
 pub open_one-requires-clause-free : goal.open_one-requires-clause-free
-open_one-requires-clause-free c = ap (λ (h : Heap). named_at h c.args.procs.now c.args.pid c.args.fd) c.describe-desc.ensures.makes.kept ∙ c.requires.free
+open_one-requires-clause-free c = ap (λ (h : Heap). named_at h c.args.procs.now c.args.place.pid c.args.fd) c.describe-desc.ensures.makes.kept ∙ c.requires.free
 
 pub returns-clause-opened : goal.returns-clause-opened
 returns-clause-opened c = λ numbers files have.
@@ -40,9 +40,9 @@ returns-clause-opened c = λ numbers files have.
       };
       have =
           subst (λ b. HaveOpen then c.open_one.new.heap c.args.procs.now
-          (with_open (described_more files (description_for c.args.node c.args.flags)) c.args.pid c.args.fd (Some (record { description = length files.descriptions; cloexec = b })))) (c.has_flag.ensures ∙ ap (λ z. has_flag z o_cloexec) flags)
+          (with_open (described_more files (description_for c.args.node c.args.flags)) c.args.place.pid c.args.fd (Some (record { description = length files.descriptions; cloexec = b })))) (c.has_flag.ensures ∙ ap (λ z. has_flag z o_cloexec) flags)
           (subst (λ place. HaveOpen then c.open_one.new.heap c.args.procs.now
-          (with_open (described_more files (description_for c.args.node c.args.flags)) c.args.pid c.args.fd (Some (record { description = place; cloexec = c.has_flag.result })))) (given numbers.descs key (length files.descriptions))
+          (with_open (described_more files (description_for c.args.node c.args.flags)) c.args.place.pid c.args.fd (Some (record { description = place; cloexec = c.has_flag.result })))) (given numbers.descs key (length files.descriptions))
           (c.open_one.ensures.opened then (described_more files (description_for c.args.node c.args.flags)) made));
     }
 
@@ -54,9 +54,9 @@ pub returns-clause-changes : goal.returns-clause-changes
 returns-clause-changes c =
     let makes = c.describe-desc.ensures.makes in
     let mid = c.describe-desc.new.heap in
-    changes_after c.args.heap.now mid c.open_one.new.heap c.args.procs.now c.args.pid (ap (λ (h : Heap). h.procs) makes.kept)
+    changes_after c.args.heap.now mid c.open_one.new.heap c.args.procs.now c.args.place.pid (ap (λ (h : Heap). h.procs) makes.kept)
     (subst (λ (h : Heap). h ≡ opening c.args.heap.now h) (sym makes.kept) refl)
-    (changes_named mid c.open_one.new.heap c.args.procs.now c.args.pid c.args.fd _ (made_listed c.args.heap.now mid c.describe-desc.result c.args.node _ makes c.args.procs.now c.requires.listed) c.open_one.ensures.names)
+    (changes_named mid c.open_one.new.heap c.args.procs.now c.args.place.pid c.args.fd _ (made_listed c.args.heap.now mid c.describe-desc.result c.args.node _ makes c.args.procs.now c.requires.listed) c.open_one.ensures.names)
 
 pub returns-clause-stay : goal.returns-clause-stay
 returns-clause-stay c =
@@ -75,17 +75,19 @@ returns-clause-queues c =
 
 pub returns-clause-paid : goal.returns-clause-paid
 returns-clause-paid c =
-    IsPaid-trans c.args.heap.now c.args.purse.now c.describe-desc.new.heap c.describe-desc.new.purse c.open_one.new.heap c.describe-desc.new.purse c.describe-desc.ensures.paid
-    (IsPaid-nothing c.describe-desc.new.heap c.open_one.new.heap c.describe-desc.new.purse c.describe-desc.new.purse c.open_one.ensures.takes refl refl)
+    IsPaid-trans c.args.heap.now c.args.purse.now c.describe-desc.new.heap c.describe-desc.new.purse c.open_one.new.heap c.open_one.new._purse c.describe-desc.ensures.paid c.open_one.ensures.paid
 
 pub returns-clause-fills : goal.returns-clause-fills
 returns-clause-fills c =
     let makes = c.describe-desc.ensures.makes in let names = c.open_one.ensures.names in
-    spent_fills c.args.heap.now c.open_one.new.heap c.args.purse.now c.describe-desc.new.purse
+    spent_fills c.args.heap.now c.open_one.new.heap c.args.purse.now c.open_one.new._purse
     (ap (λ (h : Heap). h.vnodes) names.after ∙ ap (λ (h : Heap). h.vnodes) makes.kept)
     (ap (λ (h : Heap). h.names) names.after ∙ ap (λ (h : Heap). h.names) makes.kept)
     (ap (λ (h : Heap). h.blocks) names.after ∙ ap (λ (h : Heap). h.blocks) makes.kept)
-    c.describe-desc.ensures.spent c.requires.fills
+    (c.open_one.ensures.spent ∙ c.describe-desc.ensures.spent) c.requires.fills
 
 pub returns-clause-socks : goal.returns-clause-socks
 returns-clause-socks c = ap (λ (h : Heap). h.socks) c.open_one.ensures.names.after ∙ ap (λ (h : Heap). h.socks) c.describe-desc.ensures.makes.kept
+
+pub open_one-requires-clause-pays : goal.open_one-requires-clause-pays
+open_one-requires-clause-pays c = CanPay-kept c.args.heap.now c.describe-desc.new.heap c.args.purse.now c.describe-desc.new.purse c.describe-desc.ensures.paid c.requires.pays

@@ -1,4 +1,4 @@
-use Rattle.std.proofs.Common.{◌≡◌, ◌∙◌, ◌<◌, true, [], Ok, ap, refl, sym, subst, w64}
+use Rattle.std.proofs.Common.{is_some, ◌≡◌, ◌∙◌, ◌<◌, true, [], Ok, ap, refl, sym, subst, w64}
 use Rattle.std.specs.Prelude.{IfSome}
 use Rattle.std.proofs.lemmas.Int.{to_z-of_z}
 use Rattle.kabi_types.specs.OpenFlags.{are_open_flags}
@@ -38,7 +38,7 @@ returns-in_default-clause-answers c = λ numbers others script plain table hold.
       keeps = record { descs = λ key used. refl; pipes = λ key used. refl; socks = λ key used. refl; frames = refl };
       answers = record {
         files = plain.files;
-        replies = open_full script plain c.args.pid c.args.path.now c.args.flags (c.lowest_free.ensures.lowest numbers plain.files hold.opened ∙ none);
+        replies = open_full script plain c.args.place.pid c.args.path.now c.args.flags (c.lowest_free.ensures.lowest numbers plain.files hold.opened ∙ none);
         holds = hold;
       };
     }
@@ -49,7 +49,7 @@ returns-in_default-clause-hold c =
 
 pub returns-in_default-clause-changes : goal.returns-in_default-clause-changes
 returns-in_default-clause-changes c =
-    holding_of c.args.heap.now c.args.heap.now c.args.procs.now c.args.pid (changes_nothing c.args.heap.now c.args.procs.now c.args.pid c.requires.listed c.requires.there)
+    holding_of c.args.heap.now c.args.heap.now c.args.procs.now c.args.place.pid (changes_nothing c.args.heap.now c.args.procs.now c.args.place.pid c.requires.listed (ap is_some c.requires.there))
 
 pub returns-in_default-clause-queues : goal.returns-in_default-clause-queues
 returns-in_default-clause-queues c = queues_same c.args.heap.now c.args.heap.now refl refl
@@ -91,7 +91,7 @@ returns-in-Err-clause-answers c = λ numbers others script plain table hold.
       keeps = record { descs = λ key used. refl; pipes = λ key used. refl; socks = λ key used. refl; frames = refl };
       answers = record {
         files = plain.files;
-        replies = open_fails script plain c.args.pid c.args.path.now c.args.flags c.in-Some.fd (c.lowest_free.ensures.lowest numbers plain.files hold.opened ∙ c.in-Some.is) c.in-Err.errno
+        replies = open_fails script plain c.args.place.pid c.args.path.now c.args.flags c.in-Some.fd (c.lowest_free.ensures.lowest numbers plain.files hold.opened ∙ c.in-Some.is) c.in-Err.errno
             (ap (λ n. open_path plain.files.tree n c.args.path.now (opening_of c.args.flags)) cwd ∙ it.0);
         holds = it.1;
       };
@@ -118,9 +118,9 @@ returns-in-Err-clause-hold c =
 pub returns-in-Err-clause-changes : goal.returns-in-Err-clause-changes
 returns-in-Err-clause-changes c =
     let only = c.open_node.ensures.pays.only in
-    caches_before c.args.heap.now c.open_node.new.heap c.open_node.new.heap c.args.procs.now c.args.pid only
-    (holding_of c.open_node.new.heap c.open_node.new.heap c.args.procs.now c.args.pid
-    (changes_nothing c.open_node.new.heap c.args.procs.now c.args.pid (listed_beside c.args.heap.now c.open_node.new.heap only c.args.procs.now c.requires.listed) c.requires.there))
+    caches_before c.args.heap.now c.open_node.new.heap c.open_node.new.heap c.args.procs.now c.args.place.pid only
+    (holding_of c.open_node.new.heap c.open_node.new.heap c.args.procs.now c.args.place.pid
+    (changes_nothing c.open_node.new.heap c.args.procs.now c.args.place.pid (listed_beside c.args.heap.now c.open_node.new.heap only c.args.procs.now c.requires.listed) (ap is_some c.requires.there)))
 
 pub returns-in-Err-clause-queues : goal.returns-in-Err-clause-queues
 returns-in-Err-clause-queues c =
@@ -144,12 +144,12 @@ pub open_new-requires-clause-owners : goal.open_new-requires-clause-owners
 open_new-requires-clause-owners c = owners_beside c.args.heap.now c.open_node.new.heap c.open_node.ensures.pays.only [] c.requires.owners
 
 pub open_new-requires-clause-number : goal.open_new-requires-clause-number
-open_new-requires-clause-number c = (subst (λ o. IfSome o (IsLowest c.args.heap.now c.args.procs.now c.args.pid 0)) c.in-Some.is c.lowest_free.ensures.free).0
+open_new-requires-clause-number c = (subst (λ o. IfSome o (IsLowest c.args.heap.now c.args.procs.now c.args.place.pid 0)) c.in-Some.is c.lowest_free.ensures.free).0
 
 pub open_new-requires-clause-free : goal.open_new-requires-clause-free
 open_new-requires-clause-free c =
-    ap (λ (h : Heap). named_at h c.args.procs.now c.args.pid c.in-Some.fd) c.open_node.ensures.pays.only
-    ∙ (subst (λ o. IfSome o (IsLowest c.args.heap.now c.args.procs.now c.args.pid 0)) c.in-Some.is c.lowest_free.ensures.free).2
+    ap (λ (h : Heap). named_at h c.args.procs.now c.args.place.pid c.in-Some.fd) c.open_node.ensures.pays.only
+    ∙ (subst (λ o. IfSome o (IsLowest c.args.heap.now c.args.procs.now c.args.place.pid 0)) c.in-Some.is c.lowest_free.ensures.free).2
 
 pub open_new-requires-clause-pays : goal.open_new-requires-clause-pays
 open_new-requires-clause-pays c = CanPay-kept c.args.heap.now c.open_node.new.heap c.args.purse.now c.open_node.new.purse c.open_node.ensures.pays.paid c.requires.may.pays
@@ -169,17 +169,17 @@ returns-in-Ok-clause-answers c = λ numbers others script plain table hold.
     (subst (λ (o : Opening). OpenedAs c.open_node.new.heap c.open_node.new.self plain.files.tree (open_path plain.files.tree c.directory_of-cwd.result c.args.path.now o) (holders others plain.files) c.open_node.result) how
     (c.open_node.ensures.answer plain.files.tree (holders others plain.files) hold.tree)) in
     let opened : (n : Numbers) (f : Files) → HaveOpen n c.open_node.new.heap c.args.procs.now f
-    → HaveAnew n c.open_node.new.heap c.open_new.new.heap c.args.procs.now (opened_as f c.args.pid c.in-Some.fd (has_flag c.args.flags o_cloexec) (description_for c.in-Ok.node c.args.flags)) = λ numbers files have.
-    subst (λ z. HaveAnew numbers c.open_node.new.heap c.open_new.new.heap c.args.procs.now (opened_as files c.args.pid c.in-Some.fd (has_flag z o_cloexec) (description_for c.in-Ok.node z))) flags
+    → HaveAnew n c.open_node.new.heap c.open_new.new.heap c.args.procs.now (opened_as f c.args.place.pid c.in-Some.fd (has_flag c.args.flags o_cloexec) (description_for c.in-Ok.node c.args.flags)) = λ numbers files have.
+    subst (λ z. HaveAnew numbers c.open_node.new.heap c.open_new.new.heap c.args.procs.now (opened_as files c.args.place.pid c.in-Some.fd (has_flag z o_cloexec) (description_for c.in-Ok.node z))) flags
     (c.open_new.ensures.opened numbers files have) in
     let it = opened_by numbers others c.args.heap.now c.open_node.new.heap c.args.procs.now c.args.tree.now c.open_node.new.self plain.files c.directory_of-cwd.result c.args.path.now c.args.flags hold
-    c.open_node.ensures.pays.only works.files.tree works.hold.tree.behind dir c.open_new.new.heap c.args.pid c.in-Some.fd c.in-Ok.node answer c.open_new.ensures.stay opened in
+    c.open_node.ensures.pays.only works.files.tree works.hold.tree.behind dir c.open_new.new.heap c.args.place.pid c.in-Some.fd c.in-Ok.node answer c.open_new.ensures.stay opened in
     record {
       now = it.now;
       keeps = it.keeps;
       answers = record {
-        files = opened_as (with_tree plain.files it.next) c.args.pid c.in-Some.fd (has_flag c.args.flags o_cloexec) (description_for c.in-Ok.node c.args.flags);
-        replies = open_goes script plain c.args.pid c.args.path.now c.args.flags c.in-Some.fd (c.lowest_free.ensures.lowest numbers plain.files hold.opened ∙ c.in-Some.is) c.in-Ok.node it.next
+        files = opened_as (with_tree plain.files it.next) c.args.place.pid c.in-Some.fd (has_flag c.args.flags o_cloexec) (description_for c.in-Ok.node c.args.flags);
+        replies = open_goes script plain c.args.place.pid c.args.path.now c.args.flags c.in-Some.fd (c.lowest_free.ensures.lowest numbers plain.files hold.opened ∙ c.in-Some.is) c.in-Ok.node it.next
             (ap (λ n. open_path plain.files.tree n c.args.path.now (opening_of c.args.flags)) cwd ∙ it.is);
         holds = it.holds;
       };
@@ -196,17 +196,17 @@ returns-in-Ok-clause-hold c =
     (subst (λ (o : Opening). OpenedAs c.open_node.new.heap c.open_node.new.self works.files.tree (open_path works.files.tree c.directory_of-cwd.result c.args.path.now o) (holders works.others works.files) c.open_node.result) how
     (c.open_node.ensures.answer works.files.tree (holders works.others works.files) works.hold.tree)) in
     let opened : (n : Numbers) (f : Files) → HaveOpen n c.open_node.new.heap c.args.procs.now f
-    → HaveAnew n c.open_node.new.heap c.open_new.new.heap c.args.procs.now (opened_as f c.args.pid c.in-Some.fd (has_flag c.args.flags o_cloexec) (description_for c.in-Ok.node c.args.flags)) = λ numbers files have.
-    subst (λ z. HaveAnew numbers c.open_node.new.heap c.open_new.new.heap c.args.procs.now (opened_as files c.args.pid c.in-Some.fd (has_flag z o_cloexec) (description_for c.in-Ok.node z))) flags
+    → HaveAnew n c.open_node.new.heap c.open_new.new.heap c.args.procs.now (opened_as f c.args.place.pid c.in-Some.fd (has_flag c.args.flags o_cloexec) (description_for c.in-Ok.node c.args.flags)) = λ numbers files have.
+    subst (λ z. HaveAnew numbers c.open_node.new.heap c.open_new.new.heap c.args.procs.now (opened_as files c.args.place.pid c.in-Some.fd (has_flag z o_cloexec) (description_for c.in-Ok.node z))) flags
     (c.open_new.ensures.opened numbers files have) in
     let it = opened_by works.numbers works.others c.args.heap.now c.open_node.new.heap c.args.procs.now c.args.tree.now c.open_node.new.self works.files c.directory_of-cwd.result c.args.path.now c.args.flags works.hold
-    c.open_node.ensures.pays.only works.files.tree works.hold.tree.behind dir c.open_new.new.heap c.args.pid c.in-Some.fd c.in-Ok.node answer c.open_new.ensures.stay opened in
-    record { numbers = it.now; others = works.others; files = opened_as (with_tree works.files it.next) c.args.pid c.in-Some.fd (has_flag c.args.flags o_cloexec) (description_for c.in-Ok.node c.args.flags); hold = it.holds }
+    c.open_node.ensures.pays.only works.files.tree works.hold.tree.behind dir c.open_new.new.heap c.args.place.pid c.in-Some.fd c.in-Ok.node answer c.open_new.ensures.stay opened in
+    record { numbers = it.now; others = works.others; files = opened_as (with_tree works.files it.next) c.args.place.pid c.in-Some.fd (has_flag c.args.flags o_cloexec) (description_for c.in-Ok.node c.args.flags); hold = it.holds }
 
 pub returns-in-Ok-clause-changes : goal.returns-in-Ok-clause-changes
 returns-in-Ok-clause-changes c =
-    caches_before c.args.heap.now c.open_node.new.heap c.open_new.new.heap c.args.procs.now c.args.pid c.open_node.ensures.pays.only
-    (holding_of c.open_node.new.heap c.open_new.new.heap c.args.procs.now c.args.pid c.open_new.ensures.changes)
+    caches_before c.args.heap.now c.open_node.new.heap c.open_new.new.heap c.args.procs.now c.args.place.pid c.open_node.ensures.pays.only
+    (holding_of c.open_node.new.heap c.open_new.new.heap c.args.procs.now c.args.place.pid c.open_new.ensures.changes)
 
 pub returns-in-Ok-clause-queues : goal.returns-in-Ok-clause-queues
 returns-in-Ok-clause-queues c =

@@ -11,8 +11,8 @@ use Rattle.proc_files.proofs.seeking.seek_number.Goals as goal
 pub returns-in_default-clause-answers : goal.returns-in_default-clause-answers
 returns-in_default-clause-answers c = λ numbers others script plain hold. record {
   files = plain.files;
-  replies = lseek_bad script numbers plain c.args.pid c.args.fd c.args.offset c.args.whence
-      (subst (λ z. opened_at plain.files c.args.pid z ≡ None) (to_z-of_z w64 c.args.fd c.ranges.fd)
+  replies = lseek_bad script numbers plain c.args.place.pid c.args.fd c.args.offset c.args.whence
+      (subst (λ z. opened_at plain.files c.args.place.pid z ≡ None) (to_z-of_z w64 c.args.fd c.ranges.fd)
       (c.opened.ensures.found numbers plain.files hold.opened ∙ ap (option_map (opened_in numbers)) c.in_default.is));
   holds = hold;
 }
@@ -20,8 +20,8 @@ returns-in_default-clause-answers c = λ numbers others script plain hold. recor
 pub returns-in_default-target-clause-answers : goal.returns-in_default-target-clause-answers
 returns-in_default-target-clause-answers c = λ numbers others script plain hold. record {
   files = plain.files;
-  replies = lseek_refused script numbers plain c.args.pid c.args.fd c.in-Some.found
-      (subst (λ z. opened_at plain.files c.args.pid z ≡ Some (opened_in numbers c.in-Some.found)) (to_z-of_z w64 c.args.fd c.ranges.fd)
+  replies = lseek_refused script numbers plain c.args.place.pid c.args.fd c.in-Some.found
+      (subst (λ z. opened_at plain.files c.args.place.pid z ≡ Some (opened_in numbers c.in-Some.found)) (to_z-of_z w64 c.args.fd c.ranges.fd)
       (c.opened.ensures.found numbers plain.files hold.opened ∙ ap (option_map (opened_in numbers)) c.in-Some.is))
       c.args.offset c.args.whence (no_node c.in-Some.found.desc.target c.in_default-target.not-Inode);
   holds = hold;
@@ -35,9 +35,9 @@ pub returns-clause-answers : goal.returns-clause-answers
 returns-clause-answers c = λ numbers others script plain hold.
     let offset = to_z-of_z w64 c.args.offset c.ranges.offset in
     let whence = to_z-of_z w64 c.args.whence c.ranges.whence in
-    seek_holds numbers others c.args.heap.now c.seek_node.new.heap c.args.procs.now c.args.tree.now c.seek_node.new.tree script plain c.args.pid c.args.fd c.args.offset c.args.whence
+    seek_holds numbers others c.args.heap.now c.seek_node.new.heap c.args.procs.now c.args.tree.now c.seek_node.new.tree script plain c.args.place.pid c.args.fd c.args.offset c.args.whence
     c.in-Some.found c.in-Inode.node (hold_on numbers others c.args.heap.now c.args.procs.now c.args.tree.now c.seek_node.new.tree plain.files c.seek_node.ensures.stands hold)
-    (subst (λ z. opened_at plain.files c.args.pid z ≡ Some (opened_in numbers c.in-Some.found)) (to_z-of_z w64 c.args.fd c.ranges.fd)
+    (subst (λ z. opened_at plain.files c.args.place.pid z ≡ Some (opened_in numbers c.in-Some.found)) (to_z-of_z w64 c.args.fd c.ranges.fd)
     (c.opened.ensures.found numbers plain.files hold.opened ∙ ap (option_map (opened_in numbers)) c.in-Some.is))
     c.in-Some.ensures.there c.in-Inode.is c.seek_node.result
     (subst (λ z. c.seek_node.result ≡ sought plain.files.tree c.in-Inode.node c.in-Some.found.desc.offset c.args.offset z) whence
@@ -65,6 +65,6 @@ returns-clause-hold c =
 
 pub returns-clause-stays : goal.returns-clause-stays
 returns-clause-stays c = λ numbers files have off.
-    absurd (on_node numbers files c.args.pid c.args.fd c.in-Some.found c.in-Inode.node
-    (subst (λ z. opened_at files c.args.pid z ≡ Some (opened_in numbers c.in-Some.found)) (to_z-of_z w64 c.args.fd c.ranges.fd)
+    absurd (on_node numbers files c.args.place.pid c.args.fd c.in-Some.found c.in-Inode.node
+    (subst (λ z. opened_at files c.args.place.pid z ≡ Some (opened_in numbers c.in-Some.found)) (to_z-of_z w64 c.args.fd c.ranges.fd)
     (c.opened.ensures.found numbers files have ∙ ap (option_map (opened_in numbers)) c.in-Some.is)) c.in-Inode.is off)

@@ -17,7 +17,7 @@ use Rattle.proc_numbers.proofs.NumberNames.{desc_named, desc_named_by, within_mo
 use Rattle.proc_numbers.proofs.Answered.{dup2_beyond, dup2_other, dup2_same, on_nothing}
 use Rattle.proc_numbers.proofs.Changes.{changes_nothing, closed_names_nothing, named_count, others_stay}
 use Rattle.proc_files.proofs.Changing.{holding_closed, holding_of, holding_then}
-use Rattle.proc_files.proofs.Shares.{hold_named}
+use Rattle.proc_files.proofs.Shares.{hold_named, can_pay_beside}
 use Rattle.proc_files.proofs.sharing.dup_number.Goals as goal
 use Rattle.proc_table.proofs.NumberLemmas.{numbers_all}
 
@@ -27,17 +27,17 @@ pub returns-in_default-clause-answers : goal.returns-in_default-clause-answers
 unfolding dup2
 returns-in_default-clause-answers c = λ numbers others script plain hold.
     let fd = to_z-of_z w64 c.args.fd c.ranges.fd in
-    let held : c.descriptor_of.result ≡ named_by c.args.heap.now c.args.procs.now c.args.pid c.args.fd =
-    subst (λ z. c.descriptor_of.result ≡ named_by c.args.heap.now c.args.procs.now c.args.pid z) fd c.descriptor_of.ensures.held in
+    let held : c.descriptor_of.result ≡ named_by c.args.heap.now c.args.procs.now c.args.place.pid c.args.fd =
+    subst (λ z. c.descriptor_of.result ≡ named_by c.args.heap.now c.args.procs.now c.args.place.pid z) fd c.descriptor_of.ensures.held in
     record {
       files = plain.files;
-      replies = on_nothing numbers c.args.heap.now c.args.procs.now script plain c.args.pid hold.held.opened c.args.fd _ (sym held ∙ no_some c.descriptor_of.result c.in_default.not-Some);
+      replies = on_nothing numbers c.args.heap.now c.args.procs.now script plain c.args.place.pid hold.held.opened c.args.fd _ (sym held ∙ no_some c.descriptor_of.result c.in_default.not-Some);
       holds = hold;
     }
 
 pub returns-in_default-clause-changes : goal.returns-in_default-clause-changes
 returns-in_default-clause-changes c =
-    holding_of c.args.heap.now c.args.heap.now c.args.procs.now c.args.pid (changes_nothing c.args.heap.now c.args.procs.now c.args.pid c.requires.listed c.requires.there)
+    holding_of c.args.heap.now c.args.heap.now c.args.procs.now c.args.place.pid (changes_nothing c.args.heap.now c.args.procs.now c.args.place.pid c.requires.listed (ap is_some c.requires.there))
 
 pub returns-in_default-clause-queues : goal.returns-in_default-clause-queues
 returns-in_default-clause-queues c = queues_same c.args.heap.now c.args.heap.now refl refl
@@ -47,21 +47,21 @@ returns-in_default-clause-queues c = queues_same c.args.heap.now c.args.heap.now
 pub returns-then-not-may_be_descriptor-clause-answers : goal.returns-then-not-may_be_descriptor-clause-answers
 returns-then-not-may_be_descriptor-clause-answers c = λ numbers others script plain hold.
     let fd = to_z-of_z w64 c.args.fd c.ranges.fd in
-    let held : c.descriptor_of.result ≡ named_by c.args.heap.now c.args.procs.now c.args.pid c.args.fd =
-    subst (λ z. c.descriptor_of.result ≡ named_by c.args.heap.now c.args.procs.now c.args.pid z) fd c.descriptor_of.ensures.held in
+    let held : c.descriptor_of.result ≡ named_by c.args.heap.now c.args.procs.now c.args.place.pid c.args.fd =
+    subst (λ z. c.descriptor_of.result ≡ named_by c.args.heap.now c.args.procs.now c.args.place.pid z) fd c.descriptor_of.ensures.held in
     let is = sym held ∙ c.in-Some.is in
-    let desc = desc_named_by c.args.heap.now c.args.procs.now [] c.requires.listed c.requires.owners c.args.pid c.args.fd c.in-Some.held is in
+    let desc = desc_named_by c.args.heap.now c.args.procs.now [] c.requires.listed c.requires.owners c.args.place.pid c.args.fd c.in-Some.held is in
     let beyond : may_be_descriptor c.args.to ≡ false =
     sym (subst (λ z. c.may_be_descriptor.result ≡ may_be_descriptor z) (to_z-of_z w64 c.args.to c.ranges.to) c.may_be_descriptor.ensures) ∙ c.if-not-may_be_descriptor.true in
     record {
       files = plain.files;
-      replies = dup2_beyond numbers c.args.heap.now c.args.procs.now script plain c.args.pid hold.held.opened c.args.fd c.in-Some.held desc.0 is desc.1 c.args.to beyond;
+      replies = dup2_beyond numbers c.args.heap.now c.args.procs.now script plain c.args.place.pid hold.held.opened c.args.fd c.in-Some.held desc.0 is desc.1 c.args.to beyond;
       holds = hold;
     }
 
 pub returns-then-not-may_be_descriptor-clause-changes : goal.returns-then-not-may_be_descriptor-clause-changes
 returns-then-not-may_be_descriptor-clause-changes c =
-    holding_of c.args.heap.now c.args.heap.now c.args.procs.now c.args.pid (changes_nothing c.args.heap.now c.args.procs.now c.args.pid c.requires.listed c.requires.there)
+    holding_of c.args.heap.now c.args.heap.now c.args.procs.now c.args.place.pid (changes_nothing c.args.heap.now c.args.procs.now c.args.place.pid c.requires.listed (ap is_some c.requires.there))
 
 pub returns-then-not-may_be_descriptor-clause-queues : goal.returns-then-not-may_be_descriptor-clause-queues
 returns-then-not-may_be_descriptor-clause-queues c = queues_same c.args.heap.now c.args.heap.now refl refl
@@ -88,10 +88,10 @@ overflow_cast-number c =
 pub returns-then-from-number-clause-answers : goal.returns-then-from-number-clause-answers
 returns-then-from-number-clause-answers c = λ numbers others script plain hold.
     let fd = to_z-of_z w64 c.args.fd c.ranges.fd in
-    let held : c.descriptor_of.result ≡ named_by c.args.heap.now c.args.procs.now c.args.pid c.args.fd =
-    subst (λ z. c.descriptor_of.result ≡ named_by c.args.heap.now c.args.procs.now c.args.pid z) fd c.descriptor_of.ensures.held in
+    let held : c.descriptor_of.result ≡ named_by c.args.heap.now c.args.procs.now c.args.place.pid c.args.fd =
+    subst (λ z. c.descriptor_of.result ≡ named_by c.args.heap.now c.args.procs.now c.args.place.pid z) fd c.descriptor_of.ensures.held in
     let is = sym held ∙ c.in-Some.is in
-    let desc = desc_named_by c.args.heap.now c.args.procs.now [] c.requires.listed c.requires.owners c.args.pid c.args.fd c.in-Some.held is in
+    let desc = desc_named_by c.args.heap.now c.args.procs.now [] c.requires.listed c.requires.owners c.args.place.pid c.args.fd c.in-Some.held is in
     let to = to_z-of_z w64 c.args.to c.ranges.to in
     let within : may_be_descriptor c.args.to ≡ true =
     sym (subst (λ z. c.may_be_descriptor.result ≡ may_be_descriptor z) to c.may_be_descriptor.ensures) ∙ c.if-not-may_be_descriptor.false in
@@ -100,15 +100,15 @@ returns-then-from-number-clause-answers c = λ numbers others script plain hold.
     record {
       files = plain.files;
       replies =
-          dup2_same numbers c.args.heap.now c.args.procs.now script plain c.args.pid hold.held.opened c.args.fd c.in-Some.held desc.0 is desc.1 c.args.to within
+          dup2_same numbers c.args.heap.now c.args.procs.now script plain c.args.place.pid hold.held.opened c.args.fd c.in-Some.held desc.0 is desc.1 c.args.to within
           (sym from_is ∙ c.if-from-number.true ∙ number_is)
-          ∙ ap (λ n. replied script plain c.args.pid (Val (pos n))) (sym number_is);
+          ∙ ap (λ n. replied script plain c.args.place.pid (Val (pos n))) (sym number_is);
       holds = hold;
     }
 
 pub returns-then-from-number-clause-changes : goal.returns-then-from-number-clause-changes
 returns-then-from-number-clause-changes c =
-    holding_of c.args.heap.now c.args.heap.now c.args.procs.now c.args.pid (changes_nothing c.args.heap.now c.args.procs.now c.args.pid c.requires.listed c.requires.there)
+    holding_of c.args.heap.now c.args.heap.now c.args.procs.now c.args.place.pid (changes_nothing c.args.heap.now c.args.procs.now c.args.place.pid c.requires.listed (ap is_some c.requires.there))
 
 pub returns-then-from-number-clause-queues : goal.returns-then-from-number-clause-queues
 returns-then-from-number-clause-queues c = queues_same c.args.heap.now c.args.heap.now refl refl
@@ -118,15 +118,15 @@ returns-then-from-number-clause-queues c = queues_same c.args.heap.now c.args.he
 pub share_at-requires-clause-used : goal.share_at-requires-clause-used
 share_at-requires-clause-used c =
     let fd = to_z-of_z w64 c.args.fd c.ranges.fd in
-    let held : c.descriptor_of.result ≡ named_by c.args.heap.now c.args.procs.now c.args.pid c.args.fd =
-    subst (λ z. c.descriptor_of.result ≡ named_by c.args.heap.now c.args.procs.now c.args.pid z) fd c.descriptor_of.ensures.held in
+    let held : c.descriptor_of.result ≡ named_by c.args.heap.now c.args.procs.now c.args.place.pid c.args.fd =
+    subst (λ z. c.descriptor_of.result ≡ named_by c.args.heap.now c.args.procs.now c.args.place.pid z) fd c.descriptor_of.ensures.held in
     let from_is : c.count_of-from.result ≡ count_of c.args.fd = subst (λ z. c.count_of-from.result ≡ count_of z) fd c.count_of-from.ensures in
     let closes = c.close_open.ensures.closes in
-    ap is_some (desc_named c.close_open.new.heap c.args.procs.now [] c.close_open.ensures.listed c.close_open.ensures.owners c.args.pid c.count_of-from.result c.in-Some.held
-    (ap (λ (h : Heap). named_at h c.args.procs.now c.args.pid c.count_of-from.result) closes.caches
-    ∙ others_stay c.args.heap.now closes.mid c.args.procs.now c.args.pid c.count_of-number.result c.count_of-from.result c.requires.listed closes.closes c.if-from-number.false
-    ∙ ap (named_at c.args.heap.now c.args.procs.now c.args.pid) from_is
-    ∙ sym (named_count c.args.heap.now c.args.procs.now c.args.pid c.args.fd c.in-Some.held (sym held ∙ c.in-Some.is))
+    ap is_some (desc_named c.close_open.new.heap c.args.procs.now [] c.close_open.ensures.listed c.close_open.ensures.owners c.args.place.pid c.count_of-from.result c.in-Some.held
+    (ap (λ (h : Heap). named_at h c.args.procs.now c.args.place.pid c.count_of-from.result) closes.caches
+    ∙ others_stay c.args.heap.now closes.mid c.args.procs.now c.args.place.pid c.count_of-number.result c.count_of-from.result c.requires.listed closes.closes c.if-from-number.false
+    ∙ ap (named_at c.args.heap.now c.args.procs.now c.args.place.pid) from_is
+    ∙ sym (named_count c.args.heap.now c.args.procs.now c.args.place.pid c.args.fd c.in-Some.held (sym held ∙ c.in-Some.is))
     ∙ sym held ∙ c.in-Some.is)).1
 
 pub share_at-requires-clause-free : goal.share_at-requires-clause-free
@@ -138,8 +138,8 @@ share_at-requires-clause-free c =
     sym (subst (λ z. c.may_be_descriptor.result ≡ may_be_descriptor z) to c.may_be_descriptor.ensures) ∙ c.if-not-may_be_descriptor.false in
     let number_is : c.count_of-number.result ≡ count_of c.args.to = subst (λ z. c.count_of-number.result ≡ count_of z) to c.count_of-number.ensures in
     let few = within_most c.args.to within in
-    ap (λ (h : Heap). named_at h c.args.procs.now c.args.pid c.count_of-number.result) closes.caches
-    ∙ closed_names_nothing c.args.heap.now closes.mid c.args.procs.now c.args.pid c.count_of-number.result c.requires.listed closes.closes (omega (arith, few, long, number_is))
+    ap (λ (h : Heap). named_at h c.args.procs.now c.args.place.pid c.count_of-number.result) closes.caches
+    ∙ closed_names_nothing c.args.heap.now closes.mid c.args.procs.now c.args.place.pid c.count_of-number.result c.requires.listed closes.closes (omega (arith, few, long, number_is))
 
 pub close_open-requires-clause-number : goal.close_open-requires-clause-number
 close_open-requires-clause-number c =
@@ -160,10 +160,10 @@ share_at-requires-clause-number c =
 pub returns-clause-answers : goal.returns-clause-answers
 returns-clause-answers c = λ numbers others script plain hold.
     let fd = to_z-of_z w64 c.args.fd c.ranges.fd in
-    let held : c.descriptor_of.result ≡ named_by c.args.heap.now c.args.procs.now c.args.pid c.args.fd =
-    subst (λ z. c.descriptor_of.result ≡ named_by c.args.heap.now c.args.procs.now c.args.pid z) fd c.descriptor_of.ensures.held in
+    let held : c.descriptor_of.result ≡ named_by c.args.heap.now c.args.procs.now c.args.place.pid c.args.fd =
+    subst (λ z. c.descriptor_of.result ≡ named_by c.args.heap.now c.args.procs.now c.args.place.pid z) fd c.descriptor_of.ensures.held in
     let is = sym held ∙ c.in-Some.is in
-    let desc = desc_named_by c.args.heap.now c.args.procs.now [] c.requires.listed c.requires.owners c.args.pid c.args.fd c.in-Some.held is in
+    let desc = desc_named_by c.args.heap.now c.args.procs.now [] c.requires.listed c.requires.owners c.args.place.pid c.args.fd c.in-Some.held is in
     let to = to_z-of_z w64 c.args.to c.ranges.to in
     let within : may_be_descriptor c.args.to ≡ true =
     sym (subst (λ z. c.may_be_descriptor.result ≡ may_be_descriptor z) to c.may_be_descriptor.ensures) ∙ c.if-not-may_be_descriptor.false in
@@ -171,18 +171,18 @@ returns-clause-answers c = λ numbers others script plain hold.
     let number_is : c.count_of-number.result ≡ count_of c.args.to = subst (λ z. c.count_of-number.result ≡ count_of z) to c.count_of-number.ensures in
     let closed = c.close_open.ensures.closed numbers others plain.files hold in
     record {
-      files = shared_at (after_close plain.files c.args.pid c.count_of-number.result) c.args.pid (record { place = numbers.descs c.in-Some.held.desc; is = (counted_in numbers desc.0).is }) c.count_of-number.result;
+      files = shared_at (after_close plain.files c.args.place.pid c.count_of-number.result) c.args.place.pid (record { place = numbers.descs c.in-Some.held.desc; is = (counted_in numbers desc.0).is }) c.count_of-number.result;
       replies =
-          dup2_other numbers c.args.heap.now c.args.procs.now script plain c.args.pid hold.held.opened c.args.fd c.in-Some.held desc.0 is desc.1 c.args.to within
+          dup2_other numbers c.args.heap.now c.args.procs.now script plain c.args.place.pid hold.held.opened c.args.fd c.in-Some.held desc.0 is desc.1 c.args.to within
           (λ same. c.if-from-number.false (from_is ∙ same ∙ sym number_is))
           ∙ ap
           (λ n. replied script
-          (with_files plain (shared_at (after_close plain.files c.args.pid n) c.args.pid (record { place = numbers.descs c.in-Some.held.desc; is = (counted_in numbers desc.0).is }) n)) c.args.pid
+          (with_files plain (shared_at (after_close plain.files c.args.place.pid n) c.args.place.pid (record { place = numbers.descs c.in-Some.held.desc; is = (counted_in numbers desc.0).is }) n)) c.args.place.pid
           (Val (pos n)))
           (sym number_is);
-      holds = hold_named numbers others c.close_open.new.heap c.share_at.new.heap c.args.procs.now c.close_open.new.tree c.close_open.new.names (after_close plain.files c.args.pid c.count_of-number.result) c.args.pid c.count_of-number.result
+      holds = hold_named numbers others c.close_open.new.heap c.share_at.new.heap c.args.procs.now c.close_open.new.tree c.close_open.new.names (after_close plain.files c.args.place.pid c.count_of-number.result) c.args.place.pid c.count_of-number.result
           (Some (record { description = numbers.descs c.in-Some.held.desc; cloexec = false })) c.share_at.ensures.beside closed
-          (c.share_at.ensures.opened numbers (after_close plain.files c.args.pid c.count_of-number.result) closed.held.opened);
+          (c.share_at.ensures.opened numbers (after_close plain.files c.args.place.pid c.count_of-number.result) closed.held.opened);
     }
 
 pub returns-clause-hold : goal.returns-clause-hold
@@ -193,16 +193,16 @@ returns-clause-hold c =
       numbers = some.numbers;
       others = some.others;
       files = _;
-      hold = hold_named some.numbers some.others c.close_open.new.heap c.share_at.new.heap c.args.procs.now c.close_open.new.tree c.close_open.new.names (after_close some.files c.args.pid c.count_of-number.result) c.args.pid
+      hold = hold_named some.numbers some.others c.close_open.new.heap c.share_at.new.heap c.args.procs.now c.close_open.new.tree c.close_open.new.names (after_close some.files c.args.place.pid c.count_of-number.result) c.args.place.pid
           c.count_of-number.result (Some (record { description = some.numbers.descs c.in-Some.held.desc; cloexec = false }))
-          c.share_at.ensures.beside closed (c.share_at.ensures.opened some.numbers (after_close some.files c.args.pid c.count_of-number.result) closed.held.opened);
+          c.share_at.ensures.beside closed (c.share_at.ensures.opened some.numbers (after_close some.files c.args.place.pid c.count_of-number.result) closed.held.opened);
     }
 
 pub returns-clause-changes : goal.returns-clause-changes
 returns-clause-changes c =
-    holding_then c.args.heap.now c.close_open.new.heap c.share_at.new.heap c.args.procs.now c.args.pid
-    (holding_closed c.args.heap.now c.close_open.new.heap c.args.procs.now c.args.pid c.count_of-number.result c.close_open.ensures.closes)
-    (holding_of c.close_open.new.heap c.share_at.new.heap c.args.procs.now c.args.pid c.share_at.ensures.changes)
+    holding_then c.args.heap.now c.close_open.new.heap c.share_at.new.heap c.args.procs.now c.args.place.pid
+    (holding_closed c.args.heap.now c.close_open.new.heap c.args.procs.now c.args.place.pid c.count_of-number.result c.close_open.ensures.closes)
+    (holding_of c.close_open.new.heap c.share_at.new.heap c.args.procs.now c.args.place.pid c.share_at.ensures.changes)
 
 pub returns-clause-queues : goal.returns-clause-queues
 returns-clause-queues c =
@@ -211,7 +211,7 @@ returns-clause-queues c =
 
 pub returns-clause-paid : goal.returns-clause-paid
 returns-clause-paid c =
-    IsPaid-trans c.args.heap.now c.args.purse.now c.close_open.new.heap c.close_open.new.purse c.share_at.new.heap c.close_open.new.purse c.close_open.ensures.paid
+    IsPaid-trans c.args.heap.now c.args.back.now c.close_open.new.heap c.close_open.new.purse c.share_at.new.heap c.close_open.new.purse c.close_open.ensures.paid
     (IsPaid-nothing c.close_open.new.heap c.share_at.new.heap c.close_open.new.purse c.close_open.new.purse c.share_at.ensures.takes refl refl)
 
 pub returns-clause-stays : goal.returns-clause-stays
@@ -221,7 +221,10 @@ returns-clause-stays c = λ none.
     let from_is : c.count_of-from.result ≡ count_of c.args.fd = subst (λ z. c.count_of-from.result ≡ count_of z) fd c.count_of-from.ensures in
     let number_is : c.count_of-number.result ≡ count_of c.args.to = subst (λ z. c.count_of-number.result ≡ count_of z) to c.count_of-number.ensures in
     c.close_open.ensures.stays
-    (ap (λ n. node_closed c.args.heap.now.descs (named_at c.args.heap.now c.args.procs.now c.args.pid n)) number_is
-    ∙ sym (ap (λ b. cond b None (node_closed c.args.heap.now.descs (named_at c.args.heap.now c.args.procs.now c.args.pid (count_of c.args.to))))
+    (ap (λ n. node_closed c.args.heap.now.descs (named_at c.args.heap.now c.args.procs.now c.args.place.pid n)) number_is
+    ∙ sym (ap (λ b. cond b None (node_closed c.args.heap.now.descs (named_at c.args.heap.now c.args.procs.now c.args.place.pid (count_of c.args.to))))
     (ne_eqb (count_of c.args.fd) (count_of c.args.to) (λ same. c.if-from-number.false (from_is ∙ same ∙ sym number_is))))
     ∙ none)
+
+pub share_at-requires-clause-pays : goal.share_at-requires-clause-pays
+share_at-requires-clause-pays c = can_pay_beside c.args.heap.now c.close_open.new.heap c.args.back.now c.close_open.new.purse c.args.purse.now c.close_open.ensures.paid c.close_open.ensures.same c.requires.pays

@@ -14,16 +14,16 @@ use Rattle.proc_files.proofs.sizing.size_number.Goals as goal
 pub returns-in_default-clause-answers : goal.returns-in_default-clause-answers
 returns-in_default-clause-answers c = λ numbers others script plain hold. record {
   files = plain.files;
-  replies = ftruncate_closed script numbers plain c.args.pid c.args.fd c.args.size
-      (as_found numbers plain.files c.args.pid _ c.args.fd _ None (to_z-of_z w64 c.args.fd c.ranges.fd) (c.opened.ensures.found numbers plain.files hold.opened) c.in_default.is);
+  replies = ftruncate_closed script numbers plain c.args.place.pid c.args.fd c.args.size
+      (as_found numbers plain.files c.args.place.pid _ c.args.fd _ None (to_z-of_z w64 c.args.fd c.ranges.fd) (c.opened.ensures.found numbers plain.files hold.opened) c.in_default.is);
   holds = hold;
 }
 
 pub returns-in_default-target-clause-answers : goal.returns-in_default-target-clause-answers
 returns-in_default-target-clause-answers c = λ numbers others script plain hold. record {
   files = plain.files;
-  replies = ftruncate_refused script numbers plain c.args.pid c.args.fd c.args.size c.in-Some.found
-      (as_found numbers plain.files c.args.pid _ c.args.fd _ (Some c.in-Some.found) (to_z-of_z w64 c.args.fd c.ranges.fd) (c.opened.ensures.found numbers plain.files hold.opened) c.in-Some.is)
+  replies = ftruncate_refused script numbers plain c.args.place.pid c.args.fd c.args.size c.in-Some.found
+      (as_found numbers plain.files c.args.place.pid _ c.args.fd _ (Some c.in-Some.found) (to_z-of_z w64 c.args.fd c.ranges.fd) (c.opened.ensures.found numbers plain.files hold.opened) c.in-Some.is)
       (no_node c.in-Some.found.desc.target c.in_default-target.not-Inode);
   holds = hold;
 }
@@ -35,8 +35,8 @@ stat_node-info-requires c =
 pub returns-then-is_directory-clause-answers : goal.returns-then-is_directory-clause-answers
 returns-then-is_directory-clause-answers c = λ numbers others script plain hold. record {
   files = plain.files;
-  replies = ftruncate_directory script numbers plain c.args.pid c.args.fd c.args.size c.in-Some.found
-      (as_found numbers plain.files c.args.pid _ c.args.fd _ (Some c.in-Some.found) (to_z-of_z w64 c.args.fd c.ranges.fd) (c.opened.ensures.found numbers plain.files hold.opened) c.in-Some.is)
+  replies = ftruncate_directory script numbers plain c.args.place.pid c.args.fd c.args.size c.in-Some.found
+      (as_found numbers plain.files c.args.place.pid _ c.args.fd _ (Some c.in-Some.found) (to_z-of_z w64 c.args.fd c.ranges.fd) (c.opened.ensures.found numbers plain.files hold.opened) c.in-Some.is)
       c.in-Inode.node c.in-Inode.is
       (sym (c.is_directory.ensures plain.files.tree c.in-Inode.node (c.stat_node-info.ensures.value plain.files.tree (holders others plain.files) hold.tree)) ∙ c.if-is_directory.true);
   holds = hold_on numbers others c.args.heap.now c.args.procs.now c.args.tree.now c.stat_node-info.new.self plain.files c.stat_node-info.ensures.stands hold;
@@ -44,14 +44,14 @@ returns-then-is_directory-clause-answers c = λ numbers others script plain hold
 
 pub returns-then-is_directory-clause-stays : goal.returns-then-is_directory-clause-stays
 returns-then-is_directory-clause-stays c = λ numbers files have off.
-    absurd (on_node numbers files c.args.pid c.args.fd c.in-Some.found c.in-Inode.node
-    (as_found numbers files c.args.pid _ c.args.fd _ (Some c.in-Some.found) (to_z-of_z w64 c.args.fd c.ranges.fd) (c.opened.ensures.found numbers files have) c.in-Some.is) c.in-Inode.is off)
+    absurd (on_node numbers files c.args.place.pid c.args.fd c.in-Some.found c.in-Inode.node
+    (as_found numbers files c.args.place.pid _ c.args.fd _ (Some c.in-Some.found) (to_z-of_z w64 c.args.fd c.ranges.fd) (c.opened.ensures.found numbers files have) c.in-Some.is) c.in-Inode.is off)
 
 pub returns-then-not-may_write-clause-answers : goal.returns-then-not-may_write-clause-answers
 returns-then-not-may_write-clause-answers c = λ numbers others script plain hold. record {
   files = plain.files;
-  replies = ftruncate_denied script numbers plain c.args.pid c.args.fd c.args.size c.in-Some.found
-      (as_found numbers plain.files c.args.pid _ c.args.fd _ (Some c.in-Some.found) (to_z-of_z w64 c.args.fd c.ranges.fd) (c.opened.ensures.found numbers plain.files hold.opened) c.in-Some.is)
+  replies = ftruncate_denied script numbers plain c.args.place.pid c.args.fd c.args.size c.in-Some.found
+      (as_found numbers plain.files c.args.place.pid _ c.args.fd _ (Some c.in-Some.found) (to_z-of_z w64 c.args.fd c.ranges.fd) (c.opened.ensures.found numbers plain.files hold.opened) c.in-Some.is)
       c.in-Inode.node c.in-Inode.is
       (sym (c.is_directory.ensures plain.files.tree c.in-Inode.node (c.stat_node-info.ensures.value plain.files.tree (holders others plain.files) hold.tree)) ∙ c.if-is_directory.false)
       (sym c.may_write.ensures ∙ c.if-not-may_write.true);
@@ -60,8 +60,8 @@ returns-then-not-may_write-clause-answers c = λ numbers others script plain hol
 
 pub returns-then-not-may_write-clause-stays : goal.returns-then-not-may_write-clause-stays
 returns-then-not-may_write-clause-stays c = λ numbers files have off.
-    absurd (on_node numbers files c.args.pid c.args.fd c.in-Some.found c.in-Inode.node
-    (as_found numbers files c.args.pid _ c.args.fd _ (Some c.in-Some.found) (to_z-of_z w64 c.args.fd c.ranges.fd) (c.opened.ensures.found numbers files have) c.in-Some.is) c.in-Inode.is off)
+    absurd (on_node numbers files c.args.place.pid c.args.fd c.in-Some.found c.in-Inode.node
+    (as_found numbers files c.args.place.pid _ c.args.fd _ (Some c.in-Some.found) (to_z-of_z w64 c.args.fd c.ranges.fd) (c.opened.ensures.found numbers files have) c.in-Some.is) c.in-Inode.is off)
 
 pub size_node-requires-clause-stands : goal.size_node-requires-clause-stands
 size_node-requires-clause-stands c =
@@ -74,12 +74,12 @@ pub returns-clause-answers : goal.returns-clause-answers
 returns-clause-answers c = λ numbers others script plain hold.
     let size : c.count_of.result ≡ count_of c.args.size = subst (λ z. c.count_of.result ≡ count_of z) (to_z-of_z w64 c.args.size c.ranges.size) c.count_of.ensures in
     let held = hold_on numbers others c.args.heap.now c.args.procs.now c.args.tree.now c.stat_node-info.new.self plain.files c.stat_node-info.ensures.stands hold in
-    truncated script numbers others c.args.heap.now c.size_node.new.heap c.args.procs.now c.stat_node-info.new.self c.size_node.new.self plain c.args.pid c.in-Inode.node (count_of c.args.size)
+    truncated script numbers others c.args.heap.now c.size_node.new.heap c.args.procs.now c.stat_node-info.new.self c.size_node.new.self plain c.args.place.pid c.in-Inode.node (count_of c.args.size)
     c.size_node.ensures.pays.only held _ c.size_node.result
     (subst (λ n. ChangedTo c.size_node.new.heap c.size_node.new.self plain.files.tree (resize plain.files.tree c.in-Inode.node n) (holders others plain.files) c.size_node.result) size
     (c.size_node.ensures.answer plain.files.tree (holders others plain.files) held.tree))
-    (ftruncate_goes script numbers plain c.args.pid c.args.fd c.args.size c.in-Some.found
-    (as_found numbers plain.files c.args.pid _ c.args.fd _ (Some c.in-Some.found) (to_z-of_z w64 c.args.fd c.ranges.fd) (c.opened.ensures.found numbers plain.files hold.opened) c.in-Some.is)
+    (ftruncate_goes script numbers plain c.args.place.pid c.args.fd c.args.size c.in-Some.found
+    (as_found numbers plain.files c.args.place.pid _ c.args.fd _ (Some c.in-Some.found) (to_z-of_z w64 c.args.fd c.ranges.fd) (c.opened.ensures.found numbers plain.files hold.opened) c.in-Some.is)
     c.in-Inode.node c.in-Inode.is
     (sym (c.is_directory.ensures plain.files.tree c.in-Inode.node (c.stat_node-info.ensures.value plain.files.tree (holders others plain.files) hold.tree)) ∙ c.if-is_directory.false)
     (sym c.may_write.ensures ∙ c.if-not-may_write.false))
@@ -101,5 +101,5 @@ returns-clause-pays c =
 
 pub returns-clause-stays : goal.returns-clause-stays
 returns-clause-stays c = λ numbers files have off.
-    absurd (on_node numbers files c.args.pid c.args.fd c.in-Some.found c.in-Inode.node
-    (as_found numbers files c.args.pid _ c.args.fd _ (Some c.in-Some.found) (to_z-of_z w64 c.args.fd c.ranges.fd) (c.opened.ensures.found numbers files have) c.in-Some.is) c.in-Inode.is off)
+    absurd (on_node numbers files c.args.place.pid c.args.fd c.in-Some.found c.in-Inode.node
+    (as_found numbers files c.args.place.pid _ c.args.fd _ (Some c.in-Some.found) (to_z-of_z w64 c.args.fd c.ranges.fd) (c.opened.ensures.found numbers files have) c.in-Some.is) c.in-Inode.is off)

@@ -17,7 +17,7 @@ start_of-start-requires c =
 pub returns-then-mapped-clause-tells : goal.returns-then-mapped-clause-tells
 returns-then-mapped-clause-tells c = λ table is.
     let count : c.count_of-count.result ≡ count_of c.args.n = subst (λ z. c.count_of-count.result ≡ count_of z) (to_z-of_z w64 c.args.n c.ranges.n) c.count_of-count.ensures in
-    range_tells c.args.heap.now c.args.procs.now table c.args.pid c.args.addr (count_of c.args.n) c.space_of-space.result c.start_of-start.result c.count_of-count.result c.mapped.result true count
+    range_tells c.args.heap.now c.args.procs.now table c.args.place.pid c.args.addr (count_of c.args.n) c.space_of-space.result c.start_of-start.result c.count_of-count.result c.mapped.result true count
     (subst (λ z. 0 < c.count_of-count.result → c.start_of-start.result ≡ count_of z) (to_z-of_z w64 c.args.addr c.ranges.addr) c.start_of-start.ensures.start)
     c.space_of-space.ensures is c.mapped.ensures.memory c.if-mapped.true
 
@@ -33,6 +33,6 @@ returns-then-mapped-clause-range c = record {
 pub returns-else-mapped-clause-tells : goal.returns-else-mapped-clause-tells
 returns-else-mapped-clause-tells c = λ table is.
     let count : c.count_of-count.result ≡ count_of c.args.n = subst (λ z. c.count_of-count.result ≡ count_of z) (to_z-of_z w64 c.args.n c.ranges.n) c.count_of-count.ensures in
-    range_tells c.args.heap.now c.args.procs.now table c.args.pid c.args.addr (count_of c.args.n) c.space_of-space.result c.start_of-start.result c.count_of-count.result c.mapped.result false count
+    range_tells c.args.heap.now c.args.procs.now table c.args.place.pid c.args.addr (count_of c.args.n) c.space_of-space.result c.start_of-start.result c.count_of-count.result c.mapped.result false count
     (subst (λ z. 0 < c.count_of-count.result → c.start_of-start.result ≡ count_of z) (to_z-of_z w64 c.args.addr c.ranges.addr) c.start_of-start.ensures.start)
     c.space_of-space.ensures is c.mapped.ensures.memory c.if-mapped.false

@@ -12,8 +12,8 @@ use Rattle.proc_files.proofs.telling.stat_number.Goals as goal
 pub returns-in_default-clause-answers : goal.returns-in_default-clause-answers
 returns-in_default-clause-answers c = λ numbers others script plain hold. record {
   files = plain.files;
-  replies = fstat_bad script numbers plain c.args.pid c.args.fd
-      (subst (λ z. opened_at plain.files c.args.pid z ≡ None) (to_z-of_z w64 c.args.fd c.ranges.fd)
+  replies = fstat_bad script numbers plain c.args.place.pid c.args.fd
+      (subst (λ z. opened_at plain.files c.args.place.pid z ≡ None) (to_z-of_z w64 c.args.fd c.ranges.fd)
       (c.opened.ensures.found numbers plain.files hold.opened ∙ ap (option_map (opened_in numbers)) c.in_default.is));
   holds = hold;
 }
@@ -26,10 +26,10 @@ pub returns-clause-answers : goal.returns-clause-answers
 returns-clause-answers c = λ numbers others script plain hold. record {
   files = plain.files;
   replies =
-      fstat_is script numbers plain c.args.pid c.args.fd c.in-Some.found
-      (subst (λ z. opened_at plain.files c.args.pid z ≡ Some (opened_in numbers c.in-Some.found)) (to_z-of_z w64 c.args.fd c.ranges.fd)
+      fstat_is script numbers plain c.args.place.pid c.args.fd c.in-Some.found
+      (subst (λ z. opened_at plain.files c.args.place.pid z ≡ Some (opened_in numbers c.in-Some.found)) (to_z-of_z w64 c.args.fd c.ranges.fd)
       (c.opened.ensures.found numbers plain.files hold.opened ∙ ap (option_map (opened_in numbers)) c.in-Some.is))
-      ∙ ap (λ info. replied script plain c.args.pid (Stat info)) (c.info_of.ensures.value numbers plain.files.tree _ hold.tree);
+      ∙ ap (λ info. replied script plain c.args.place.pid (Stat info)) (c.info_of.ensures.value numbers plain.files.tree _ hold.tree);
   holds = hold_on numbers others c.args.heap.now c.args.procs.now c.args.tree.now c.info_of.new.tree plain.files c.info_of.ensures.stands hold;
 }
 
@@ -39,6 +39,6 @@ returns-clause-hold c = some_on c.args.heap.now c.args.procs.now c.args.tree.now
 pub returns-clause-stays : goal.returns-clause-stays
 returns-clause-stays c = λ numbers files have off.
     c.info_of.ensures.stays
-    (off_node numbers files c.args.pid c.args.fd c.in-Some.found
-    (subst (λ z. opened_at files c.args.pid z ≡ Some (opened_in numbers c.in-Some.found)) (to_z-of_z w64 c.args.fd c.ranges.fd)
+    (off_node numbers files c.args.place.pid c.args.fd c.in-Some.found
+    (subst (λ z. opened_at files c.args.place.pid z ≡ Some (opened_in numbers c.in-Some.found)) (to_z-of_z w64 c.args.fd c.ranges.fd)
     (c.opened.ensures.found numbers files have ∙ ap (option_map (opened_in numbers)) c.in-Some.is)) off)

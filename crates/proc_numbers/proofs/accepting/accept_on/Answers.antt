@@ -35,12 +35,12 @@ open_on-requires-clause-named c =
     c.requires.owners (taken_apart c.args.heap.now c.args.on.key c.in-Took.taken _ c.args.on.nonblock c.requires.owners c.in-Took.ensures.answer)).named
 
 pub open_on-requires-clause-number : goal.open_on-requires-clause-number
-open_on-requires-clause-number c = (subst (λ o. IfSome o (IsLowest c.args.heap.now c.args.procs.now c.args.pid 0)) c.in-Some.is c.lowest_from-lowest.ensures.free).0
+open_on-requires-clause-number c = (subst (λ o. IfSome o (IsLowest c.args.heap.now c.args.procs.now c.args.place.pid 0)) c.in-Some.is c.lowest_from-lowest.ensures.free).0
 
 pub open_on-requires-clause-free : goal.open_on-requires-clause-free
 open_on-requires-clause-free c =
-    ap (λ (h : Heap). named_at h c.args.procs.now c.args.pid c.in-Some.number) c.in-Took.ensures.others.kept
-    ∙ (subst (λ o. IfSome o (IsLowest c.args.heap.now c.args.procs.now c.args.pid 0)) c.in-Some.is c.lowest_from-lowest.ensures.free).2
+    ap (λ (h : Heap). named_at h c.args.procs.now c.args.place.pid c.in-Some.number) c.in-Took.ensures.others.kept
+    ∙ (subst (λ o. IfSome o (IsLowest c.args.heap.now c.args.procs.now c.args.place.pid 0)) c.in-Some.is c.lowest_from-lowest.ensures.free).2
 
 pub open_on-requires-clause-pays : goal.open_on-requires-clause-pays
 open_on-requires-clause-pays c =
@@ -64,9 +64,9 @@ returns-in-Some-clause-answers c = λ numbers script plain fd have finds.
       now = with_desc numbers files opens.key;
       keeps = keeps_desc heap numbers numbers files opens.key (vacant_changed heap mid c.in-Took.ensures.others opens.key opens.vacant) (keeps_same heap numbers);
       answers = record {
-        files = opened_as files c.args.pid c.in-Some.number false (description_of (numbers.socks c.in-Took.taken));
+        files = opened_as files c.args.place.pid c.in-Some.number false (description_of (numbers.socks c.in-Took.taken));
         replies =
-            accept_answer numbers heap c.args.procs.now script plain c.args.pid fd c.args.on c.requires.owners c.requires.named have finds (Some c.in-Some.number)
+            accept_answer numbers heap c.args.procs.now script plain c.args.place.pid fd c.args.on c.requires.owners c.requires.named have finds (Some c.in-Some.number)
             (c.lowest_from-lowest.ensures.lowest numbers plain.files have ∙ c.in-Some.is) (Takes c.in-Took.taken)
             (λ table stands. c.in-Took.ensures.answer table stands ∙ ap (λ b. accept_in (stage_at table key) b c.args.on.nonblock) (c.is_some.ensures ∙ ap is_some c.in-Some.is));
         stands = opens.stands;
@@ -84,7 +84,7 @@ returns-in-Some-clause-owners c =
 
 pub returns-in-Some-clause-changes : goal.returns-in-Some-clause-changes
 returns-in-Some-clause-changes c =
-    changes_after c.args.heap.now c.accept.new.heap c.open_on.new.heap c.args.procs.now c.args.pid (ap (λ (h : Heap). h.procs) c.in-Took.ensures.others.kept)
+    changes_after c.args.heap.now c.accept.new.heap c.open_on.new.heap c.args.procs.now c.args.place.pid (ap (λ (h : Heap). h.procs) c.in-Took.ensures.others.kept)
     (beside_changed c.args.heap.now c.accept.new.heap c.in-Took.ensures.others) c.open_on.ensures.changes
 
 pub returns-in-Some-clause-queues : goal.returns-in-Some-clause-queues
@@ -100,15 +100,15 @@ returns-in-Some-clause-paid c =
 
 pub returns-in-Blocked-clause-answers : goal.returns-in-Blocked-clause-answers
 returns-in-Blocked-clause-answers c = λ numbers script plain fd have finds.
-    accept_answer numbers c.args.heap.now c.args.procs.now script plain c.args.pid fd c.args.on c.requires.owners c.requires.named have finds c.lowest_from-lowest.result
+    accept_answer numbers c.args.heap.now c.args.procs.now script plain c.args.place.pid fd c.args.on c.requires.owners c.requires.named have finds c.lowest_from-lowest.result
     (c.lowest_from-lowest.ensures.lowest numbers plain.files have) Waits
     (λ table stands. c.in-Blocked.ensures.answer table stands ∙ ap (λ b. accept_in (stage_at table c.args.on.key) b c.args.on.nonblock) c.is_some.ensures)
-    ∙ waits_so script plain c.args.pid (numbers.socks c.args.on.key) c.lowest_from-lowest.result
+    ∙ waits_so script plain c.args.place.pid (numbers.socks c.args.on.key) c.lowest_from-lowest.result
 
 pub returns-in-Blocked-clause-changes : goal.returns-in-Blocked-clause-changes
 returns-in-Blocked-clause-changes c =
-    subst (λ (h : Heap). ChangesNumbers c.args.heap.now h c.args.procs.now c.args.pid) (sym c.in-Blocked.ensures.refused)
-    (changes_nothing c.args.heap.now c.args.procs.now c.args.pid c.requires.listed c.requires.there)
+    subst (λ (h : Heap). ChangesNumbers c.args.heap.now h c.args.procs.now c.args.place.pid) (sym c.in-Blocked.ensures.refused)
+    (changes_nothing c.args.heap.now c.args.procs.now c.args.place.pid c.requires.listed (ap is_some c.requires.there))
 
 pub returns-in-Blocked-clause-queues : goal.returns-in-Blocked-clause-queues
 returns-in-Blocked-clause-queues c = queues_changed c.args.heap.now c.accept.new.heap c.in-Blocked.ensures.others c.in-Blocked.ensures.queues
@@ -118,18 +118,18 @@ returns-in-Fault-clause-answers c = λ numbers script plain fd have finds. recor
   now = numbers;
   keeps = keeps_same c.args.heap.now numbers;
   answers =
-      refused numbers c.accept.new.heap c.args.procs.now script plain c.args.pid (accept script plain c.args.pid fd) c.in-Fault.errno
-      (accept_answer numbers c.args.heap.now c.args.procs.now script plain c.args.pid fd c.args.on c.requires.owners c.requires.named have finds c.lowest_from-lowest.result
+      refused numbers c.accept.new.heap c.args.procs.now script plain c.args.place.pid (accept script plain c.args.place.pid fd) c.in-Fault.errno
+      (accept_answer numbers c.args.heap.now c.args.procs.now script plain c.args.place.pid fd c.args.on c.requires.owners c.requires.named have finds c.lowest_from-lowest.result
       (c.lowest_from-lowest.ensures.lowest numbers plain.files have) (Refuses c.in-Fault.errno)
       (λ table stands. c.in-Fault.ensures.answer table stands ∙ ap (λ b. accept_in (stage_at table c.args.on.key) b c.args.on.nonblock) c.is_some.ensures)
-      ∙ refuses_so script plain c.args.pid (numbers.socks c.args.on.key) c.lowest_from-lowest.result c.in-Fault.errno)
+      ∙ refuses_so script plain c.args.place.pid (numbers.socks c.args.on.key) c.lowest_from-lowest.result c.in-Fault.errno)
       (subst (λ (h : Heap). HaveOpen numbers h c.args.procs.now plain.files) (sym c.in-Fault.ensures.refused) have);
 }
 
 pub returns-in-Fault-clause-changes : goal.returns-in-Fault-clause-changes
 returns-in-Fault-clause-changes c =
-    subst (λ (h : Heap). ChangesNumbers c.args.heap.now h c.args.procs.now c.args.pid) (sym c.in-Fault.ensures.refused)
-    (changes_nothing c.args.heap.now c.args.procs.now c.args.pid c.requires.listed c.requires.there)
+    subst (λ (h : Heap). ChangesNumbers c.args.heap.now h c.args.procs.now c.args.place.pid) (sym c.in-Fault.ensures.refused)
+    (changes_nothing c.args.heap.now c.args.procs.now c.args.place.pid c.requires.listed (ap is_some c.requires.there))
 
 pub returns-in-Fault-clause-queues : goal.returns-in-Fault-clause-queues
 returns-in-Fault-clause-queues c = queues_changed c.args.heap.now c.accept.new.heap c.in-Fault.ensures.others c.in-Fault.ensures.queues

@@ -1,6 +1,6 @@
 use Rattle.std.proofs.Common.{◌≡◌, ◌∙◌, false, [], ◌∷◌, ap, refl, subst, sym}
 use Rattle.kheap_slabs.specs.Heap.{Heap}
-use Rattle.kheap_laws.proofs.PaidLemmas.{CanPay-kept, IsPaid-nothing, IsPaid-trans}
+use Rattle.kheap_laws.proofs.PaidLemmas.{CanPay-kept, IsPaid-trans}
 use Rattle.proc_numbers.specs.Having.{HaveOpen, OpensNoNode}
 use Rattle.proc_numbers.specs.Naming.{named_at}
 use Rattle.proc_numbers.proofs.Fronts.{queues_same, queues_then}
@@ -17,14 +17,14 @@ open_one-requires-clause-listed c =
     listed_on c.args.heap.now c.describe-desc.new.heap c.args.procs.now (ap (λ (h : Heap). h.procs) c.describe-desc.ensures.kept) c.requires.listed
 
 pub open_one-requires-clause-free : goal.open_one-requires-clause-free
-open_one-requires-clause-free c = ap (λ (h : Heap). named_at h c.args.procs.now c.args.pid c.args.fd) c.describe-desc.ensures.kept ∙ c.requires.free
+open_one-requires-clause-free c = ap (λ (h : Heap). named_at h c.args.procs.now c.args.place.pid c.args.fd) c.describe-desc.ensures.kept ∙ c.requires.free
 
 pub returns-clause-opened : goal.returns-clause-opened
 returns-clause-opened c = λ numbers files have. record {
   key = c.describe-desc.result;
   vacant = c.describe-desc.ensures.vacant;
   stands = subst (HaveOpen (with_desc numbers files c.describe-desc.result) c.open_one.new.heap c.args.procs.now)
-      (opened_then numbers files c.args.sock c.describe-desc.result c.args.pid c.args.fd)
+      (opened_then numbers files c.args.sock c.describe-desc.result c.args.place.pid c.args.fd)
       (c.open_one.ensures.opened (with_desc numbers files c.describe-desc.result) (described_more files (numbers.socks c.args.sock))
       (c.describe-desc.ensures.opened numbers files c.args.procs.now [] c.requires.listed c.requires.named have));
 }
@@ -39,9 +39,9 @@ returns-clause-nodes c = λ none.
 
 pub returns-clause-changes : goal.returns-clause-changes
 returns-clause-changes c =
-    changes_after c.args.heap.now c.describe-desc.new.heap c.open_one.new.heap c.args.procs.now c.args.pid (ap (λ (h : Heap). h.procs) c.describe-desc.ensures.kept)
+    changes_after c.args.heap.now c.describe-desc.new.heap c.open_one.new.heap c.args.procs.now c.args.place.pid (ap (λ (h : Heap). h.procs) c.describe-desc.ensures.kept)
     (subst (λ (h : Heap). h ≡ record c.args.heap.now { procs = h.procs; descs = h.descs; pipes = h.pipes; chunks = h.chunks; socks = h.socks; high = h.high }) (sym c.describe-desc.ensures.kept) refl)
-    (changes_named c.describe-desc.new.heap c.open_one.new.heap c.args.procs.now c.args.pid c.args.fd (record { desc = c.describe-desc.result; close_on_exec = false })
+    (changes_named c.describe-desc.new.heap c.open_one.new.heap c.args.procs.now c.args.place.pid c.args.fd (record { desc = c.describe-desc.result; close_on_exec = false })
     (listed_on c.args.heap.now c.describe-desc.new.heap c.args.procs.now (ap (λ (h : Heap). h.procs) c.describe-desc.ensures.kept) c.requires.listed) c.open_one.ensures.names)
 
 pub returns-clause-queues : goal.returns-clause-queues
@@ -52,14 +52,16 @@ returns-clause-queues c =
 
 pub returns-clause-paid : goal.returns-clause-paid
 returns-clause-paid c =
-    IsPaid-trans c.args.heap.now c.args.purse.now c.describe-desc.new.heap c.describe-desc.new.purse c.open_one.new.heap c.describe-desc.new.purse c.describe-desc.ensures.paid
-    (IsPaid-nothing c.describe-desc.new.heap c.open_one.new.heap c.describe-desc.new.purse c.describe-desc.new.purse c.open_one.ensures.takes refl refl)
+    IsPaid-trans c.args.heap.now c.args.purse.now c.describe-desc.new.heap c.describe-desc.new.purse c.open_one.new.heap c.open_one.new._purse c.describe-desc.ensures.paid c.open_one.ensures.paid
 
 pub returns-clause-pays : goal.returns-clause-pays
-returns-clause-pays c =
-    CanPay-kept c.describe-desc.new.heap c.open_one.new.heap c.describe-desc.new.purse c.describe-desc.new.purse
-    (IsPaid-nothing c.describe-desc.new.heap c.open_one.new.heap c.describe-desc.new.purse c.describe-desc.new.purse c.open_one.ensures.takes refl refl)
-    c.describe-desc.ensures.pays
+returns-clause-pays c = CanPay-kept c.describe-desc.new.heap c.open_one.new.heap c.describe-desc.new.purse c.open_one.new._purse c.open_one.ensures.paid c.describe-desc.ensures.pays
 
 pub returns-clause-socks : goal.returns-clause-socks
 returns-clause-socks c = ap (λ (h : Heap). h.socks) c.open_one.ensures.names.after ∙ ap (λ (h : Heap). h.socks) c.describe-desc.ensures.kept
+
+pub returns-clause-spent : goal.returns-clause-spent
+returns-clause-spent c = c.open_one.ensures.spent ∙ c.describe-desc.ensures.spent
+
+pub open_one-requires-clause-pays : goal.open_one-requires-clause-pays
+open_one-requires-clause-pays c = c.describe-desc.ensures.pays

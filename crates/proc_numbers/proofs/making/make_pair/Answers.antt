@@ -1,9 +1,9 @@
-use Rattle.std.proofs.Common.{◌∙◌, ◌≡◌, ◌+◌, false, [], ◌∷◌, Some, ap, arith, refl, subst, sym}
+use Rattle.std.proofs.Common.{is_some, ◌∙◌, ◌≡◌, ◌+◌, false, [], ◌∷◌, Some, ap, arith, refl, subst, sym}
 use Rattle.std.specs.Prelude.{IfSome}
 use Rattle.kabi_types.specs.declared.replies.Reply.TheVariants.{Pair}
 use Rattle.kabi_types.specs.declared.errnos.Errno.TheVariants.{EMFILE}
 use Rattle.kheap_slabs.specs.Heap.{Heap}
-use Rattle.kheap_laws.proofs.PaidLemmas.{CanPay-kept, IsPaid-nothing, IsPaid-trans, TakesNothing-trans}
+use Rattle.kheap_laws.proofs.PaidLemmas.{CanPay-kept, IsPaid-trans}
 use Rattle.posix_defs.specs.Answer.{replied}
 use Rattle.posix_defs.specs.Calls.OnSockets.{socketpair}
 use Rattle.posix_defs.specs.Files.State.{descriptors_of, with_open}
@@ -30,12 +30,12 @@ returns-in_default-clause-answers c = λ numbers script plain have. record {
   keeps = keeps_same c.args.heap.now numbers;
   answers =
       let none = no_some c.lowest_from-lowest.result c.in_default.not-Some in
-      refused numbers c.args.heap.now c.args.procs.now script plain c.args.pid (socketpair script plain c.args.pid) EMFILE
-      (pair_fails script plain c.args.pid (none_free (descriptors_of plain.files c.args.pid) (c.lowest_from-lowest.ensures.lowest numbers plain.files have ∙ none))) have;
+      refused numbers c.args.heap.now c.args.procs.now script plain c.args.place.pid (socketpair script plain c.args.place.pid) EMFILE
+      (pair_fails script plain c.args.place.pid (none_free (descriptors_of plain.files c.args.place.pid) (c.lowest_from-lowest.ensures.lowest numbers plain.files have ∙ none))) have;
 }
 
 pub returns-in_default-clause-changes : goal.returns-in_default-clause-changes
-returns-in_default-clause-changes c = changes_nothing c.args.heap.now c.args.procs.now c.args.pid c.requires.listed c.requires.there
+returns-in_default-clause-changes c = changes_nothing c.args.heap.now c.args.procs.now c.args.place.pid c.requires.listed (ap is_some c.requires.there)
 
 pub returns-in_default-clause-queues : goal.returns-in_default-clause-queues
 returns-in_default-clause-queues c = queues_same c.args.heap.now c.args.heap.now refl refl
@@ -46,13 +46,13 @@ returns-in_default-next-clause-answers c = λ numbers script plain have. record 
   keeps = keeps_same c.args.heap.now numbers;
   answers =
       let none = no_some c.lowest_from-next.result c.in_default-next.not-Some in
-      refused numbers c.args.heap.now c.args.procs.now script plain c.args.pid (socketpair script plain c.args.pid) EMFILE
-      (pair_fails script plain c.args.pid (one_free (descriptors_of plain.files c.args.pid) c.in-Some.first
+      refused numbers c.args.heap.now c.args.procs.now script plain c.args.place.pid (socketpair script plain c.args.place.pid) EMFILE
+      (pair_fails script plain c.args.place.pid (one_free (descriptors_of plain.files c.args.place.pid) c.in-Some.first
       (c.lowest_from-lowest.ensures.lowest numbers plain.files have ∙ c.in-Some.is) (c.lowest_from-next.ensures.lowest numbers plain.files have ∙ none))) have;
 }
 
 pub returns-in_default-next-clause-changes : goal.returns-in_default-next-clause-changes
-returns-in_default-next-clause-changes c = changes_nothing c.args.heap.now c.args.procs.now c.args.pid c.requires.listed c.requires.there
+returns-in_default-next-clause-changes c = changes_nothing c.args.heap.now c.args.procs.now c.args.place.pid c.requires.listed (ap is_some c.requires.there)
 
 pub returns-in_default-next-clause-queues : goal.returns-in_default-next-clause-queues
 returns-in_default-next-clause-queues c = queues_same c.args.heap.now c.args.heap.now refl refl
@@ -63,20 +63,20 @@ pub open_one-requires-clause-listed : goal.open_one-requires-clause-listed
 open_one-requires-clause-listed c = listed_on c.args.heap.now c.open_both-ends.new.heap c.args.procs.now (ap (λ (h : Heap). h.procs) c.open_both-ends.ensures.kept) c.requires.listed
 
 pub open_one-requires-clause-number : goal.open_one-requires-clause-number
-open_one-requires-clause-number c = (subst (λ o. IfSome o (IsLowest c.args.heap.now c.args.procs.now c.args.pid 0)) c.in-Some.is c.lowest_from-lowest.ensures.free).0
+open_one-requires-clause-number c = (subst (λ o. IfSome o (IsLowest c.args.heap.now c.args.procs.now c.args.place.pid 0)) c.in-Some.is c.lowest_from-lowest.ensures.free).0
 
 pub open_one-requires-clause-free : goal.open_one-requires-clause-free
 open_one-requires-clause-free c =
-    ap (λ (h : Heap). named_at h c.args.procs.now c.args.pid c.in-Some.first) c.open_both-ends.ensures.kept
-    ∙ (subst (λ o. IfSome o (IsLowest c.args.heap.now c.args.procs.now c.args.pid 0)) c.in-Some.is c.lowest_from-lowest.ensures.free).2
+    ap (λ (h : Heap). named_at h c.args.procs.now c.args.place.pid c.in-Some.first) c.open_both-ends.ensures.kept
+    ∙ (subst (λ o. IfSome o (IsLowest c.args.heap.now c.args.procs.now c.args.place.pid 0)) c.in-Some.is c.lowest_from-lowest.ensures.free).2
 
 pub open_one-requires-2-clause-free : goal.open_one-requires-2-clause-free
 open_one-requires-2-clause-free c =
-    let above = (subst (λ o. IfSome o (IsLowest c.args.heap.now c.args.procs.now c.args.pid (c.in-Some.first + 1))) c.in-Some-next.is c.lowest_from-next.ensures.free).1 in
-    others_named c.open_both-ends.new.heap c.open_one.new.heap c.args.procs.now c.args.pid c.in-Some.first c.in-Some-next.second (record { desc = c.open_both-ends.result.one; close_on_exec = false })
+    let above = (subst (λ o. IfSome o (IsLowest c.args.heap.now c.args.procs.now c.args.place.pid (c.in-Some.first + 1))) c.in-Some-next.is c.lowest_from-next.ensures.free).1 in
+    others_named c.open_both-ends.new.heap c.open_one.new.heap c.args.procs.now c.args.place.pid c.in-Some.first c.in-Some-next.second (record { desc = c.open_both-ends.result.one; close_on_exec = false })
     (listed_on c.args.heap.now c.open_both-ends.new.heap c.args.procs.now (ap (λ (h : Heap). h.procs) c.open_both-ends.ensures.kept) c.requires.listed) c.open_one.ensures.names (λ same. omega (arith, same, above))
-    ∙ ap (λ (h : Heap). named_at h c.args.procs.now c.args.pid c.in-Some-next.second) c.open_both-ends.ensures.kept
-    ∙ (subst (λ o. IfSome o (IsLowest c.args.heap.now c.args.procs.now c.args.pid (c.in-Some.first + 1))) c.in-Some-next.is c.lowest_from-next.ensures.free).2
+    ∙ ap (λ (h : Heap). named_at h c.args.procs.now c.args.place.pid c.in-Some-next.second) c.open_both-ends.ensures.kept
+    ∙ (subst (λ o. IfSome o (IsLowest c.args.heap.now c.args.procs.now c.args.place.pid (c.in-Some.first + 1))) c.in-Some-next.is c.lowest_from-next.ensures.free).2
 
 pub returns-clause-answers : goal.returns-clause-answers
 returns-clause-answers c = λ numbers script plain have.
@@ -87,14 +87,14 @@ returns-clause-answers c = λ numbers script plain have.
       now = opens.now;
       keeps = opens.keeps;
       answers = record {
-        files = with_open (with_open (with_both plain.files) c.args.pid c.in-Some.first (Some (record { description = here; cloexec = false }))) c.args.pid c.in-Some-next.second
+        files = with_open (with_open (with_both plain.files) c.args.place.pid c.in-Some.first (Some (record { description = here; cloexec = false }))) c.args.place.pid c.in-Some-next.second
             (Some (record { description = there; cloexec = false }));
         replies =
-            pair_makes script plain c.args.pid c.in-Some.first c.in-Some-next.second
-            (two_free (descriptors_of plain.files c.args.pid) c.in-Some.first c.in-Some-next.second
+            pair_makes script plain c.args.place.pid c.in-Some.first c.in-Some-next.second
+            (two_free (descriptors_of plain.files c.args.place.pid) c.in-Some.first c.in-Some-next.second
             (c.lowest_from-lowest.ensures.lowest numbers plain.files have ∙ c.in-Some.is) (c.lowest_from-next.ensures.lowest numbers plain.files have ∙ c.in-Some-next.is))
-            ∙ ap (λ files. replied script (with_files plain files) c.args.pid (Pair c.in-Some.first c.in-Some-next.second))
-            (paired_so plain.files c.args.pid c.in-Some.first c.in-Some-next.second here there opens.at_one opens.at_other);
+            ∙ ap (λ files. replied script (with_files plain files) c.args.place.pid (Pair c.in-Some.first c.in-Some-next.second))
+            (paired_so plain.files c.args.place.pid c.in-Some.first c.in-Some-next.second here there opens.at_one opens.at_other);
         stands = c.open_one-2.ensures.opened opens.now _ (c.open_one.ensures.opened opens.now _ opens.stands);
       };
     }
@@ -110,24 +110,21 @@ returns-clause-owners c = c.open_one-2.ensures.owners [] (c.open_one.ensures.own
 pub returns-clause-changes : goal.returns-clause-changes
 returns-clause-changes c =
     let listed = listed_on c.args.heap.now c.open_both-ends.new.heap c.args.procs.now (ap (λ (h : Heap). h.procs) c.open_both-ends.ensures.kept) c.requires.listed in
-    changes_after c.args.heap.now c.open_both-ends.new.heap c.open_one-2.new.heap c.args.procs.now c.args.pid (ap (λ (h : Heap). h.procs) c.open_both-ends.ensures.kept)
+    changes_after c.args.heap.now c.open_both-ends.new.heap c.open_one-2.new.heap c.args.procs.now c.args.place.pid (ap (λ (h : Heap). h.procs) c.open_both-ends.ensures.kept)
     (subst (λ (h : Heap). h ≡ record c.args.heap.now { procs = h.procs; descs = h.descs; pipes = h.pipes; chunks = h.chunks; socks = h.socks; high = h.high }) (sym c.open_both-ends.ensures.kept) refl)
-    (changes_then c.open_both-ends.new.heap c.open_one.new.heap c.open_one-2.new.heap c.args.procs.now c.args.pid
-    (changes_named c.open_both-ends.new.heap c.open_one.new.heap c.args.procs.now c.args.pid c.in-Some.first (record { desc = c.open_both-ends.result.one; close_on_exec = false }) listed c.open_one.ensures.names)
-    (changes_named c.open_one.new.heap c.open_one-2.new.heap c.args.procs.now c.args.pid c.in-Some-next.second (record { desc = c.open_both-ends.result.other; close_on_exec = false }) c.open_one.ensures.listed c.open_one-2.ensures.names))
+    (changes_then c.open_both-ends.new.heap c.open_one.new.heap c.open_one-2.new.heap c.args.procs.now c.args.place.pid
+    (changes_named c.open_both-ends.new.heap c.open_one.new.heap c.args.procs.now c.args.place.pid c.in-Some.first (record { desc = c.open_both-ends.result.one; close_on_exec = false }) listed c.open_one.ensures.names)
+    (changes_named c.open_one.new.heap c.open_one-2.new.heap c.args.procs.now c.args.place.pid c.in-Some-next.second (record { desc = c.open_both-ends.result.other; close_on_exec = false }) c.open_one.ensures.listed c.open_one-2.ensures.names))
 
 pub returns-clause-paid : goal.returns-clause-paid
 returns-clause-paid c =
-    IsPaid-trans c.args.heap.now c.args.purse.now c.open_both-ends.new.heap c.open_both-ends.new.purse c.open_one-2.new.heap c.open_both-ends.new.purse c.open_both-ends.ensures.paid
-    (IsPaid-nothing c.open_both-ends.new.heap c.open_one-2.new.heap c.open_both-ends.new.purse c.open_both-ends.new.purse
-    (TakesNothing-trans c.open_both-ends.new.heap c.open_one.new.heap c.open_one-2.new.heap c.open_one.ensures.takes c.open_one-2.ensures.takes) refl refl)
+    IsPaid-trans c.args.heap.now c.args.purse.now c.open_both-ends.new.heap c.open_both-ends.new.purse c.open_one-2.new.heap c.open_one-2.new._purse c.open_both-ends.ensures.paid
+    (IsPaid-trans c.open_both-ends.new.heap c.open_both-ends.new.purse c.open_one.new.heap c.open_one.new._purse c.open_one-2.new.heap c.open_one-2.new._purse c.open_one.ensures.paid c.open_one-2.ensures.paid)
 
 pub returns-clause-pays : goal.returns-clause-pays
 returns-clause-pays c =
-    CanPay-kept c.open_both-ends.new.heap c.open_one-2.new.heap c.open_both-ends.new.purse c.open_both-ends.new.purse
-    (IsPaid-nothing c.open_both-ends.new.heap c.open_one-2.new.heap c.open_both-ends.new.purse c.open_both-ends.new.purse
-    (TakesNothing-trans c.open_both-ends.new.heap c.open_one.new.heap c.open_one-2.new.heap c.open_one.ensures.takes c.open_one-2.ensures.takes) refl refl)
-    c.open_both-ends.ensures.pays
+    CanPay-kept c.open_one.new.heap c.open_one-2.new.heap c.open_one.new._purse c.open_one-2.new._purse c.open_one-2.ensures.paid
+    (CanPay-kept c.open_both-ends.new.heap c.open_one.new.heap c.open_both-ends.new.purse c.open_one.new._purse c.open_one.ensures.paid c.open_both-ends.ensures.pays)
 
 pub returns-clause-queues : goal.returns-clause-queues
 returns-clause-queues c =
@@ -139,3 +136,12 @@ returns-clause-queues c =
 pub returns-clause-still : goal.returns-clause-still
 returns-clause-still c =
     still_on c.args.heap.now c.open_both-ends.new.heap c.open_one-2.new.heap (ap (λ (h : Heap). h.socks) c.open_one-2.ensures.names.after ∙ ap (λ (h : Heap). h.socks) c.open_one.ensures.names.after) c.open_both-ends.ensures.still
+
+pub open_one-requires-clause-pays : goal.open_one-requires-clause-pays
+open_one-requires-clause-pays c = c.open_both-ends.ensures.pays
+
+pub open_one-requires-2-clause-pays : goal.open_one-requires-2-clause-pays
+open_one-requires-2-clause-pays c = CanPay-kept c.open_both-ends.new.heap c.open_one.new.heap c.open_both-ends.new.purse c.open_one.new._purse c.open_one.ensures.paid c.open_both-ends.ensures.pays
+
+pub returns-clause-spent : goal.returns-clause-spent
+returns-clause-spent c = c.open_one-2.ensures.spent ∙ c.open_one.ensures.spent ∙ c.open_both-ends.ensures.spent

@@ -1,4 +1,4 @@
-use Rattle.std.proofs.Common.{◌∙◌, false, [], ap, pos, refl, subst, sym, length}
+use Rattle.std.proofs.Common.{is_some, ◌∙◌, false, [], ap, pos, refl, subst, sym, length}
 use Rattle.std.specs.Prelude.{IfSome}
 use Rattle.kabi_types.specs.declared.replies.Reply.TheVariants.{Val}
 use Rattle.kabi_types.specs.declared.errnos.Errno.TheVariants.{EMFILE}
@@ -31,12 +31,12 @@ returns-in_default-clause-answers c = λ numbers script plain have. record {
   keeps = keeps_same c.args.heap.now numbers;
   answers =
       let none = no_some c.lowest_from.result c.in_default.not-Some in
-      refused numbers c.args.heap.now c.args.procs.now script plain c.args.pid (socket script plain c.args.pid) EMFILE
-      (socket_fails script plain c.args.pid (c.lowest_from.ensures.lowest numbers plain.files have ∙ none)) have;
+      refused numbers c.args.heap.now c.args.procs.now script plain c.args.place.pid (socket script plain c.args.place.pid) EMFILE
+      (socket_fails script plain c.args.place.pid (c.lowest_from.ensures.lowest numbers plain.files have ∙ none)) have;
 }
 
 pub returns-in_default-clause-changes : goal.returns-in_default-clause-changes
-returns-in_default-clause-changes c = changes_nothing c.args.heap.now c.args.procs.now c.args.pid c.requires.listed c.requires.there
+returns-in_default-clause-changes c = changes_nothing c.args.heap.now c.args.procs.now c.args.place.pid c.requires.listed (ap is_some c.requires.there)
 
 pub returns-in_default-clause-queues : goal.returns-in_default-clause-queues
 returns-in_default-clause-queues c = queues_same c.args.heap.now c.args.heap.now refl refl
@@ -54,12 +54,12 @@ open_on-requires-clause-named c =
     c.requires.owners (free_apart c.args.heap.now [] c.sock_make-made.result c.requires.owners c.sock_make-made.ensures.vacant)).named
 
 pub open_on-requires-clause-number : goal.open_on-requires-clause-number
-open_on-requires-clause-number c = (subst (λ o. IfSome o (IsLowest c.args.heap.now c.args.procs.now c.args.pid 0)) c.in-Some.is c.lowest_from.ensures.free).0
+open_on-requires-clause-number c = (subst (λ o. IfSome o (IsLowest c.args.heap.now c.args.procs.now c.args.place.pid 0)) c.in-Some.is c.lowest_from.ensures.free).0
 
 pub open_on-requires-clause-free : goal.open_on-requires-clause-free
 open_on-requires-clause-free c =
-    ap (λ (h : Heap). named_at h c.args.procs.now c.args.pid c.in-Some.number) c.sock_make-made.ensures.others.kept
-    ∙ (subst (λ o. IfSome o (IsLowest c.args.heap.now c.args.procs.now c.args.pid 0)) c.in-Some.is c.lowest_from.ensures.free).2
+    ap (λ (h : Heap). named_at h c.args.procs.now c.args.place.pid c.in-Some.number) c.sock_make-made.ensures.others.kept
+    ∙ (subst (λ o. IfSome o (IsLowest c.args.heap.now c.args.procs.now c.args.place.pid 0)) c.in-Some.is c.lowest_from.ensures.free).2
 
 pub returns-clause-answers : goal.returns-clause-answers
 returns-clause-answers c = λ numbers script plain have.
@@ -74,10 +74,10 @@ returns-clause-answers c = λ numbers script plain have.
       keeps = keeps_desc c.args.heap.now numbers then files opens.key (vacant_changed c.args.heap.now mid c.sock_make-made.ensures.others opens.key opens.vacant)
           (keeps_sock c.args.heap.now numbers plain.files made c.sock_make-made.ensures.vacant);
       answers = record {
-        files = opened_as files c.args.pid c.in-Some.number false (description_of (then.socks made));
+        files = opened_as files c.args.place.pid c.in-Some.number false (description_of (then.socks made));
         replies =
-            socket_makes script plain c.args.pid c.in-Some.number (c.lowest_from.ensures.lowest numbers plain.files have ∙ c.in-Some.is)
-            ∙ ap (λ place. replied script (with_files plain (opened_as files c.args.pid c.in-Some.number false (description_of place))) c.args.pid (Val (pos c.in-Some.number)))
+            socket_makes script plain c.args.place.pid c.in-Some.number (c.lowest_from.ensures.lowest numbers plain.files have ∙ c.in-Some.is)
+            ∙ ap (λ place. replied script (with_files plain (opened_as files c.args.place.pid c.in-Some.number false (description_of place))) c.args.place.pid (Val (pos c.in-Some.number)))
             (sym (given numbers.socks made (length plain.files.sockets)));
         stands = opens.stands;
       };
@@ -94,7 +94,7 @@ returns-clause-owners c =
 
 pub returns-clause-changes : goal.returns-clause-changes
 returns-clause-changes c =
-    changes_after c.args.heap.now c.sock_make-made.new.heap c.open_on.new.heap c.args.procs.now c.args.pid (ap (λ (h : Heap). h.procs) c.sock_make-made.ensures.others.kept)
+    changes_after c.args.heap.now c.sock_make-made.new.heap c.open_on.new.heap c.args.procs.now c.args.place.pid (ap (λ (h : Heap). h.procs) c.sock_make-made.ensures.others.kept)
     (beside_changed c.args.heap.now c.sock_make-made.new.heap c.sock_make-made.ensures.others) c.open_on.ensures.changes
 
 pub returns-clause-queues : goal.returns-clause-queues

@@ -19,8 +19,8 @@ returns-then-may_be_descriptor-clause-held c =
     let may : may_be_descriptor c.args.fd ≡ true = sym (subst (λ z. c.may_be_descriptor.result ≡ may_be_descriptor z) fd c.may_be_descriptor.ensures) ∙ c.if-may_be_descriptor.true in
     let count : c.count_of.result ≡ count_of c.args.fd = subst (λ z. c.count_of.result ≡ count_of z) fd c.count_of.ensures in
     ap (λ places. slice_index_or places c.count_of.result None) c.places_in-places.ensures.places
-    ∙ ap (named_at c.args.heap.now c.args.procs.now c.args.pid) count
-    ∙ sym (named_within c.args.heap.now c.args.procs.now c.args.pid c.args.fd may)
+    ∙ ap (named_at c.args.heap.now c.args.procs.now c.args.place.pid) count
+    ∙ sym (named_within c.args.heap.now c.args.procs.now c.args.place.pid c.args.fd may)
 
 pub returns-then-may_be_descriptor-clause-within : goal.returns-then-may_be_descriptor-clause-within
 returns-then-may_be_descriptor-clause-within c = λ some.
@@ -32,4 +32,4 @@ pub returns-else-may_be_descriptor-clause-held : goal.returns-else-may_be_descri
 returns-else-may_be_descriptor-clause-held c =
     let fd = to_z-of_z w64 c.args.fd c.ranges.fd in
     let beyond : may_be_descriptor c.args.fd ≡ false = sym (subst (λ z. c.may_be_descriptor.result ≡ may_be_descriptor z) fd c.may_be_descriptor.ensures) ∙ c.if-may_be_descriptor.false in
-    sym (named_beyond c.args.heap.now c.args.procs.now c.args.pid c.args.fd c.places_in-places.ensures.all beyond)
+    sym (named_beyond c.args.heap.now c.args.procs.now c.args.place.pid c.args.fd c.places_in-places.ensures.all beyond)

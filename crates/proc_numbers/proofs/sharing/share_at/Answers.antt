@@ -1,7 +1,7 @@
 use Rattle.std.proofs.Common.{◌≡◌, ◌+◌, ◌∙◌, [], ap, refl, subst, sym, arith}
 use Rattle.kheap_slabs.proofs.ObjectLemmas.{object_of}
 use Rattle.kheap_slabs.specs.Heap.{Heap}
-use Rattle.kheap_laws.proofs.PaidLemmas.{TakesNothing-trans}
+use Rattle.kheap_laws.proofs.PaidLemmas.{TakesNothing-trans, CanPay-kept, IsPaid-nothing, IsPaid-trans}
 use Rattle.open_laws.specs.Described.{after_share, counting}
 use Rattle.proc_table.specs.Procs.{numbers_in}
 use Rattle.proc_table.specs.Table.{processes}
@@ -25,7 +25,7 @@ open_one-requires-clause-listed c =
 pub open_one-requires-clause-free : goal.open_one-requires-clause-free
 open_one-requires-clause-free c =
     let found = object_of c.args.heap.now.descs c.args.desc c.requires.used in
-    ap (λ (h : Heap). named_at h c.args.procs.now c.args.pid c.args.fd) (c.share_desc.ensures.kept found.0 found.1) ∙ c.requires.free
+    ap (λ (h : Heap). named_at h c.args.procs.now c.args.place.pid c.args.fd) (c.share_desc.ensures.kept found.0 found.1) ∙ c.requires.free
 
 pub returns-clause-opened : goal.returns-clause-opened
 returns-clause-opened c = λ numbers files have.
@@ -54,10 +54,10 @@ pub returns-clause-changes : goal.returns-clause-changes
 returns-clause-changes c =
     let found = object_of c.args.heap.now.descs c.args.desc c.requires.used in
     let shared = c.share_desc.ensures.kept found.0 found.1 in
-    changes_after c.args.heap.now c.share_desc.new.heap c.open_one.new.heap c.args.procs.now c.args.pid
+    changes_after c.args.heap.now c.share_desc.new.heap c.open_one.new.heap c.args.procs.now c.args.place.pid
     (ap (λ (h : Heap). h.procs) shared)
     (subst (λ (h : Heap). h ≡ record c.args.heap.now { procs = h.procs; descs = h.descs; pipes = h.pipes; chunks = h.chunks; socks = h.socks; high = h.high }) (sym shared) refl)
-    (changes_named c.share_desc.new.heap c.open_one.new.heap c.args.procs.now c.args.pid c.args.fd _
+    (changes_named c.share_desc.new.heap c.open_one.new.heap c.args.procs.now c.args.place.pid c.args.fd _
     (listed_on c.args.heap.now c.share_desc.new.heap c.args.procs.now (ap (λ (h : Heap). h.procs) shared) c.requires.listed) c.open_one.ensures.names)
 
 pub returns-clause-beside : goal.returns-clause-beside
@@ -65,8 +65,15 @@ returns-clause-beside c =
     let found = object_of c.args.heap.now.descs c.args.desc c.requires.used in
     let shared = c.share_desc.ensures.kept found.0 found.1 in
     beside_shared c.args.heap.now c.share_desc.new.heap c.open_one.new.heap _ shared
-    (beside_named c.share_desc.new.heap c.open_one.new.heap c.args.procs.now c.args.pid c.args.fd _
+    (beside_named c.share_desc.new.heap c.open_one.new.heap c.args.procs.now c.args.place.pid c.args.fd _
     (listed_on c.args.heap.now c.share_desc.new.heap c.args.procs.now (ap (λ (h : Heap). h.procs) shared) c.requires.listed) c.open_one.ensures.names)
 
 pub returns-clause-takes : goal.returns-clause-takes
 returns-clause-takes c = TakesNothing-trans c.args.heap.now c.share_desc.new.heap c.open_one.new.heap c.share_desc.ensures.takes c.open_one.ensures.takes
+
+pub open_one-requires-clause-pays : goal.open_one-requires-clause-pays
+open_one-requires-clause-pays c = CanPay-kept c.args.heap.now c.share_desc.new.heap c.args.purse.now c.args.purse.now (IsPaid-nothing c.args.heap.now c.share_desc.new.heap c.args.purse.now c.args.purse.now c.share_desc.ensures.takes refl refl) c.requires.pays
+
+pub returns-clause-paid : goal.returns-clause-paid
+returns-clause-paid c =
+    IsPaid-trans c.args.heap.now c.args.purse.now c.share_desc.new.heap c.args.purse.now c.open_one.new.heap c.open_one.new._purse (IsPaid-nothing c.args.heap.now c.share_desc.new.heap c.args.purse.now c.args.purse.now c.share_desc.ensures.takes refl refl) c.open_one.ensures.paid

@@ -1,4 +1,4 @@
-use Rattle.std.proofs.Common.{◌∙◌, [], ap, refl, subst, w64}
+use Rattle.std.proofs.Common.{is_some, ◌∙◌, [], ap, refl, subst, w64}
 use Rattle.std.proofs.lemmas.Int.{to_z-of_z}
 use Rattle.kheap_slabs.specs.Heap.{Heap}
 use Rattle.posix_defs.specs.Calls.OnSockets.{listen}
@@ -19,9 +19,9 @@ listen-requires-clause-there c = socket_there c.args.heap.now [] c.in-Ok.found.k
 pub returns-in-Ok-clause-answers : goal.returns-in-Ok-clause-answers
 returns-in-Ok-clause-answers c = λ numbers script plain have.
     let fd = to_z-of_z w64 c.args.fd c.ranges.fd in
-    listens numbers c.args.heap.now c.listen.new.heap c.args.procs.now script plain c.args.pid c.args.fd c.in-Ok.found c.requires.owners c.in-Ok.ensures.there
+    listens numbers c.args.heap.now c.listen.new.heap c.args.procs.now script plain c.args.place.pid c.args.fd c.in-Ok.found c.requires.owners c.in-Ok.ensures.there
     (record { others = c.listen.ensures.others; objects = c.listen.ensures.owned; held = c.listen.ensures.held }) have c.listen.result
-    (λ answer. subst (FindsSocket numbers script plain c.args.pid c.args.fd answer) c.in-Ok.is (subst (λ z. FindsSocket numbers script plain c.args.pid z answer c.socket_of.result) fd (c.socket_of.ensures.found numbers script plain answer have)))
+    (λ answer. subst (FindsSocket numbers script plain c.args.place.pid c.args.fd answer) c.in-Ok.is (subst (λ z. FindsSocket numbers script plain c.args.place.pid z answer c.socket_of.result) fd (c.socket_of.ensures.found numbers script plain answer have)))
     (c.listen.ensures.answer have.opened.socketed.keyed have.opened.socketed.stands)
     (c.listen.ensures.stands have.opened.socketed.keyed have.opened.socketed.stands)
 
@@ -33,9 +33,9 @@ returns-in-Ok-clause-owners c = owners_change c.args.heap.now c.listen.new.heap 
 
 pub returns-in-Ok-clause-changes : goal.returns-in-Ok-clause-changes
 returns-in-Ok-clause-changes c =
-    changes_after c.args.heap.now c.listen.new.heap c.listen.new.heap c.args.procs.now c.args.pid (ap (λ (h : Heap). h.procs) c.listen.ensures.others.kept)
+    changes_after c.args.heap.now c.listen.new.heap c.listen.new.heap c.args.procs.now c.args.place.pid (ap (λ (h : Heap). h.procs) c.listen.ensures.others.kept)
     (beside_changed c.args.heap.now c.listen.new.heap c.listen.ensures.others)
-    (changes_nothing c.listen.new.heap c.args.procs.now c.args.pid (listed_on c.args.heap.now c.listen.new.heap c.args.procs.now (ap (λ (h : Heap). h.procs) c.listen.ensures.others.kept) c.requires.listed) c.requires.there)
+    (changes_nothing c.listen.new.heap c.args.procs.now c.args.place.pid (listed_on c.args.heap.now c.listen.new.heap c.args.procs.now (ap (λ (h : Heap). h.procs) c.listen.ensures.others.kept) c.requires.listed) (ap is_some c.requires.there))
 
 pub returns-in-Ok-clause-queues : goal.returns-in-Ok-clause-queues
 returns-in-Ok-clause-queues c = queues_changed c.args.heap.now c.listen.new.heap c.listen.ensures.others c.listen.ensures.queues
@@ -45,11 +45,11 @@ returns-in-Ok-clause-queues c = queues_changed c.args.heap.now c.listen.new.heap
 pub returns-in-Err-clause-answers : goal.returns-in-Err-clause-answers
 returns-in-Err-clause-answers c = λ numbers script plain have.
     let fd = to_z-of_z w64 c.args.fd c.ranges.fd in
-    refused numbers c.args.heap.now c.args.procs.now script plain c.args.pid (listen script plain c.args.pid c.args.fd) c.in-Err.errno
-    (listen_asks script plain c.args.pid c.args.fd ∙ subst (FindsSocket numbers script plain c.args.pid c.args.fd (listen_as script plain c.args.pid)) c.in-Err.is (subst (λ z. FindsSocket numbers script plain c.args.pid z (listen_as script plain c.args.pid) c.socket_of.result) fd (c.socket_of.ensures.found numbers script plain (listen_as script plain c.args.pid) have))) have
+    refused numbers c.args.heap.now c.args.procs.now script plain c.args.place.pid (listen script plain c.args.place.pid c.args.fd) c.in-Err.errno
+    (listen_asks script plain c.args.place.pid c.args.fd ∙ subst (FindsSocket numbers script plain c.args.place.pid c.args.fd (listen_as script plain c.args.place.pid)) c.in-Err.is (subst (λ z. FindsSocket numbers script plain c.args.place.pid z (listen_as script plain c.args.place.pid) c.socket_of.result) fd (c.socket_of.ensures.found numbers script plain (listen_as script plain c.args.place.pid) have))) have
 
 pub returns-in-Err-clause-changes : goal.returns-in-Err-clause-changes
-returns-in-Err-clause-changes c = changes_nothing c.args.heap.now c.args.procs.now c.args.pid c.requires.listed c.requires.there
+returns-in-Err-clause-changes c = changes_nothing c.args.heap.now c.args.procs.now c.args.place.pid c.requires.listed (ap is_some c.requires.there)
 
 pub returns-in-Err-clause-queues : goal.returns-in-Err-clause-queues
 returns-in-Err-clause-queues c = queues_same c.args.heap.now c.args.heap.now refl refl

@@ -1,4 +1,4 @@
-use Rattle.std.proofs.Common.{◌≡◌, ◌∙◌, [], ap, refl, subst, w64}
+use Rattle.std.proofs.Common.{is_some, ◌≡◌, ◌∙◌, [], ap, refl, subst, w64}
 use Rattle.std.proofs.lemmas.Int.{to_z-of_z}
 use Rattle.std.specs.Prelude.{MatchResult}
 use Rattle.posix_defs.specs.Sockets.{after_shut}
@@ -22,9 +22,9 @@ shutdown-requires-clause-there c = socket_there c.args.heap.now [] c.in-Ok.found
 pub returns-in-Ok-clause-answers : goal.returns-in-Ok-clause-answers
 returns-in-Ok-clause-answers c = λ numbers script plain have.
     let fd = to_z-of_z w64 c.args.fd c.ranges.fd in
-    shuts numbers c.args.heap.now c.shutdown.new.heap c.args.procs.now script plain c.args.pid c.args.fd c.in-Ok.found c.requires.owners c.in-Ok.ensures.there
+    shuts numbers c.args.heap.now c.shutdown.new.heap c.args.procs.now script plain c.args.place.pid c.args.fd c.in-Ok.found c.requires.owners c.in-Ok.ensures.there
     (record { others = c.shutdown.ensures.others; objects = c.shutdown.ensures.owned; held = c.shutdown.ensures.held }) have c.args.how c.shutdown.result
-    (λ answer. subst (FindsSocket numbers script plain c.args.pid c.args.fd answer) c.in-Ok.is (subst (λ z. FindsSocket numbers script plain c.args.pid z answer c.socket_of.result) fd (c.socket_of.ensures.found numbers script plain answer have)))
+    (λ answer. subst (FindsSocket numbers script plain c.args.place.pid c.args.fd answer) c.in-Ok.is (subst (λ z. FindsSocket numbers script plain c.args.place.pid z answer c.socket_of.result) fd (c.socket_of.ensures.found numbers script plain answer have)))
     (c.shutdown.ensures.answer have.opened.socketed.keyed have.opened.socketed.stands)
     (subst (λ h. MatchResult c.shutdown.result (λ _. SocketsStandFor c.shutdown.new.heap (after_shut have.opened.socketed.keyed c.in-Ok.found.key h)) (λ _. c.shutdown.new.heap ≡ c.args.heap.now)) (to_z-of_z w64 c.args.how c.ranges.how) (c.shutdown.ensures.stands have.opened.socketed.keyed have.opened.socketed.stands))
 
@@ -36,9 +36,9 @@ returns-in-Ok-clause-owners c = owners_change c.args.heap.now c.shutdown.new.hea
 
 pub returns-in-Ok-clause-changes : goal.returns-in-Ok-clause-changes
 returns-in-Ok-clause-changes c =
-    changes_after c.args.heap.now c.shutdown.new.heap c.shutdown.new.heap c.args.procs.now c.args.pid (ap (λ (h : Heap). h.procs) c.shutdown.ensures.others.kept)
+    changes_after c.args.heap.now c.shutdown.new.heap c.shutdown.new.heap c.args.procs.now c.args.place.pid (ap (λ (h : Heap). h.procs) c.shutdown.ensures.others.kept)
     (beside_changed c.args.heap.now c.shutdown.new.heap c.shutdown.ensures.others)
-    (changes_nothing c.shutdown.new.heap c.args.procs.now c.args.pid (listed_on c.args.heap.now c.shutdown.new.heap c.args.procs.now (ap (λ (h : Heap). h.procs) c.shutdown.ensures.others.kept) c.requires.listed) c.requires.there)
+    (changes_nothing c.shutdown.new.heap c.args.procs.now c.args.place.pid (listed_on c.args.heap.now c.shutdown.new.heap c.args.procs.now (ap (λ (h : Heap). h.procs) c.shutdown.ensures.others.kept) c.requires.listed) (ap is_some c.requires.there))
 
 pub returns-in-Ok-clause-queues : goal.returns-in-Ok-clause-queues
 returns-in-Ok-clause-queues c = queues_changed c.args.heap.now c.shutdown.new.heap c.shutdown.ensures.others c.shutdown.ensures.queues
@@ -48,11 +48,11 @@ returns-in-Ok-clause-queues c = queues_changed c.args.heap.now c.shutdown.new.he
 pub returns-in-Err-clause-answers : goal.returns-in-Err-clause-answers
 returns-in-Err-clause-answers c = λ numbers script plain have.
     let fd = to_z-of_z w64 c.args.fd c.ranges.fd in
-    refused numbers c.args.heap.now c.args.procs.now script plain c.args.pid (shutdown script plain c.args.pid c.args.fd c.args.how) c.in-Err.errno
-    (shutdown_asks script plain c.args.pid c.args.fd c.args.how ∙ subst (FindsSocket numbers script plain c.args.pid c.args.fd (shutdown_as script plain c.args.pid c.args.how)) c.in-Err.is (subst (λ z. FindsSocket numbers script plain c.args.pid z (shutdown_as script plain c.args.pid c.args.how) c.socket_of.result) fd (c.socket_of.ensures.found numbers script plain (shutdown_as script plain c.args.pid c.args.how) have))) have
+    refused numbers c.args.heap.now c.args.procs.now script plain c.args.place.pid (shutdown script plain c.args.place.pid c.args.fd c.args.how) c.in-Err.errno
+    (shutdown_asks script plain c.args.place.pid c.args.fd c.args.how ∙ subst (FindsSocket numbers script plain c.args.place.pid c.args.fd (shutdown_as script plain c.args.place.pid c.args.how)) c.in-Err.is (subst (λ z. FindsSocket numbers script plain c.args.place.pid z (shutdown_as script plain c.args.place.pid c.args.how) c.socket_of.result) fd (c.socket_of.ensures.found numbers script plain (shutdown_as script plain c.args.place.pid c.args.how) have))) have
 
 pub returns-in-Err-clause-changes : goal.returns-in-Err-clause-changes
-returns-in-Err-clause-changes c = changes_nothing c.args.heap.now c.args.procs.now c.args.pid c.requires.listed c.requires.there
+returns-in-Err-clause-changes c = changes_nothing c.args.heap.now c.args.procs.now c.args.place.pid c.requires.listed (ap is_some c.requires.there)
 
 pub returns-in-Err-clause-queues : goal.returns-in-Err-clause-queues
 returns-in-Err-clause-queues c = queues_same c.args.heap.now c.args.heap.now refl refl

@@ -1,11 +1,11 @@
 use Rattle.std.proofs.Common.{◌≡◌, ◌∙◌, ◌<◌, ◌≤◌, ◌-◌, suc, length, take, ap, sym, arith}
 use Rattle.proc_table.specs.Table.{key_of}
-use Rattle.proc_table.specs.declared.places.Listed.{Listed}
+use Rattle.proc_table.specs.declared.places.Place.{Place}
 use Rattle.proc_table.proofs.FindLemmas.{key_here, key_near, key_nowhere, key_passed, min_within}
 use Rattle.proc_table.proofs.places.find.Goals as goal
 
 -- what a place past the end would have
-abbrev nobody : Listed
+abbrev nobody : Place
 nobody = record { pid = 0; key = 0 }
 
 pub loop-places-init : goal.loop-places-init

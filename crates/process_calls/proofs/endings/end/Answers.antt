@@ -24,7 +24,7 @@ pub end_others-requires-clause-holds : goal.end_others-requires-clause-holds
 end_others-requires-clause-holds c =
     let some = c.requires.stands in (
       some.2.files.numbers,
-      after_end_of some.1.plain.files c.args.pid,
+      after_end_of some.1.plain.files c.args.place.pid,
       c.end_one.ensures.holds some.2.files.numbers some.1.plain.files (held_at_first some.0 c.args.objects.now some.1 some.2 some.3 c.heap_is_well_formed.ensures),
     )
 
@@ -36,18 +36,18 @@ end_others-requires-clause-room c =
     can_still c.args.objects.now.heap c.end_one.new.objects.heap c.kept_back-purse.result c.end_one.new.purse c.end_one.ensures.paid
     (can_pay c.args.objects.now.heap c.kept_back-purse.result c.kept_back-purse.ensures.bytes c.requires.room)
 
-pub returns-then-pid-eq-INIT-clause-kept : goal.returns-then-pid-eq-INIT-clause-kept
-returns-then-pid-eq-INIT-clause-kept c = λ script kept. c.end_others.ensures.kept script (c.end_one.ensures.kept script kept)
+pub returns-then-place-eq-INIT-clause-kept : goal.returns-then-place-eq-INIT-clause-kept
+returns-then-place-eq-INIT-clause-kept c = λ script kept. c.end_others.ensures.kept script (c.end_one.ensures.kept script kept)
 
-pub returns-then-pid-eq-INIT-clause-dies : goal.returns-then-pid-eq-INIT-clause-dies
-returns-then-pid-eq-INIT-clause-dies c = λ script world stands sound.
+pub returns-then-place-eq-INIT-clause-dies : goal.returns-then-place-eq-INIT-clause-dies
+returns-then-place-eq-INIT-clause-dies c = λ script world stands sound.
     let old = c.args.objects.now in
     let mid = c.end_one.new.objects in
     let new = c.end_others.new.objects in
     let held = held_at_first script old world stands sound c.heap_is_well_formed.ensures in
     let numbers = stands.files.numbers in
     let then = c.end_one.ensures.holds numbers world.plain.files held in
-    dies_with_all script old world stands sound c.heap_is_well_formed.ensures mid new c.args.pid c.args.status c.if-pid-eq-INIT.true
+    dies_with_all script old world stands sound c.heap_is_well_formed.ensures mid new c.args.place.pid c.args.status c.if-place-eq-INIT.true
     (c.end_others.ensures.kept script (c.end_one.ensures.kept script stands.kept)) c.requires.alive
     (record {
       last = c.end_one.ensures.last;
@@ -62,41 +62,41 @@ returns-then-pid-eq-INIT-clause-dies c = λ script world stands sound.
       last = c.end_others.ensures.last;
       table = c.end_others.ensures.table;
       account = c.end_others.ensures.account;
-      held = c.end_others.ensures.holds numbers (after_end_of world.plain.files c.args.pid) then;
+      held = c.end_others.ensures.holds numbers (after_end_of world.plain.files c.args.place.pid) then;
       queues = c.end_others.ensures.queues;
-      stays = c.end_others.ensures.stays numbers (after_end_of world.plain.files c.args.pid) then;
+      stays = c.end_others.ensures.stays numbers (after_end_of world.plain.files c.args.place.pid) then;
       reads = c.end_others.ensures.reads;
     })
     (counts_back old new c.kept_back-purse.result c.end_others.new.purse (c.end_others.ensures.same ∙ c.end_one.ensures.same)
     (IsPaid-trans old.heap c.kept_back-purse.result mid.heap c.end_one.new.purse new.heap c.end_others.new.purse c.end_one.ensures.paid c.end_others.ensures.paid))
 
-pub returns-else-pid-eq-INIT-clause-dies : goal.returns-else-pid-eq-INIT-clause-dies
-returns-else-pid-eq-INIT-clause-dies c = λ script world stands sound.
+pub returns-else-place-eq-INIT-clause-dies : goal.returns-else-place-eq-INIT-clause-dies
+returns-else-place-eq-INIT-clause-dies c = λ script world stands sound.
     let old = c.args.objects.now in
     let new = c.end_one.new.objects in
     let held = held_at_first script old world stands sound c.heap_is_well_formed.ensures in
-    dies_other script old world stands sound c.heap_is_well_formed.ensures new c.args.pid c.args.status
-    (c.end_one.ensures.kept script stands.kept) c.requires.alive c.if-pid-eq-INIT.false c.end_one.ensures.last c.end_one.ensures.ended
+    dies_other script old world stands sound c.heap_is_well_formed.ensures new c.args.place.pid c.args.status
+    (c.end_one.ensures.kept script stands.kept) c.requires.alive c.if-place-eq-INIT.false c.end_one.ensures.last c.end_one.ensures.ended
     (c.end_one.ensures.table world.plain.table stands.processes.table) (c.end_one.ensures.account world.account.frames stands.memory)
     (c.end_one.ensures.holds stands.files.numbers world.plain.files held) c.end_one.ensures.queues
     (c.end_one.ensures.stays stands.files.numbers world.plain.files held) c.end_one.ensures.reads
     (counts_back old new c.kept_back-purse.result c.end_one.new.purse c.end_one.ensures.same c.end_one.ensures.paid)
 
-pub returns-then-pid-eq-INIT-clause-others : goal.returns-then-pid-eq-INIT-clause-others
-returns-then-pid-eq-INIT-clause-others c = λ other. absurd (other c.if-pid-eq-INIT.true)
+pub returns-then-place-eq-INIT-clause-others : goal.returns-then-place-eq-INIT-clause-others
+returns-then-place-eq-INIT-clause-others c = λ other. absurd (other c.if-place-eq-INIT.true)
 
-pub returns-else-pid-eq-INIT-clause-others : goal.returns-else-pid-eq-INIT-clause-others
-returns-else-pid-eq-INIT-clause-others c = λ _ other control apart runs.
-    runs_ended c.args.objects.now c.end_one.new.objects c.args.pid c.args.status other control apart c.end_one.ensures.ended runs
+pub returns-else-place-eq-INIT-clause-others : goal.returns-else-place-eq-INIT-clause-others
+returns-else-place-eq-INIT-clause-others c = λ _ other control apart runs.
+    runs_ended c.args.objects.now c.end_one.new.objects c.args.place.pid c.args.status other control apart c.end_one.ensures.ended runs
 
-pub returns-then-pid-eq-INIT-clause-uses : goal.returns-then-pid-eq-INIT-clause-uses
-returns-then-pid-eq-INIT-clause-uses c =
+pub returns-then-place-eq-INIT-clause-uses : goal.returns-then-place-eq-INIT-clause-uses
+returns-then-place-eq-INIT-clause-uses c =
     let old = c.args.objects.now in
     let mid = c.end_one.new.objects in
     let new = c.end_others.new.objects in
     uses_back old.heap new.heap c.kept_back-purse.result c.end_others.new.purse (c.end_others.ensures.same ∙ c.end_one.ensures.same) c.kept_back-purse.ensures.bytes
     (IsPaid-trans old.heap c.kept_back-purse.result mid.heap c.end_one.new.purse new.heap c.end_others.new.purse c.end_one.ensures.paid c.end_others.ensures.paid)
 
-pub returns-else-pid-eq-INIT-clause-uses : goal.returns-else-pid-eq-INIT-clause-uses
-returns-else-pid-eq-INIT-clause-uses c =
+pub returns-else-place-eq-INIT-clause-uses : goal.returns-else-place-eq-INIT-clause-uses
+returns-else-place-eq-INIT-clause-uses c =
     uses_back c.args.objects.now.heap c.end_one.new.objects.heap c.kept_back-purse.result c.end_one.new.purse c.end_one.ensures.same c.kept_back-purse.ensures.bytes c.end_one.ensures.paid

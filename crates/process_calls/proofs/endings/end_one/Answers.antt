@@ -1,4 +1,4 @@
-use Rattle.std.proofs.Common.{◌∙◌, ◌≤◌, ap, is_some, refl, subst, sym}
+use Rattle.std.proofs.Common.{◌∙◌, ◌≤◌, ap, refl, subst, sym}
 use Rattle.kheap_laws.proofs.PaidLemmas.{IsPaid-nothing, IsPaid-trans}
 use Rattle.posix_defs.specs.Files.Closing.{after_end_of}
 use Rattle.posix_defs.specs.Memory.{after_clear}
@@ -16,15 +16,12 @@ use Rattle.process_calls.proofs.endings.end_one.Goals as goal
 pub directory_of-directory-requires-clause-stored : goal.directory_of-directory-requires-clause-stored
 directory_of-directory-requires-clause-stored c = c.requires.kept.1.holds.stored
 
-pub directory_of-directory-requires-clause-there : goal.directory_of-directory-requires-clause-there
-directory_of-directory-requires-clause-there c = ap is_some c.requires.alive.there
-
 pub let_go-requires : goal.let_go-requires
 let_go-requires c = record {
   held = λ other.
       let some = c.requires.kept in
       let held = c.requires.holds in
-      may_let_go some.0 c.args.objects.now c.shut_down.new.objects c.args.pid c.directory_of-directory.result c.requires.alive.proc held.0 (after_end_of held.1 c.args.pid)
+      may_let_go some.0 c.args.objects.now c.shut_down.new.objects c.args.place.pid c.directory_of-directory.result c.requires.alive.proc held.0 (after_end_of held.1 c.args.place.pid)
       some.1 c.requires.alive.there c.requires.alive.runs (c.directory_of-directory.ensures c.requires.alive.proc c.requires.alive.there) other
       (c.shut_down.ensures.holds held.0 (workers_at (procs_of c.args.objects.now)) held.1 held.2);
 }
@@ -32,7 +29,7 @@ let_go-requires c = record {
 pub returns-clause-holds : goal.returns-clause-holds
 returns-clause-holds c = λ numbers files hold.
     let some = c.requires.kept in
-    held_ended some.0 c.args.objects.now c.shut_down.new.objects c.let_go.new.objects c.args.pid c.args.status c.directory_of-directory.result c.requires.alive.proc numbers (after_end_of files c.args.pid)
+    held_ended some.0 c.args.objects.now c.shut_down.new.objects c.let_go.new.objects c.args.place.pid c.args.status c.directory_of-directory.result c.requires.alive.proc numbers (after_end_of files c.args.place.pid)
     some.1 c.requires.alive.there c.requires.alive.runs (c.directory_of-directory.ensures c.requires.alive.proc c.requires.alive.there)
     c.shut_down.ensures.ended c.let_go.ensures.only c.let_go.ensures.stands
     (c.shut_down.ensures.holds numbers (workers_at (procs_of c.args.objects.now)) files hold)
@@ -41,13 +38,13 @@ pub returns-clause-kept : goal.returns-clause-kept
 returns-clause-kept c = λ script kept.
     let some = c.requires.kept in
     let held = c.requires.holds in
-    let then : HoldFilesOf held.0 c.let_go.new.objects (after_end_of held.1 c.args.pid) =
-    held_ended some.0 c.args.objects.now c.shut_down.new.objects c.let_go.new.objects c.args.pid c.args.status c.directory_of-directory.result c.requires.alive.proc held.0 (after_end_of held.1 c.args.pid)
+    let then : HoldFilesOf held.0 c.let_go.new.objects (after_end_of held.1 c.args.place.pid) =
+    held_ended some.0 c.args.objects.now c.shut_down.new.objects c.let_go.new.objects c.args.place.pid c.args.status c.directory_of-directory.result c.requires.alive.proc held.0 (after_end_of held.1 c.args.place.pid)
     some.1 c.requires.alive.there c.requires.alive.runs (c.directory_of-directory.ensures c.requires.alive.proc c.requires.alive.there)
     c.shut_down.ensures.ended c.let_go.ensures.only c.let_go.ensures.stands
     (c.shut_down.ensures.holds held.0 (workers_at (procs_of c.args.objects.now)) held.1 held.2) in
     pinned_kept c.shut_down.new.objects c.let_go.new.objects c.let_go.ensures.only script (c.shut_down.ensures.kept script kept)
-    (keeps_some held.0 (workers_at (procs_of c.let_go.new.objects)) c.let_go.new.objects (after_end_of held.1 c.args.pid) then)
+    (keeps_some held.0 (workers_at (procs_of c.let_go.new.objects)) c.let_go.new.objects (after_end_of held.1 c.args.place.pid) then)
 
 pub returns-clause-last : goal.returns-clause-last
 returns-clause-last c = ap (λ view. view.last) c.let_go.ensures.only.procs ∙ c.shut_down.ensures.last
@@ -57,11 +54,11 @@ returns-clause-ended c = pinned_procs c.shut_down.new.objects c.let_go.new.objec
 
 pub returns-clause-table : goal.returns-clause-table
 returns-clause-table c = λ table is.
-    pinned_table c.shut_down.new.objects c.let_go.new.objects c.let_go.ensures.only (ends_in table c.args.pid c.args.status) (c.shut_down.ensures.table table is)
+    pinned_table c.shut_down.new.objects c.let_go.new.objects c.let_go.ensures.only (ends_in table c.args.place.pid c.args.status) (c.shut_down.ensures.table table is)
 
 pub returns-clause-account : goal.returns-clause-account
 returns-clause-account c = λ frames has.
-    pinned_account c.shut_down.new.objects c.let_go.new.objects c.let_go.ensures.only (after_clear frames c.args.pid) (c.shut_down.ensures.account frames has)
+    pinned_account c.shut_down.new.objects c.let_go.new.objects c.let_go.ensures.only (after_clear frames c.args.place.pid) (c.shut_down.ensures.account frames has)
 
 pub returns-clause-queues : goal.returns-clause-queues
 returns-clause-queues c = queues_then _ _ _ c.shut_down.ensures.queues (pinned_queues c.shut_down.new.objects c.let_go.new.objects c.let_go.ensures.only)

@@ -1,4 +1,4 @@
-use Rattle.std.proofs.Common.{◌≡◌, ◌∙◌, ◌<◌, [], le_refl, le_trans, refl, arith}
+use Rattle.std.proofs.Common.{◌≡◌, ◌∙◌, ◌<◌, [], ap, is_some, le_refl, le_trans, refl, arith}
 use Rattle.kheap_laws.proofs.PaidLemmas.{IsPaid-refl, IsPaid-trans}
 use Rattle.posix_defs.specs.Files.Closing.{after_end_of}
 use Rattle.posix_defs.specs.Memory.{after_clear}
@@ -28,6 +28,14 @@ loop-next-init c = record {
 
 pub live_behind-requires : goal.live_behind-requires
 live_behind-requires c = c.loop-next.invariant.some.1.holds
+
+pub key_there-key-requires-clause-stored : goal.key_there-key-requires-clause-stored
+key_there-key-requires-clause-stored c = c.loop-next.invariant.some.1.holds.stored
+
+pub key_there-key-requires-clause-there : goal.key_there-key-requires-clause-there
+key_there-key-requires-clause-there c =
+    let found : IsLowestBehind (procs_of c.loop-next.objects) c.loop-next.pid c.in-Some.next = c.in-Some.ensures.lowest in
+    ap is_some found.alive.there
 
 pub end_one-requires-clause-kept : goal.end_one-requires-clause-kept
 end_one-requires-clause-kept c = c.loop-next.invariant.some

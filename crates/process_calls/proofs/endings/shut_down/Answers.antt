@@ -8,7 +8,6 @@ use Rattle.proc_table.specs.Procs.{HasClosed}
 use Rattle.store_objects.specs.declared.objects.Objects.{Objects}
 use Rattle.store_objects.specs.Objects.{AreKept, procs_of}
 use Rattle.store_objects.proofs.Keeping.{listed_in}
-use Rattle.store_objects.proofs.RunningProcs.{has_key}
 use Rattle.process_calls.specs.Endings.{shut, workers_at}
 use Rattle.process_calls.proofs.Closing.{alive_shut, kept_shut, shut_account, shut_holds, shut_procs, shut_table, with_heap}
 use Rattle.process_calls.proofs.EndedProcs.{kept_ended}
@@ -24,9 +23,6 @@ close_each-requires-clause-listed c = let some = c.requires.kept in listed_in so
 pub close_each-requires-clause-owners : goal.close_each-requires-clause-owners
 close_each-requires-clause-owners c = c.requires.kept.1.owners
 
-pub close_each-requires-clause-there : goal.close_each-requires-clause-there
-close_each-requires-clause-there c = let some = c.requires.kept in has_key some.0 c.args.objects.now c.args.pid some.1 c.requires.alive
-
 pub close_each-requires-clause-hold : goal.close_each-requires-clause-hold
 close_each-requires-clause-hold c =
     let some = c.requires.holds in
@@ -39,22 +35,22 @@ close_each-requires-clause-may c = may_close c.args.objects.now.heap c.args.purs
 pub end-requires-clause-holds : goal.end-requires-clause-holds
 end-requires-clause-holds c =
     let old = c.args.objects.now in
-    shut_holds old.heap c.close_each.new.heap old.procs c.args.pid c.requires.kept.1.holds c.close_each.ensures.closes c.close_each.ensures.listed c.close_each.ensures.owners.objects
+    shut_holds old.heap c.close_each.new.heap old.procs c.args.place.pid c.requires.kept.1.holds c.close_each.ensures.closes c.close_each.ensures.listed c.close_each.ensures.owners.objects
 
 pub end-requires-clause-alive : goal.end-requires-clause-alive
 end-requires-clause-alive c =
     let old = c.args.objects.now in
-    alive_shut (procs_of old) _ c.args.pid (shut_procs old.heap c.close_each.new.heap old.procs c.args.pid c.requires.kept.1.holds c.close_each.ensures.closes) c.requires.alive
+    alive_shut (procs_of old) _ c.args.place.pid (shut_procs old.heap c.close_each.new.heap old.procs c.args.place.pid c.requires.kept.1.holds c.close_each.ensures.closes) c.requires.alive
 
 pub end-requires-clause-closed : goal.end-requires-clause-closed
 end-requires-clause-closed c =
     let old = c.args.objects.now in
-    subst (λ procs. HasClosed procs c.args.pid) (sym (shut_procs old.heap c.close_each.new.heap old.procs c.args.pid c.requires.kept.1.holds c.close_each.ensures.closes)) (has_shut c.args.pid (procs_of old))
+    subst (λ procs. HasClosed procs c.args.place.pid) (sym (shut_procs old.heap c.close_each.new.heap old.procs c.args.place.pid c.requires.kept.1.holds c.close_each.ensures.closes)) (has_shut c.args.place.pid (procs_of old))
 
 pub returns-clause-kept : goal.returns-clause-kept
 returns-clause-kept c = λ script kept.
     let old = c.args.objects.now in
-    let pid = c.args.pid in
+    let pid = c.args.place.pid in
     let some = c.requires.holds in
     let mid : Objects = with_heap old c.close_each.new.heap c.close_each.new.tree c.close_each.new.names in
     let new : Objects = record { heap = c.end.new.heap; procs = c.end.new.self; tree = c.close_each.new.tree; names = c.close_each.new.names } in
@@ -69,22 +65,22 @@ returns-clause-kept c = λ script kept.
 pub returns-clause-ended : goal.returns-clause-ended
 returns-clause-ended c =
     let old = c.args.objects.now in
-    c.end.ensures.ended ∙ ap (ended c.args.pid c.args.status) (shut_procs old.heap c.close_each.new.heap old.procs c.args.pid c.requires.kept.1.holds c.close_each.ensures.closes)
+    c.end.ensures.ended ∙ ap (ended c.args.place.pid c.args.status) (shut_procs old.heap c.close_each.new.heap old.procs c.args.place.pid c.requires.kept.1.holds c.close_each.ensures.closes)
 
 pub returns-clause-table : goal.returns-clause-table
 returns-clause-table c = λ table is.
     let old = c.args.objects.now in
-    c.end.ensures.table table (shut_table old.heap c.close_each.new.heap old.procs c.args.pid c.requires.kept.1.holds c.close_each.ensures.closes table is)
+    c.end.ensures.table table (shut_table old.heap c.close_each.new.heap old.procs c.args.place.pid c.requires.kept.1.holds c.close_each.ensures.closes table is)
 
 pub returns-clause-account : goal.returns-clause-account
 returns-clause-account c = λ frames has.
     let old = c.args.objects.now in
-    c.end.ensures.account frames (shut_account old.heap c.close_each.new.heap old.procs c.args.pid c.requires.kept.1.holds c.close_each.ensures.closes frames has)
+    c.end.ensures.account frames (shut_account old.heap c.close_each.new.heap old.procs c.args.place.pid c.requires.kept.1.holds c.close_each.ensures.closes frames has)
 
 pub returns-clause-holds : goal.returns-clause-holds
 returns-clause-holds c = λ numbers others files hold.
     let old = c.args.objects.now in
-    let pid = c.args.pid in
+    let pid = c.args.place.pid in
     let some = c.requires.kept in
     let held = c.requires.holds in
     let mid : Objects = with_heap old c.close_each.new.heap c.close_each.new.tree c.close_each.new.names in

@@ -13,5 +13,5 @@ returns-clause-does c = λ script.
     let old = c.args.objects.now in
     let status : c.exit_status-status.result ≡ exit_status c.args.status =
     subst (λ z. c.exit_status-status.result ≡ exit_status z) (to_z-of_z w64 c.args.status c.ranges.status) c.exit_status-status.ensures in
-    subst (λ n. Serves script old c.args.pid (call.Exit c.args.status) (λ plain. Ended n (die plain c.args.pid n)) (turned.Ended c.exit_status-status.result) c.end.new.objects) status
-    (serves_ended script old c.end.new.objects c.args.pid c.exit_status-status.result (call.Exit c.args.status) (turned.Ended c.exit_status-status.result) refl refl (c.end.ensures.dies script) refl)
+    subst (λ n. Serves script old c.args.place.pid (call.Exit c.args.status) (λ plain. Ended n (die plain c.args.place.pid n)) (turned.Ended c.exit_status-status.result) c.end.new.objects) status
+    (serves_ended script old c.end.new.objects c.args.place.pid c.exit_status-status.result (call.Exit c.args.status) (turned.Ended c.exit_status-status.result) refl refl (c.end.ensures.dies script) refl)

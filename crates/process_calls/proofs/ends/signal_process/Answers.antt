@@ -55,7 +55,7 @@ pub returns-in-Err-clause-does : goal.returns-in-Err-clause-does
 returns-in-Err-clause-does c =
     let script = c.args.script.now in
     let objects = c.args.objects.now in
-    let pid = c.args.pid in
+    let pid = c.args.caller.now.place.pid in
     let answers : (plain : Plain) → IsTable objects.heap objects.procs plain.table → kill script plain pid c.args.target c.args.signal ≡ answered_by script plain pid c.args.target c.args.signal c.may_kill.result = λ plain is.
     answered_as script plain pid c.args.target c.args.signal _ _ c.may_kill.result (to_z-of_z w64 c.args.target c.ranges.target) (to_z-of_z w64 c.args.signal c.ranges.signal)
     (c.may_kill.ensures.kill script plain is) in
@@ -66,7 +66,7 @@ pub returns-in-Ok-false-clause-does : goal.returns-in-Ok-false-clause-does
 returns-in-Ok-false-clause-does c =
     let script = c.args.script.now in
     let objects = c.args.objects.now in
-    let pid = c.args.pid in
+    let pid = c.args.caller.now.place.pid in
     let answers : (plain : Plain) → IsTable objects.heap objects.procs plain.table → kill script plain pid c.args.target c.args.signal ≡ answered_by script plain pid c.args.target c.args.signal c.may_kill.result = λ plain is.
     answered_as script plain pid c.args.target c.args.signal _ _ c.may_kill.result (to_z-of_z w64 c.args.target c.ranges.target) (to_z-of_z w64 c.args.signal c.ranges.signal)
     (c.may_kill.ensures.kill script plain is) in
@@ -77,7 +77,7 @@ pub returns-in-Ok-true-clause-does : goal.returns-in-Ok-true-clause-does
 returns-in-Ok-true-clause-does c =
     let script = c.args.script.now in
     let objects = c.args.objects.now in
-    let pid = c.args.pid in
+    let pid = c.args.caller.now.place.pid in
     let it : IsStruck (procs_of objects) c.args.target =
     struck_by (procs_of objects) c.args.target c.args.signal _ _ c.may_kill.result c.in-Ok-true.field-0 (to_z-of_z w64 c.args.target c.ranges.target) (to_z-of_z w64 c.args.signal c.ranges.signal)
     c.may_kill.ensures.verdict c.in-Ok-true.is c.in-Ok-true.field-0-test in

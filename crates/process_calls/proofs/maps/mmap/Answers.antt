@@ -19,6 +19,7 @@ use Rattle.store_objects.specs.Standing.{StandsFor, WorldAfter, answered_in, rem
 use Rattle.store_objects.proofs.Leading.{led_on}
 use Rattle.store_objects.proofs.Replies.{GoesOn, does_fail}
 use Rattle.process_calls.proofs.RightNumbers.{mmap_bytes}
+use Rattle.store_objects.proofs.Callers.{placed_on}
 use Rattle.process_calls.proofs.maps.mmap.Goals as goal
 
 record Mapped (o : Option ℕ) (addr : ℕ) : Type 0 where
@@ -34,13 +35,13 @@ pub go_on-requires-clause-kept : goal.go_on-requires-clause-kept
 go_on-requires-clause-kept c = c.map.ensures.kept c.args.script.now c.requires.kept
 
 pub go_on-requires-clause-runs : goal.go_on-requires-clause-runs
-go_on-requires-clause-runs c = c.map.ensures.runs c.args.control c.requires.runs
+go_on-requires-clause-runs c = c.map.ensures.runs c.args.caller.now.control c.requires.runs
 
 pub go_on-requires-in-Err-clause-kept : goal.go_on-requires-in-Err-clause-kept
 go_on-requires-in-Err-clause-kept c = c.map.ensures.kept c.args.script.now c.requires.kept
 
 pub go_on-requires-in-Err-clause-runs : goal.go_on-requires-in-Err-clause-runs
-go_on-requires-in-Err-clause-runs c = c.map.ensures.runs c.args.control c.requires.runs
+go_on-requires-in-Err-clause-runs c = c.map.ensures.runs c.args.caller.now.control c.requires.runs
 
 place_of : (first : ℕ) → (page_size * first) / 4096 ≡ first
 place_of first = let e : (4096 * first) / 4096 ≡ first = omega arith in e
@@ -48,7 +49,7 @@ place_of first = let e : (4096 * first) / 4096 ≡ first = omega arith in e
 pub returns-in-Ok-clause-does : goal.returns-in-Ok-clause-does
 returns-in-Ok-clause-does c = λ world stands alive.
     let script = c.args.script.now in
-    let pid = c.args.pid in
+    let pid = c.args.caller.now.place.pid in
     let memory = memory_of world.plain.table pid in
     let u : c.cast_unsigned.result ≡ cast_unsigned w64 c.args.length =
     subst (λ z. c.cast_unsigned.result ≡ cast_unsigned w64 z) (to_z-of_z w64 c.args.length c.ranges.length) c.cast_unsigned.ensures in
@@ -80,7 +81,7 @@ err_means (Some first) errno e = cc
 pub returns-in-Err-clause-does : goal.returns-in-Err-clause-does
 returns-in-Err-clause-does c =
     let script = c.args.script.now in
-    let pid = c.args.pid in
+    let pid = c.args.caller.now.place.pid in
     let goes : GoesOn script c.args.objects.now pid (Fail c.in-Err.errno) c.go_on-in-Err.new.objects =
     subst (λ o. GoesOn script o pid (Fail c.in-Err.errno) c.go_on-in-Err.new.objects) c.in-Err.ensures.unchanged c.go_on-in-Err.ensures.goes in
     does_fail script c.args.objects.now c.go_on-in-Err.new.objects pid (call.Mmap c.args.length) c.in-Err.errno c.go_on-in-Err.result (λ plain. mmap script plain pid c.args.length)
@@ -104,3 +105,9 @@ pub returns-in-Err-clause-paid : goal.returns-in-Err-clause-paid
 returns-in-Err-clause-paid c =
     IsPaid-trans c.args.objects.now.heap c.args.purse.now c.map.new.objects.heap c.map.new.purse c.go_on-in-Err.new.objects.heap c.map.new.purse c.map.ensures.paid
     (IsPaid-nothing c.map.new.objects.heap c.go_on-in-Err.new.objects.heap c.map.new.purse c.map.new.purse c.go_on-in-Err.ensures.takes refl refl)
+
+pub go_on-requires-clause-placed : goal.go_on-requires-clause-placed
+go_on-requires-clause-placed c = placed_on c.args.objects.now c.map.new.objects c.args.caller.now.place c.map.ensures.procs c.requires.placed
+
+pub go_on-requires-in-Err-clause-placed : goal.go_on-requires-in-Err-clause-placed
+go_on-requires-in-Err-clause-placed c = placed_on c.args.objects.now c.map.new.objects c.args.caller.now.place c.map.ensures.procs c.requires.placed

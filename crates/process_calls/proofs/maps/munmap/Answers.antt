@@ -10,18 +10,19 @@ use Rattle.posix_defs.specs.Process.{memory_of}
 use Rattle.store_objects.specs.Standing.{StandsFor, remembered_in}
 use Rattle.store_objects.proofs.Leading.{led_on}
 use Rattle.process_calls.proofs.RightNumbers.{munmap_pages}
+use Rattle.store_objects.proofs.Callers.{placed_on}
 use Rattle.process_calls.proofs.maps.munmap.Goals as goal
 
 pub go_on-requires-clause-kept : goal.go_on-requires-clause-kept
 go_on-requires-clause-kept c = c.unmap.ensures.kept c.args.script.now c.requires.kept
 
 pub go_on-requires-clause-runs : goal.go_on-requires-clause-runs
-go_on-requires-clause-runs c = c.unmap.ensures.runs c.args.control c.requires.runs
+go_on-requires-clause-runs c = c.unmap.ensures.runs c.args.caller.now.control c.requires.runs
 
 pub returns-clause-does : goal.returns-clause-does
 returns-clause-does c = λ world stands alive.
     let script = c.args.script.now in
-    let pid = c.args.pid in
+    let pid = c.args.caller.now.place.pid in
     let u : c.cast_unsigned.result ≡ cast_unsigned w64 c.args.addr =
     subst (λ z. c.cast_unsigned.result ≡ cast_unsigned w64 z) (to_z-of_z w64 c.args.addr c.ranges.addr) c.cast_unsigned.ensures in
     let v : c.cast_unsigned-2.result ≡ cast_unsigned w64 c.args.length =
@@ -37,3 +38,6 @@ returns-clause-does c = λ world stands alive.
     (c.unmap.ensures.unmapped script world stands)) in
     led_on script c.unmap.new.objects c.go_on.new.objects world base pid (call.Munmap c.args.addr c.args.length) (Val (pos 0)) c.go_on.result
     between c.go_on.ensures.told (c.go_on.ensures.goes base between) refl refl refl refl refl
+
+pub go_on-requires-clause-placed : goal.go_on-requires-clause-placed
+go_on-requires-clause-placed c = placed_on c.args.objects.now c.unmap.new.objects c.args.caller.now.place c.unmap.ensures.procs c.requires.placed

@@ -37,7 +37,7 @@ returns-in-Ok-clause-does c =
     let right = load_bytes c.args.addr c.args.count c.cast_unsigned-count.result c.requires.right
     (subst (λ z. c.cast_unsigned-count.result ≡ cast_unsigned w64 z) (to_z-of_z w64 c.args.count c.ranges.count) c.cast_unsigned-count.ensures) in
     let script = c.args.script.now in
-    does_load script c.args.objects.now c.go_on.new.objects c.args.pid c.args.addr c.args.count c.start_of-start.result c.cast_unsigned-count.result c.in-Ok.bytes c.go_on.result
+    does_load script c.args.objects.now c.go_on.new.objects c.args.caller.now.place.pid c.args.addr c.args.count c.start_of-start.result c.cast_unsigned-count.result c.in-Ok.bytes c.go_on.result
     right.0
     (subst (λ z. 0 < c.cast_unsigned-count.result → c.start_of-start.result ≡ count_of z) (to_z-of_z w64 c.args.addr c.ranges.addr) c.start_of-start.ensures.start)
     c.go_on.ensures.told
@@ -49,7 +49,7 @@ returns-in-Err-clause-does c =
     let right = load_bytes c.args.addr c.args.count c.cast_unsigned-count.result c.requires.right
     (subst (λ z. c.cast_unsigned-count.result ≡ cast_unsigned w64 z) (to_z-of_z w64 c.args.count c.ranges.count) c.cast_unsigned-count.ensures) in
     let script = c.args.script.now in
-    let pid = c.args.pid in
+    let pid = c.args.caller.now.place.pid in
     let addr = c.args.addr in
     let start = c.start_of-start.result in
     let n = c.cast_unsigned-count.result in

@@ -19,16 +19,16 @@ use Rattle.process_calls.proofs.WithRanges.{length-with_range}
 use Rattle.process_calls.proofs.spaces.map.Goals as goal
 
 back_is : (c : goal.After-set_proc_nodes)
-    → c.set_proc_nodes.new.self ≡ record c.map.new.heap { procs = put c.map.new.heap.procs c.space_of-key.result.0 (record c.space_of-key.ensures.proc { nodes = c.map.new.self }) }
+    → c.set_proc_nodes.new.self ≡ record c.map.new.heap { procs = put c.map.new.heap.procs c.args.place.key (record c.space_of-space.ensures.proc { nodes = c.map.new.self }) }
 back_is c =
-    nodes_back c.args.objects.now c.map.new.heap c.set_proc_nodes.new.self c.args.pid c.space_of-key.result.0 c.space_of-key.result.1 c.map.new.self c.nodes.result c.space_of-key.ensures
+    nodes_back c.args.objects.now c.map.new.heap c.set_proc_nodes.new.self c.args.place.pid c.args.place.key c.space_of-space.result c.map.new.self c.nodes.result c.space_of-space.ensures
     c.map.ensures.moves c.set_proc_nodes.ensures.kept c.nodes.ensures.value
 
 pub map-requires-clause-owned : goal.map-requires-clause-owned
-map-requires-clause-owned c = c.space_of-key.ensures.owned
+map-requires-clause-owned c = c.space_of-space.ensures.owned
 
 pub set_proc_nodes-requires : goal.set_proc_nodes-requires
-set_proc_nodes-requires c = ap is_some (ap (λ (h : Heap). object h.procs c.space_of-key.result.0) c.map.ensures.moves.kept ∙ c.space_of-key.ensures.there)
+set_proc_nodes-requires c = ap is_some (ap (λ (h : Heap). object h.procs c.args.place.key) c.map.ensures.moves.kept ∙ c.space_of-space.ensures.there)
 
 pub returns-clause-paid : goal.returns-clause-paid
 returns-clause-paid c =
@@ -37,12 +37,12 @@ returns-clause-paid c =
 
 pub returns-clause-kept : goal.returns-clause-kept
 returns-clause-kept c = λ script kept.
-    kept_then c.args.objects.now c.map.new.heap c.set_proc_nodes.new.self c.args.pid c.space_of-key.result.0 c.space_of-key.result.1 c.map.new.self c.space_of-key.ensures c.map.ensures.moves (back_is c)
+    kept_then c.args.objects.now c.map.new.heap c.set_proc_nodes.new.self c.args.place.pid c.args.place.key c.space_of-space.result c.map.new.self c.space_of-space.ensures c.map.ensures.moves (back_is c)
     script kept c.nodes.ensures.groups
 
 pub returns-clause-runs : goal.returns-clause-runs
 returns-clause-runs c =
-    runs_then c.args.objects.now c.map.new.heap c.set_proc_nodes.new.self c.args.pid c.space_of-key.result.0 c.space_of-key.result.1 c.map.new.self c.space_of-key.ensures c.map.ensures.moves (back_is c)
+    runs_then c.args.objects.now c.map.new.heap c.set_proc_nodes.new.self c.args.place.pid c.args.place.key c.space_of-space.result c.map.new.self c.space_of-space.ensures c.map.ensures.moves (back_is c)
     c.requires.kept.0 c.requires.kept.1
 
 answered : Option ℕ → Result ℕ Errno
@@ -74,13 +74,13 @@ same_first a b e = let n : a * 4096 ≡ 4096 * b = (cc) in omega arith
 pub returns-then-length-gt-SPACE-clause-found : goal.returns-then-length-gt-SPACE-clause-found
 unfolding answered
 returns-then-length-gt-SPACE-clause-found c = λ script world stands.
-    sym (ap answered (none_long (is_mapped (memory_of world.plain.table c.args.pid)) (pages_in c.args.length)
+    sym (ap answered (none_long (is_mapped (memory_of world.plain.table c.args.place.pid)) (pages_in c.args.length)
     (let big : 1048576 < c.args.length = c.if-length-gt-SPACE.true in omega arith)))
 
 pub overflow_mul-result : goal.overflow_mul-result
 overflow_mul-result c =
-    let memory = memory_at c.args.objects.now.heap c.space_of-key.result.1 in
-    let known = c.map.ensures.found memory (memory_at-stands c.args.objects.now.heap c.space_of-key.result.1) in
+    let memory = memory_at c.args.objects.now.heap c.space_of-space.result in
+    let known = c.map.ensures.found memory (memory_at-stands c.args.objects.now.heap c.space_of-space.result) in
     let some = was_some (lowest_run memory _) c.in_ok-first.first (sym c.in_ok-first.was ∙ known) in
     let within = run_within (is_mapped memory) _ c.in_ok-first.first some in
     record { fits = small c.in_ok-first.first _ within }
@@ -88,9 +88,9 @@ overflow_mul-result c =
 pub returns-in_err-first-clause-found : goal.returns-in_err-first-clause-found
 unfolding answered
 returns-in_err-first-clause-found c = λ script world stands.
-    let memory = memory_at c.args.objects.now.heap c.space_of-key.result.1 in
-    let here = memory_is script c.args.objects.now world.plain c.args.pid c.space_of-key.result.0 c.space_of-key.result.1 c.space_of-key.ensures stands.processes in
-    let known = c.map.ensures.found memory (memory_at-stands c.args.objects.now.heap c.space_of-key.result.1) in
+    let memory = memory_at c.args.objects.now.heap c.space_of-space.result in
+    let here = memory_is script c.args.objects.now world.plain c.args.place.pid c.args.place.key c.space_of-space.result c.space_of-space.ensures stands.processes in
+    let known = c.map.ensures.found memory (memory_at-stands c.args.objects.now.heap c.space_of-space.result) in
     let gives : c.from_residual.result ≡ Err c.in_err-first.field-0.0 = search rules in
     gives ∙ told_err (lowest_run memory _) c.in_err-first.field-0.0 (sym c.in_err-first.was ∙ known)
     ∙ ap (λ n. answered (lowest_run memory n)) (many c.args.length _ refl)
@@ -99,27 +99,27 @@ returns-in_err-first-clause-found c = λ script world stands.
 pub returns-clause-found : goal.returns-clause-found
 unfolding answered
 returns-clause-found c = λ script world stands.
-    let memory = memory_at c.args.objects.now.heap c.space_of-key.result.1 in
-    let here = memory_is script c.args.objects.now world.plain c.args.pid c.space_of-key.result.0 c.space_of-key.result.1 c.space_of-key.ensures stands.processes in
-    let known = c.map.ensures.found memory (memory_at-stands c.args.objects.now.heap c.space_of-key.result.1) in
+    let memory = memory_at c.args.objects.now.heap c.space_of-space.result in
+    let here = memory_is script c.args.objects.now world.plain c.args.place.pid c.args.place.key c.space_of-space.result c.space_of-space.ensures stands.processes in
+    let known = c.map.ensures.found memory (memory_at-stands c.args.objects.now.heap c.space_of-space.result) in
     told_ok (lowest_run memory _) c.in_ok-first.first (sym c.in_ok-first.was ∙ known)
     ∙ ap (λ n. answered (lowest_run memory n)) (many c.args.length _ refl)
     ∙ ap (λ m. answered (lowest_run m (pages_in c.args.length))) (sym here)
 
 pub returns-clause-mapped : goal.returns-clause-mapped
 returns-clause-mapped c = λ script world first stands is.
-    let memory = memory_at c.args.objects.now.heap c.space_of-key.result.1 in
-    let known = c.map.ensures.found memory (memory_at-stands c.args.objects.now.heap c.space_of-key.result.1) in
+    let memory = memory_at c.args.objects.now.heap c.space_of-space.result in
+    let known = c.map.ensures.found memory (memory_at-stands c.args.objects.now.heap c.space_of-space.result) in
     let some = was_some (lowest_run memory _) c.in_ok-first.first (sym c.in_ok-first.was ∙ known) in
     let within = run_within (is_mapped memory) _ c.in_ok-first.first some in
     let new : Objects = record { heap = c.set_proc_nodes.new.self; procs = c.args.objects.now.procs; tree = c.args.objects.now.tree; names = c.args.objects.now.names } in
-    let whole : length memory ≡ 256 = length-memory_at c.args.objects.now.heap c.space_of-key.result.1 in
+    let whole : length memory ≡ 256 = length-memory_at c.args.objects.now.heap c.space_of-space.result in
     let count = (c.args.length + 4096 - 1) / 4096 in
-    subst (λ n. StandsFor script new (remembered_in world c.args.pid (with_pages (memory_of world.plain.table c.args.pid) first n) (after_map world.account.frames c.args.pid first n))) (many c.args.length count refl)
-    (subst (λ f. StandsFor script new (remembered_in world c.args.pid (with_pages (memory_of world.plain.table c.args.pid) f count) (after_map world.account.frames c.args.pid f count))) (same_first c.in_ok-first.first first is)
-    (stand_then c.args.objects.now c.map.new.heap c.set_proc_nodes.new.self c.args.pid c.space_of-key.result.0 c.space_of-key.result.1 c.map.new.self c.space_of-key.ensures c.map.ensures.moves (back_is c)
-    script world (after_map world.account.frames c.args.pid c.in_ok-first.first count) (λ m. with_pages m c.in_ok-first.first count)
+    subst (λ n. StandsFor script new (remembered_in world c.args.place.pid (with_pages (memory_of world.plain.table c.args.place.pid) first n) (after_map world.account.frames c.args.place.pid first n))) (many c.args.length count refl)
+    (subst (λ f. StandsFor script new (remembered_in world c.args.place.pid (with_pages (memory_of world.plain.table c.args.place.pid) f count) (after_map world.account.frames c.args.place.pid f count))) (same_first c.in_ok-first.first first is)
+    (stand_then c.args.objects.now c.map.new.heap c.set_proc_nodes.new.self c.args.place.pid c.args.place.key c.space_of-space.result c.map.new.self c.space_of-space.ensures c.map.ensures.moves (back_is c)
+    script world (after_map world.account.frames c.args.place.pid c.in_ok-first.first count) (λ m. with_pages m c.in_ok-first.first count)
     stands c.nodes.ensures.groups
     (c.in_ok-first.ensures.memory memory whole)
     (length-with_range memory c.in_ok-first.first count (Some zero_page) (let l : c.in_ok-first.first + count ≤ 256 = within in omega (arith, whole)) ∙ whole)
-    (λ number accounted. c.in_ok-first.ensures.account number world.account.frames c.args.pid accounted)))
+    (λ number accounted. c.in_ok-first.ensures.account number world.account.frames c.args.place.pid accounted)))

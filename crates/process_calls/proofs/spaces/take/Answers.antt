@@ -20,16 +20,16 @@ bytes_at-requires-clause-owned c = c.space_of-space.ensures.owned
 
 pub returns-then-not-mapped : goal.returns-then-not-mapped
 returns-then-not-mapped c = λ script world stands.
-    let memory = memory_at c.args.objects.now.heap c.space_of-space.result.1 in
-    let here = memory_is script c.args.objects.now world.plain c.args.pid c.space_of-space.result.0 c.space_of-space.result.1 c.space_of-space.ensures stands.processes in
-    let known = c.mapped.ensures.memory memory (memory_at-stands c.args.objects.now.heap c.space_of-space.result.1) in
+    let memory = memory_at c.args.objects.now.heap c.space_of-space.result in
+    let here = memory_is script c.args.objects.now world.plain c.args.place.pid c.args.place.key c.space_of-space.result c.space_of-space.ensures stands.processes in
+    let known = c.mapped.ensures.memory memory (memory_at-stands c.args.objects.now.heap c.space_of-space.result) in
     sym (ap (λ m. answered c.args.addr c.args.count m (is_mapped_range m c.args.addr c.args.count)) here ∙ ap (answered c.args.addr c.args.count memory) (sym known ∙ c.if-not-mapped.true))
 
 pub returns : goal.returns
 returns c = λ script world stands.
-    let memory = memory_at c.args.objects.now.heap c.space_of-space.result.1 in
-    let here = memory_is script c.args.objects.now world.plain c.args.pid c.space_of-space.result.0 c.space_of-space.result.1 c.space_of-space.ensures stands.processes in
-    let there = memory_at-stands c.args.objects.now.heap c.space_of-space.result.1 in
+    let memory = memory_at c.args.objects.now.heap c.space_of-space.result in
+    let here = memory_is script c.args.objects.now world.plain c.args.place.pid c.args.place.key c.space_of-space.result c.space_of-space.ensures stands.processes in
+    let there = memory_at-stands c.args.objects.now.heap c.space_of-space.result in
     let known = c.mapped.ensures.memory memory there in
     let took : c.bytes_at.result ≡ loaded memory c.args.addr c.args.count = c.bytes_at.ensures memory there ∙ ap (loaded memory c.args.addr) (length-take-le c.args.count _ c.requires.few) in
     sym (ap (λ m. answered c.args.addr c.args.count m (is_mapped_range m c.args.addr c.args.count)) here

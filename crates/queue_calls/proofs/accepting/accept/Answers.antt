@@ -4,7 +4,7 @@ use Rattle.kabi_types.specs.declared.calls.Call.TheVariants as call
 use Rattle.kheap_laws.proofs.PaidLemmas.{IsPaid-nothing, IsPaid-trans}
 use Rattle.kheap_slabs.specs.Heap.{Heap}
 use Rattle.store_objects.proofs.Replying.{no_frames}
-use Rattle.queue_calls.proofs.Performing.{key_who_runs, kept_then, performs_anew, runs_then}
+use Rattle.queue_calls.proofs.Performing.{kept_then, performs_anew, runs_then}
 use Rattle.posix_defs.specs.Calls.OnSockets.{accept}
 use Rattle.proc_files.specs.Names.{name_of}
 use Rattle.proc_numbers.specs.SocketOpening.{Accepts}
@@ -21,30 +21,27 @@ accept_number-taken-requires-clause-listed c = let some = c.requires.stands in l
 pub accept_number-taken-requires-clause-owners : goal.accept_number-taken-requires-clause-owners
 accept_number-taken-requires-clause-owners c = let some = c.requires.stands in some.1.kept.owners
 
-pub accept_number-taken-requires-clause-there : goal.accept_number-taken-requires-clause-there
-accept_number-taken-requires-clause-there c = let some = c.requires.stands in key_who_runs c.args.script.now c.args.objects.now c.args.pid c.args.control some.1.kept c.requires.runs
-
 pub go_on-requires-clause-kept : goal.go_on-requires-clause-kept
 go_on-requires-clause-kept c =
     let some = c.requires.stands in
     let done = c.accept_number-taken.ensures in
-    let names = names_made c.args.script.now c.args.objects.now c.accept_number-taken.new.heap c.args.pid c.in-Some.reply (λ plain. accept c.args.script.now plain c.args.pid (to_z w64 (of_z w64 c.args.fd)))
-    (λ plain. accept_stays c.args.script.now plain c.args.pid (to_z w64 (of_z w64 c.args.fd))) some done.still
+    let names = names_made c.args.script.now c.args.objects.now c.accept_number-taken.new.heap c.args.caller.now.place.pid c.in-Some.reply (λ plain. accept c.args.script.now plain c.args.caller.now.place.pid (to_z w64 (of_z w64 c.args.fd)))
+    (λ plain. accept_stays c.args.script.now plain c.args.caller.now.place.pid (to_z w64 (of_z w64 c.args.fd))) some done.still
     (λ numbers plain have.
-    accepts_reply numbers c.args.objects.now.heap c.accept_number-taken.new.heap c.args.objects.now.procs c.args.script.now plain c.args.pid _ c.accept_number-taken.result c.in-Some.reply
+    accepts_reply numbers c.args.objects.now.heap c.accept_number-taken.new.heap c.args.objects.now.procs c.args.script.now plain c.args.caller.now.place.pid _ c.accept_number-taken.result c.in-Some.reply
     (sym c.told.ensures ∙ c.in-Some.is) (done.answers numbers c.args.script.now plain have)) in
-    kept_then c.args.script.now c.args.objects.now c.accept_number-taken.new.heap c.args.pid c.args.control some.1.kept c.requires.runs done.changes done.listed done.owners names
+    kept_then c.args.script.now c.args.objects.now c.accept_number-taken.new.heap c.args.caller.now.place.pid c.args.caller.now.control some.1.kept c.requires.runs done.changes done.listed done.owners names
 
 pub go_on-requires-clause-runs : goal.go_on-requires-clause-runs
 go_on-requires-clause-runs c =
     let some = c.requires.stands in
     let done = c.accept_number-taken.ensures in
-    let names = names_made c.args.script.now c.args.objects.now c.accept_number-taken.new.heap c.args.pid c.in-Some.reply (λ plain. accept c.args.script.now plain c.args.pid (to_z w64 (of_z w64 c.args.fd)))
-    (λ plain. accept_stays c.args.script.now plain c.args.pid (to_z w64 (of_z w64 c.args.fd))) some done.still
+    let names = names_made c.args.script.now c.args.objects.now c.accept_number-taken.new.heap c.args.caller.now.place.pid c.in-Some.reply (λ plain. accept c.args.script.now plain c.args.caller.now.place.pid (to_z w64 (of_z w64 c.args.fd)))
+    (λ plain. accept_stays c.args.script.now plain c.args.caller.now.place.pid (to_z w64 (of_z w64 c.args.fd))) some done.still
     (λ numbers plain have.
-    accepts_reply numbers c.args.objects.now.heap c.accept_number-taken.new.heap c.args.objects.now.procs c.args.script.now plain c.args.pid _ c.accept_number-taken.result c.in-Some.reply
+    accepts_reply numbers c.args.objects.now.heap c.accept_number-taken.new.heap c.args.objects.now.procs c.args.script.now plain c.args.caller.now.place.pid _ c.accept_number-taken.result c.in-Some.reply
     (sym c.told.ensures ∙ c.in-Some.is) (done.answers numbers c.args.script.now plain have)) in
-    runs_then c.args.script.now c.args.objects.now c.accept_number-taken.new.heap c.args.pid c.args.control some.1.kept c.requires.runs done.changes done.listed done.owners names
+    runs_then c.args.script.now c.args.objects.now c.accept_number-taken.new.heap c.args.caller.now.place.pid c.args.caller.now.control some.1.kept c.requires.runs done.changes done.listed done.owners names
 
 pub returns-in-Some-clause-paid : goal.returns-in-Some-clause-paid
 returns-in-Some-clause-paid c =
@@ -57,17 +54,17 @@ returns-in-Some-clause-does c =
     let script = c.args.script.now in
     let old = c.args.objects.now in
     let heap = c.accept_number-taken.new.heap in
-    let pid = c.args.pid in
+    let pid = c.args.caller.now.place.pid in
     let done = c.accept_number-taken.ensures in
-    let names = names_made c.args.script.now c.args.objects.now c.accept_number-taken.new.heap c.args.pid c.in-Some.reply (λ plain. accept c.args.script.now plain c.args.pid (to_z w64 (of_z w64 c.args.fd)))
-    (λ plain. accept_stays c.args.script.now plain c.args.pid (to_z w64 (of_z w64 c.args.fd))) some done.still
+    let names = names_made c.args.script.now c.args.objects.now c.accept_number-taken.new.heap c.args.caller.now.place.pid c.in-Some.reply (λ plain. accept c.args.script.now plain c.args.caller.now.place.pid (to_z w64 (of_z w64 c.args.fd)))
+    (λ plain. accept_stays c.args.script.now plain c.args.caller.now.place.pid (to_z w64 (of_z w64 c.args.fd))) some done.still
     (λ numbers plain have.
-    accepts_reply numbers c.args.objects.now.heap c.accept_number-taken.new.heap c.args.objects.now.procs c.args.script.now plain c.args.pid _ c.accept_number-taken.result c.in-Some.reply
+    accepts_reply numbers c.args.objects.now.heap c.accept_number-taken.new.heap c.args.objects.now.procs c.args.script.now plain c.args.caller.now.place.pid _ c.accept_number-taken.result c.in-Some.reply
     (sym c.told.ensures ∙ c.in-Some.is) (done.answers numbers c.args.script.now plain have)) in
     let taken = c.accept_number-taken.result in
     let said = c.in-Some.reply in
     let which = call.Accept c.args.fd in
-    performs_anew script old heap pid c.args.control some.1.kept c.requires.runs done.changes done.listed done.owners names
+    performs_anew script old heap pid c.args.caller.now.control some.1.kept c.requires.runs done.changes done.listed done.owners names
     c.go_on.new.objects which said c.go_on.result (λ plain. accept script plain pid c.args.fd)
     done.queues
     (λ plain. accept_stays script plain pid c.args.fd) c.go_on.ensures.told c.go_on.ensures.goes (no_frames which (λ frames pid value. refl) pid said)
@@ -80,7 +77,7 @@ pub returns-in-None-clause-kept : goal.returns-in-None-clause-kept
 returns-in-None-clause-kept c =
     let some = c.requires.stands in
     let done = c.accept_number-taken.ensures in
-    kept_then c.args.script.now c.args.objects.now c.accept_number-taken.new.heap c.args.pid c.args.control some.1.kept c.requires.runs done.changes done.listed done.owners
+    kept_then c.args.script.now c.args.objects.now c.accept_number-taken.new.heap c.args.caller.now.place.pid c.args.caller.now.control some.1.kept c.requires.runs done.changes done.listed done.owners
     (λ key. ap (λ (h : Heap). name_of h.socks key) (nothing_taken c.accept_number-taken.result _ (sym c.told.ensures ∙ c.in-None.is) done.unchanged).0)
 
 pub returns-in-None-clause-does : goal.returns-in-None-clause-does
@@ -88,7 +85,7 @@ returns-in-None-clause-does c =
     let script = c.args.script.now in
     let old = c.args.objects.now in
     let heap = c.accept_number-taken.new.heap in
-    let pid = c.args.pid in
+    let pid = c.args.caller.now.place.pid in
     let done = c.accept_number-taken.ensures in
     let taken = c.accept_number-taken.result in
     let none = sym c.told.ensures ∙ c.in-None.is in

@@ -3,21 +3,16 @@ use Rattle.std.proofs.lemmas.Int.{to_z-of_z}
 use Rattle.posix_defs.specs.Calls.OnSockets.{accept}
 use Rattle.posix_defs.specs.Machine.{blocks}
 use Rattle.store_objects.proofs.Keeping.{listed_in}
-use Rattle.store_objects.proofs.RunningProcs.{alive_runs, has_key}
+use Rattle.store_objects.proofs.RunningProcs.{alive_runs}
 use Rattle.queue_calls.proofs.accepting.accept_would_block.Goals as goal
 
 pub accept_waits-requires-clause-listed : goal.accept_waits-requires-clause-listed
-accept_waits-requires-clause-listed c = let some = c.requires in listed_in some.0 c.args.objects.now some.2.kept
+accept_waits-requires-clause-listed c = let some = c.requires.stands in listed_in some.0 c.args.objects.now some.2.kept
 
 pub accept_waits-requires-clause-owners : goal.accept_waits-requires-clause-owners
-accept_waits-requires-clause-owners c = let some = c.requires in some.2.kept.owners
-
-pub accept_waits-requires-clause-there : goal.accept_waits-requires-clause-there
-accept_waits-requires-clause-there c =
-    let some = c.requires in
-    has_key some.0 c.args.objects.now c.args.pid some.2.kept (alive_runs some.0 c.args.objects.now some.1.plain c.args.pid some.2.processes some.3)
+accept_waits-requires-clause-owners c = let some = c.requires.stands in some.2.kept.owners
 
 pub returns : goal.returns
 returns c = λ script world stands.
-    subst (λ z. c.accept_waits.result ≡ blocks (accept script world.plain c.args.pid z)) (to_z-of_z w64 c.args.fd c.ranges.fd)
+    subst (λ z. c.accept_waits.result ≡ blocks (accept script world.plain c.args.place.pid z)) (to_z-of_z w64 c.args.fd c.ranges.fd)
     (c.accept_waits.ensures stands.files.numbers script world.plain stands.files.opened)

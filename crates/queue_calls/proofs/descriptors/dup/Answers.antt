@@ -1,7 +1,7 @@
 use Rattle.std.proofs.Common.{ap, refl, subst, sym, w64}
 use Rattle.std.proofs.lemmas.Int.{to_z-of_z}
 use Rattle.kabi_types.specs.declared.calls.Call.TheVariants as call
-use Rattle.kheap_laws.proofs.PaidLemmas.{TakesNothing-trans}
+use Rattle.kheap_laws.proofs.PaidLemmas.{TakesNothing-trans, IsPaid-nothing, IsPaid-trans}
 use Rattle.kheap_slabs.specs.Heap.{Heap}
 use Rattle.posix_defs.specs.Calls.OnDescriptors.{dup}
 use Rattle.proc_numbers.proofs.Fronts.{queues_same}
@@ -9,7 +9,7 @@ use Rattle.proc_files.specs.Names.{name_of}
 use Rattle.proc_numbers.specs.Answering.{Answers, value_of}
 use Rattle.store_objects.proofs.Keeping.{listed_in}
 use Rattle.store_objects.proofs.Replying.{no_frames}
-use Rattle.queue_calls.proofs.Performing.{key_who_runs, kept_then, performs, runs_then}
+use Rattle.queue_calls.proofs.Performing.{kept_then, performs, runs_then}
 use Rattle.queue_calls.proofs.Staying.{dup_stay}
 use Rattle.queue_calls.proofs.descriptors.dup.Goals as goal
 
@@ -19,18 +19,15 @@ dup_one-requires-clause-listed c = listed_in c.args.script.now c.args.objects.no
 pub dup_one-requires-clause-owners : goal.dup_one-requires-clause-owners
 dup_one-requires-clause-owners c = c.requires.kept.owners
 
-pub dup_one-requires-clause-there : goal.dup_one-requires-clause-there
-dup_one-requires-clause-there c = key_who_runs c.args.script.now c.args.objects.now c.args.pid c.args.control c.requires.kept c.requires.runs
-
 pub go_on-requires-clause-kept : goal.go_on-requires-clause-kept
 go_on-requires-clause-kept c =
     let done = c.dup_one.ensures in
-    kept_then c.args.script.now c.args.objects.now c.dup_one.new.heap c.args.pid c.args.control c.requires.kept c.requires.runs done.changes done.listed done.owners (λ key. ap (λ (h : Heap). name_of h.socks key) done.beside)
+    kept_then c.args.script.now c.args.objects.now c.dup_one.new.heap c.args.caller.now.place.pid c.args.caller.now.control c.requires.kept c.requires.runs done.changes done.listed done.owners (λ key. ap (λ (h : Heap). name_of h.socks key) done.beside)
 
 pub go_on-requires-clause-runs : goal.go_on-requires-clause-runs
 go_on-requires-clause-runs c =
     let done = c.dup_one.ensures in
-    runs_then c.args.script.now c.args.objects.now c.dup_one.new.heap c.args.pid c.args.control c.requires.kept c.requires.runs done.changes done.listed done.owners (λ key. ap (λ (h : Heap). name_of h.socks key) done.beside)
+    runs_then c.args.script.now c.args.objects.now c.dup_one.new.heap c.args.caller.now.place.pid c.args.caller.now.control c.requires.kept c.requires.runs done.changes done.listed done.owners (λ key. ap (λ (h : Heap). name_of h.socks key) done.beside)
 
 pub returns-clause-takes : goal.returns-clause-takes
 returns-clause-takes c = TakesNothing-trans c.args.objects.now.heap c.dup_one.new.heap c.go_on.new.objects.heap c.dup_one.ensures.takes c.go_on.ensures.takes
@@ -40,11 +37,11 @@ returns-clause-does c =
     let script = c.args.script.now in
     let old = c.args.objects.now in
     let heap = c.dup_one.new.heap in
-    let pid = c.args.pid in
+    let pid = c.args.caller.now.place.pid in
     let done = c.dup_one.ensures in
     let said = c.value-reply.result in
     let which = call.Dup c.args.fd in
-    performs script old heap pid c.args.control c.requires.kept c.requires.runs done.changes done.listed done.owners (λ key. ap (λ (h : Heap). name_of h.socks key) done.beside)
+    performs script old heap pid c.args.caller.now.control c.requires.kept c.requires.runs done.changes done.listed done.owners (λ key. ap (λ (h : Heap). name_of h.socks key) done.beside)
     c.go_on.new.objects which said c.go_on.result (λ plain. dup script plain pid c.args.fd)
     (queues_same old.heap heap (ap (λ (h : Heap). h.pipes) done.beside) (ap (λ (h : Heap). h.socks) done.beside))
     (λ plain. dup_stay script plain pid c.args.fd) c.go_on.ensures.told c.go_on.ensures.goes (no_frames which (λ frames pid value. refl) pid said)
@@ -52,3 +49,8 @@ returns-clause-does c =
     subst (Answers numbers heap old.procs script plain pid (dup script plain pid c.args.fd)) (sym c.value-reply.ensures)
     (subst (λ z. Answers numbers heap old.procs script plain pid (dup script plain pid z) (value_of c.dup_one.result)) (to_z-of_z w64 c.args.fd c.ranges.fd)
     (done.answers numbers script plain have)))
+
+pub returns-clause-paid : goal.returns-clause-paid
+returns-clause-paid c =
+    IsPaid-trans c.args.objects.now.heap c.args.purse.now c.dup_one.new.heap c.dup_one.new.purse c.go_on.new.objects.heap c.dup_one.new.purse c.dup_one.ensures.paid
+    (IsPaid-nothing c.dup_one.new.heap c.go_on.new.objects.heap c.dup_one.new.purse c.dup_one.new.purse c.go_on.ensures.takes refl refl)

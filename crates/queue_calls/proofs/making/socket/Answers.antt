@@ -2,7 +2,7 @@ use Rattle.std.proofs.Common.{refl, subst, sym}
 use Rattle.kabi_types.specs.declared.calls.Call.TheVariants as call
 use Rattle.kheap_laws.proofs.PaidLemmas.{IsPaid-nothing, IsPaid-trans}
 use Rattle.store_objects.proofs.Replying.{no_frames}
-use Rattle.queue_calls.proofs.Performing.{key_who_runs, kept_then, performs_anew, runs_then}
+use Rattle.queue_calls.proofs.Performing.{kept_then, performs_anew, runs_then}
 use Rattle.posix_defs.specs.Calls.OnSockets.{socket}
 use Rattle.proc_numbers.specs.Answering.{value_of}
 use Rattle.proc_numbers.specs.PipeOpening.{AnswersAnew}
@@ -17,24 +17,21 @@ make_socket-requires-clause-listed c = let some = c.requires.stands in listed_in
 pub make_socket-requires-clause-owners : goal.make_socket-requires-clause-owners
 make_socket-requires-clause-owners c = let some = c.requires.stands in some.1.kept.owners
 
-pub make_socket-requires-clause-there : goal.make_socket-requires-clause-there
-make_socket-requires-clause-there c = let some = c.requires.stands in key_who_runs c.args.script.now c.args.objects.now c.args.pid c.args.control some.1.kept c.requires.runs
-
 pub go_on-requires-clause-kept : goal.go_on-requires-clause-kept
 go_on-requires-clause-kept c =
     let some = c.requires.stands in
     let done = c.make_socket.ensures in
-    let names = names_made c.args.script.now c.args.objects.now c.make_socket.new.heap c.args.pid (value_of c.make_socket.result) (λ plain. socket c.args.script.now plain c.args.pid)
-    (λ plain. socket_stays c.args.script.now plain c.args.pid) some done.still (λ numbers plain have. done.answers numbers c.args.script.now plain have) in
-    kept_then c.args.script.now c.args.objects.now c.make_socket.new.heap c.args.pid c.args.control some.1.kept c.requires.runs done.changes done.listed done.owners names
+    let names = names_made c.args.script.now c.args.objects.now c.make_socket.new.heap c.args.caller.now.place.pid (value_of c.make_socket.result) (λ plain. socket c.args.script.now plain c.args.caller.now.place.pid)
+    (λ plain. socket_stays c.args.script.now plain c.args.caller.now.place.pid) some done.still (λ numbers plain have. done.answers numbers c.args.script.now plain have) in
+    kept_then c.args.script.now c.args.objects.now c.make_socket.new.heap c.args.caller.now.place.pid c.args.caller.now.control some.1.kept c.requires.runs done.changes done.listed done.owners names
 
 pub go_on-requires-clause-runs : goal.go_on-requires-clause-runs
 go_on-requires-clause-runs c =
     let some = c.requires.stands in
     let done = c.make_socket.ensures in
-    let names = names_made c.args.script.now c.args.objects.now c.make_socket.new.heap c.args.pid (value_of c.make_socket.result) (λ plain. socket c.args.script.now plain c.args.pid)
-    (λ plain. socket_stays c.args.script.now plain c.args.pid) some done.still (λ numbers plain have. done.answers numbers c.args.script.now plain have) in
-    runs_then c.args.script.now c.args.objects.now c.make_socket.new.heap c.args.pid c.args.control some.1.kept c.requires.runs done.changes done.listed done.owners names
+    let names = names_made c.args.script.now c.args.objects.now c.make_socket.new.heap c.args.caller.now.place.pid (value_of c.make_socket.result) (λ plain. socket c.args.script.now plain c.args.caller.now.place.pid)
+    (λ plain. socket_stays c.args.script.now plain c.args.caller.now.place.pid) some done.still (λ numbers plain have. done.answers numbers c.args.script.now plain have) in
+    runs_then c.args.script.now c.args.objects.now c.make_socket.new.heap c.args.caller.now.place.pid c.args.caller.now.control some.1.kept c.requires.runs done.changes done.listed done.owners names
 
 pub returns-clause-paid : goal.returns-clause-paid
 returns-clause-paid c =
@@ -47,12 +44,12 @@ returns-clause-does c =
     let script = c.args.script.now in
     let old = c.args.objects.now in
     let heap = c.make_socket.new.heap in
-    let pid = c.args.pid in
+    let pid = c.args.caller.now.place.pid in
     let done = c.make_socket.ensures in
-    let names = names_made c.args.script.now c.args.objects.now c.make_socket.new.heap c.args.pid (value_of c.make_socket.result) (λ plain. socket c.args.script.now plain c.args.pid)
-    (λ plain. socket_stays c.args.script.now plain c.args.pid) some done.still (λ numbers plain have. done.answers numbers c.args.script.now plain have) in
+    let names = names_made c.args.script.now c.args.objects.now c.make_socket.new.heap c.args.caller.now.place.pid (value_of c.make_socket.result) (λ plain. socket c.args.script.now plain c.args.caller.now.place.pid)
+    (λ plain. socket_stays c.args.script.now plain c.args.caller.now.place.pid) some done.still (λ numbers plain have. done.answers numbers c.args.script.now plain have) in
     let said = c.value-reply.result in
-    performs_anew script old heap pid c.args.control some.1.kept c.requires.runs done.changes done.listed done.owners names
+    performs_anew script old heap pid c.args.caller.now.control some.1.kept c.requires.runs done.changes done.listed done.owners names
     c.go_on.new.objects call.Socket said c.go_on.result (λ plain. socket script plain pid)
     done.queues
     (λ plain. socket_stays script plain pid) c.go_on.ensures.told c.go_on.ensures.goes (no_frames call.Socket (λ frames pid value. refl) pid said)

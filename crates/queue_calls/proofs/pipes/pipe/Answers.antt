@@ -7,7 +7,7 @@ use Rattle.proc_files.specs.Names.{name_of}
 use Rattle.proc_numbers.specs.PipeOpening.{AnswersAnew}
 use Rattle.store_objects.proofs.Keeping.{listed_in}
 use Rattle.store_objects.proofs.Replying.{no_frames}
-use Rattle.queue_calls.proofs.Performing.{key_who_runs, kept_then, performs_anew, runs_then}
+use Rattle.queue_calls.proofs.Performing.{kept_then, performs_anew, runs_then}
 use Rattle.queue_calls.proofs.Staying.{pipe_stay}
 use Rattle.queue_calls.proofs.pipes.pipe.Goals as goal
 
@@ -17,18 +17,15 @@ make_pipe-requires-clause-listed c = listed_in c.args.script.now c.args.objects.
 pub make_pipe-requires-clause-owners : goal.make_pipe-requires-clause-owners
 make_pipe-requires-clause-owners c = c.requires.kept.owners
 
-pub make_pipe-requires-clause-there : goal.make_pipe-requires-clause-there
-make_pipe-requires-clause-there c = key_who_runs c.args.script.now c.args.objects.now c.args.pid c.args.control c.requires.kept c.requires.runs
-
 pub go_on-requires-clause-kept : goal.go_on-requires-clause-kept
 go_on-requires-clause-kept c =
     let done = c.make_pipe.ensures in
-    kept_then c.args.script.now c.args.objects.now c.make_pipe.new.heap c.args.pid c.args.control c.requires.kept c.requires.runs done.changes done.listed done.owners (λ key. ap (λ (socks : List (Option Sock)). name_of socks key) done.sockets)
+    kept_then c.args.script.now c.args.objects.now c.make_pipe.new.heap c.args.caller.now.place.pid c.args.caller.now.control c.requires.kept c.requires.runs done.changes done.listed done.owners (λ key. ap (λ (socks : List (Option Sock)). name_of socks key) done.sockets)
 
 pub go_on-requires-clause-runs : goal.go_on-requires-clause-runs
 go_on-requires-clause-runs c =
     let done = c.make_pipe.ensures in
-    runs_then c.args.script.now c.args.objects.now c.make_pipe.new.heap c.args.pid c.args.control c.requires.kept c.requires.runs done.changes done.listed done.owners (λ key. ap (λ (socks : List (Option Sock)). name_of socks key) done.sockets)
+    runs_then c.args.script.now c.args.objects.now c.make_pipe.new.heap c.args.caller.now.place.pid c.args.caller.now.control c.requires.kept c.requires.runs done.changes done.listed done.owners (λ key. ap (λ (socks : List (Option Sock)). name_of socks key) done.sockets)
 
 pub returns-clause-paid : goal.returns-clause-paid
 returns-clause-paid c =
@@ -40,10 +37,10 @@ returns-clause-does c =
     let script = c.args.script.now in
     let old = c.args.objects.now in
     let heap = c.make_pipe.new.heap in
-    let pid = c.args.pid in
+    let pid = c.args.caller.now.place.pid in
     let done = c.make_pipe.ensures in
     let said = c.pair-reply.result in
-    performs_anew script old heap pid c.args.control c.requires.kept c.requires.runs done.changes done.listed done.owners (λ key. ap (λ (socks : List (Option Sock)). name_of socks key) done.sockets)
+    performs_anew script old heap pid c.args.caller.now.control c.requires.kept c.requires.runs done.changes done.listed done.owners (λ key. ap (λ (socks : List (Option Sock)). name_of socks key) done.sockets)
     c.go_on.new.objects call.Pipe said c.go_on.result (λ plain. pipe script plain pid)
     done.queues
     (λ plain. pipe_stay script plain pid) c.go_on.ensures.told c.go_on.ensures.goes (no_frames call.Pipe (λ frames pid value. refl) pid said)

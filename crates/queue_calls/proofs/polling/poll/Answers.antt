@@ -4,7 +4,7 @@ use Rattle.kabi_types.specs.declared.calls.Call.TheVariants as call
 use Rattle.posix_defs.specs.Calls.Polling.{poll}
 use Rattle.proc_numbers.specs.Standing.{Leads}
 use Rattle.store_objects.specs.Standing.{Performs}
-use Rattle.queue_calls.proofs.Queueing.{has_key, is_kept, leaves_rest, runs_alive}
+use Rattle.queue_calls.proofs.Queueing.{is_kept, leaves_rest, runs_alive}
 use Rattle.queue_calls.proofs.Remaining.{poll_leaves}
 use Rattle.queue_calls.proofs.Telling.{follows_done, performs}
 use Rattle.queue_calls.proofs.polling.poll.Goals as goal
@@ -12,16 +12,12 @@ use Rattle.queue_calls.proofs.polling.poll.Goals as goal
 pub poll-told-requires-clause-kept : goal.poll-told-requires-clause-kept
 poll-told-requires-clause-kept c = is_kept c.args.script.now c.args.objects.now c.requires.kept
 
-pub poll-told-requires-clause-there : goal.poll-told-requires-clause-there
-poll-told-requires-clause-there c =
-    has_key c.args.script.now c.args.objects.now c.args.pid c.requires.kept (runs_alive c.args.objects.now c.args.pid c.args.control c.requires.runs)
-
 pub returns-clause-does : goal.returns-clause-does
 returns-clause-does c =
     let script = c.args.script.now in
     let old = c.args.objects.now in
     let new = c.go_on_done.new.objects in
-    let pid = c.args.pid in
+    let pid = c.args.caller.now.place.pid in
     let entries = c.args.entries.now in
     let told = c.poll-told.result in
     subst (λ t. Performs script old pid (call.Poll c.args.timeout entries) (λ plain. poll script plain pid c.args.timeout entries) t new) (sym c.go_on_done.ensures.told)

@@ -4,19 +4,14 @@ use Rattle.posix_defs.specs.Calls.Polling.{poll}
 use Rattle.posix_defs.specs.Machine.{blocks}
 use Rattle.store_objects.proofs.RunningProcs.{alive_runs}
 use Rattle.queue_calls.proofs.Blocking.{poll_alike}
-use Rattle.queue_calls.proofs.Queueing.{has_key, is_kept}
+use Rattle.queue_calls.proofs.Queueing.{is_kept}
 use Rattle.queue_calls.proofs.polling.poll_would_block.Goals as goal
 
 pub poll_waits-requires-clause-kept : goal.poll_waits-requires-clause-kept
-poll_waits-requires-clause-kept c = let some = c.requires in is_kept some.0 c.args.objects.now some.2.kept
-
-pub poll_waits-requires-clause-there : goal.poll_waits-requires-clause-there
-poll_waits-requires-clause-there c =
-    let some = c.requires in
-    has_key some.0 c.args.objects.now c.args.pid some.2.kept (alive_runs some.0 c.args.objects.now some.1.plain c.args.pid some.2.processes some.3)
+poll_waits-requires-clause-kept c = let some = c.requires.stands in is_kept some.0 c.args.objects.now some.2.kept
 
 pub returns : goal.returns
 returns c = λ script world stands.
-    subst (λ z. c.poll_waits.result ≡ blocks (poll script world.plain c.args.pid z c.args.entries.now)) (to_z-of_z w64 c.args.timeout c.ranges.timeout)
+    subst (λ z. c.poll_waits.result ≡ blocks (poll script world.plain c.args.place.pid z c.args.entries.now)) (to_z-of_z w64 c.args.timeout c.ranges.timeout)
     (c.poll_waits.ensures script stands.files.numbers world.plain stands.files.opened)
-    ∙ sym (poll_alike script world.plain c.args.pid c.args.timeout c.args.entries.now)
+    ∙ sym (poll_alike script world.plain c.args.place.pid c.args.timeout c.args.entries.now)

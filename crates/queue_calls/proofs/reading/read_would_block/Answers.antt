@@ -10,24 +10,24 @@ use Rattle.queue_calls.proofs.MovedNumbers.{of_three}
 use Rattle.queue_calls.proofs.Queueing.{is_kept, queues_stand}
 use Rattle.queue_calls.proofs.reading.read_would_block.Goals as goal
 
-pub read_queue_waits-requires-clause-kept : goal.read_queue_waits-requires-clause-kept
-read_queue_waits-requires-clause-kept c = let some = c.requires in is_kept some.0 c.args.objects.now some.2.kept
+pub read_waits-requires-clause-kept : goal.read_waits-requires-clause-kept
+read_waits-requires-clause-kept c = let some = c.requires.stands in is_kept some.0 c.args.objects.now some.2.kept
 
-pub read_queue_waits-requires-clause-alive : goal.read_queue_waits-requires-clause-alive
-read_queue_waits-requires-clause-alive c = let some = c.requires in alive_runs some.0 c.args.objects.now some.1.plain c.args.pid some.2.processes some.3
+pub read_waits-requires-clause-alive : goal.read_waits-requires-clause-alive
+read_waits-requires-clause-alive c = let some = c.requires.stands in alive_runs some.0 c.args.objects.now some.1.plain c.args.place.pid some.2.processes some.3
 
-pub read_queue_waits-requires-clause-right : goal.read_queue_waits-requires-clause-right
-read_queue_waits-requires-clause-right c = no_fault _ (sym c.may_move.ensures ∙ c.if-may_move.true)
+pub read_waits-requires-clause-right : goal.read_waits-requires-clause-right
+read_waits-requires-clause-right c = no_fault _ (sym c.may_move.ensures ∙ c.if-may_move.true)
 
 pub returns-then-may_move : goal.returns-then-may_move
 returns-then-may_move c = λ script world stands.
-    let pid = c.args.pid in
+    let pid = c.args.place.pid in
     let fd = to_z-of_z w64 c.args.fd c.ranges.fd in
     let addr = to_z-of_z w64 c.args.addr c.ranges.addr in
     let n = to_z-of_z w64 c.args.n c.ranges.n in
     let right = of_three (λ x y z. c.may_move.result ≡ is_none (moved_fault 0 y z)) _ _ _ c.args.fd c.args.addr c.args.n fd addr n c.may_move.ensures in
-    of_three (λ x y z. c.read_queue_waits.result ≡ blocks (read script world.plain pid x y z)) _ _ _ c.args.fd c.args.addr c.args.n fd addr n
-    (c.read_queue_waits.ensures script stands.files.numbers world.plain world.account (queues_stand script c.args.objects.now world stands))
+    of_three (λ x y z. c.read_waits.result ≡ blocks (read script world.plain pid x y z)) _ _ _ c.args.fd c.args.addr c.args.n fd addr n
+    (c.read_waits.ensures script stands.files.numbers world.plain world.account (queues_stand script c.args.objects.now world stands))
     ∙ sym (blocks_right script world.plain pid (moved_fault 0 c.args.addr c.args.n) (read script world.plain pid c.args.fd c.args.addr c.args.n) (sym right ∙ c.if-may_move.true))
 
 pub returns-else-may_move : goal.returns-else-may_move
@@ -36,4 +36,4 @@ returns-else-may_move c = λ script world stands.
     let addr = to_z-of_z w64 c.args.addr c.ranges.addr in
     let n = to_z-of_z w64 c.args.n c.ranges.n in
     let right = of_three (λ x y z. c.may_move.result ≡ is_none (moved_fault 0 y z)) _ _ _ c.args.fd c.args.addr c.args.n fd addr n c.may_move.ensures in
-    c.if-may_move.false ∙ sym (blocks_wrong script world.plain c.args.pid (moved_fault 0 c.args.addr c.args.n) (read script world.plain c.args.pid c.args.fd c.args.addr c.args.n) (sym right ∙ c.if-may_move.false))
+    c.if-may_move.false ∙ sym (blocks_wrong script world.plain c.args.place.pid (moved_fault 0 c.args.addr c.args.n) (read script world.plain c.args.place.pid c.args.fd c.args.addr c.args.n) (sym right ∙ c.if-may_move.false))

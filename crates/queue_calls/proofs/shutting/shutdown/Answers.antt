@@ -3,7 +3,7 @@ use Rattle.std.proofs.lemmas.Int.{to_z-of_z}
 use Rattle.kabi_types.specs.declared.calls.Call.TheVariants as call
 use Rattle.kheap_laws.proofs.PaidLemmas.{TakesNothing-trans}
 use Rattle.store_objects.proofs.Replying.{no_frames}
-use Rattle.queue_calls.proofs.Performing.{key_who_runs, kept_then, performs, runs_then}
+use Rattle.queue_calls.proofs.Performing.{kept_then, performs, runs_then}
 use Rattle.posix_defs.specs.Calls.OnSockets.{shutdown}
 use Rattle.proc_numbers.specs.Answering.{Answers, zero_of}
 use Rattle.store_objects.proofs.Keeping.{listed_in}
@@ -17,24 +17,21 @@ shut_number-requires-clause-listed c = let some = c.requires.stands in listed_in
 pub shut_number-requires-clause-owners : goal.shut_number-requires-clause-owners
 shut_number-requires-clause-owners c = let some = c.requires.stands in some.1.kept.owners
 
-pub shut_number-requires-clause-there : goal.shut_number-requires-clause-there
-shut_number-requires-clause-there c = let some = c.requires.stands in key_who_runs c.args.script.now c.args.objects.now c.args.pid c.args.control some.1.kept c.requires.runs
-
 pub go_on-requires-clause-kept : goal.go_on-requires-clause-kept
 go_on-requires-clause-kept c =
     let some = c.requires.stands in
     let done = c.shut_number.ensures in
-    let names = names_told c.args.script.now c.args.objects.now c.shut_number.new.heap c.args.pid (zero_of c.shut_number.result) (λ plain. shutdown c.args.script.now plain c.args.pid (to_z w64 (of_z w64 c.args.fd)) (to_z w64 (of_z w64 c.args.how)))
-    (λ plain. shutdown_stays c.args.script.now plain c.args.pid (to_z w64 (of_z w64 c.args.fd)) (to_z w64 (of_z w64 c.args.how))) some (λ numbers plain have. done.answers numbers c.args.script.now plain have) in
-    kept_then c.args.script.now c.args.objects.now c.shut_number.new.heap c.args.pid c.args.control some.1.kept c.requires.runs done.changes done.listed done.owners names
+    let names = names_told c.args.script.now c.args.objects.now c.shut_number.new.heap c.args.caller.now.place.pid (zero_of c.shut_number.result) (λ plain. shutdown c.args.script.now plain c.args.caller.now.place.pid (to_z w64 (of_z w64 c.args.fd)) (to_z w64 (of_z w64 c.args.how)))
+    (λ plain. shutdown_stays c.args.script.now plain c.args.caller.now.place.pid (to_z w64 (of_z w64 c.args.fd)) (to_z w64 (of_z w64 c.args.how))) some (λ numbers plain have. done.answers numbers c.args.script.now plain have) in
+    kept_then c.args.script.now c.args.objects.now c.shut_number.new.heap c.args.caller.now.place.pid c.args.caller.now.control some.1.kept c.requires.runs done.changes done.listed done.owners names
 
 pub go_on-requires-clause-runs : goal.go_on-requires-clause-runs
 go_on-requires-clause-runs c =
     let some = c.requires.stands in
     let done = c.shut_number.ensures in
-    let names = names_told c.args.script.now c.args.objects.now c.shut_number.new.heap c.args.pid (zero_of c.shut_number.result) (λ plain. shutdown c.args.script.now plain c.args.pid (to_z w64 (of_z w64 c.args.fd)) (to_z w64 (of_z w64 c.args.how)))
-    (λ plain. shutdown_stays c.args.script.now plain c.args.pid (to_z w64 (of_z w64 c.args.fd)) (to_z w64 (of_z w64 c.args.how))) some (λ numbers plain have. done.answers numbers c.args.script.now plain have) in
-    runs_then c.args.script.now c.args.objects.now c.shut_number.new.heap c.args.pid c.args.control some.1.kept c.requires.runs done.changes done.listed done.owners names
+    let names = names_told c.args.script.now c.args.objects.now c.shut_number.new.heap c.args.caller.now.place.pid (zero_of c.shut_number.result) (λ plain. shutdown c.args.script.now plain c.args.caller.now.place.pid (to_z w64 (of_z w64 c.args.fd)) (to_z w64 (of_z w64 c.args.how)))
+    (λ plain. shutdown_stays c.args.script.now plain c.args.caller.now.place.pid (to_z w64 (of_z w64 c.args.fd)) (to_z w64 (of_z w64 c.args.how))) some (λ numbers plain have. done.answers numbers c.args.script.now plain have) in
+    runs_then c.args.script.now c.args.objects.now c.shut_number.new.heap c.args.caller.now.place.pid c.args.caller.now.control some.1.kept c.requires.runs done.changes done.listed done.owners names
 
 pub returns-clause-takes : goal.returns-clause-takes
 returns-clause-takes c = TakesNothing-trans c.args.objects.now.heap c.shut_number.new.heap c.go_on.new.objects.heap c.shut_number.ensures.takes c.go_on.ensures.takes
@@ -45,13 +42,13 @@ returns-clause-does c =
     let script = c.args.script.now in
     let old = c.args.objects.now in
     let heap = c.shut_number.new.heap in
-    let pid = c.args.pid in
+    let pid = c.args.caller.now.place.pid in
     let done = c.shut_number.ensures in
-    let names = names_told c.args.script.now c.args.objects.now c.shut_number.new.heap c.args.pid (zero_of c.shut_number.result) (λ plain. shutdown c.args.script.now plain c.args.pid (to_z w64 (of_z w64 c.args.fd)) (to_z w64 (of_z w64 c.args.how)))
-    (λ plain. shutdown_stays c.args.script.now plain c.args.pid (to_z w64 (of_z w64 c.args.fd)) (to_z w64 (of_z w64 c.args.how))) some (λ numbers plain have. done.answers numbers c.args.script.now plain have) in
+    let names = names_told c.args.script.now c.args.objects.now c.shut_number.new.heap c.args.caller.now.place.pid (zero_of c.shut_number.result) (λ plain. shutdown c.args.script.now plain c.args.caller.now.place.pid (to_z w64 (of_z w64 c.args.fd)) (to_z w64 (of_z w64 c.args.how)))
+    (λ plain. shutdown_stays c.args.script.now plain c.args.caller.now.place.pid (to_z w64 (of_z w64 c.args.fd)) (to_z w64 (of_z w64 c.args.how))) some (λ numbers plain have. done.answers numbers c.args.script.now plain have) in
     let said = c.zero-reply.result in
     let which = call.Shutdown c.args.fd c.args.how in
-    performs script old heap pid c.args.control some.1.kept c.requires.runs done.changes done.listed done.owners names
+    performs script old heap pid c.args.caller.now.control some.1.kept c.requires.runs done.changes done.listed done.owners names
     c.go_on.new.objects which said c.go_on.result (λ plain. shutdown script plain pid c.args.fd c.args.how)
     done.queues
     (λ plain. shutdown_stays script plain pid c.args.fd c.args.how) c.go_on.ensures.told c.go_on.ensures.goes (no_frames which (λ frames pid value. refl) pid said)

@@ -11,7 +11,7 @@ use Rattle.posix_defs.specs.Calls.Writing.{write}
 use Rattle.posix_defs.specs.Plain.{Plain}
 use Rattle.posix_defs.specs.declared.turner.Turned.{Turned}
 use Rattle.posix_defs.specs.declared.turner.Turned.TheVariants as turned
-use Rattle.proc_files.specs.Reading.{IsOffNodes}
+use Rattle.proc_numbers.specs.Found.{IsOffNodes}
 use Rattle.proc_files.specs.Names.{name_of}
 use Rattle.proc_numbers.specs.Standing.{IsKept, IsTold, Leads, StandsFor as QueuesStandFor}
 use Rattle.store_objects.specs.declared.objects.Objects.{Objects}
@@ -23,30 +23,30 @@ use Rattle.queue_calls.proofs.Remaining.{write_leaves}
 use Rattle.queue_calls.proofs.Telling.{Follows, follows_done, follows_part, part_told, performs}
 use Rattle.queue_calls.proofs.writing.write.Goals as goal
 
-pub write_queue-told-requires-clause-kept : goal.write_queue-told-requires-clause-kept
-write_queue-told-requires-clause-kept c = let some = c.requires.stands in is_kept c.args.script.now c.args.objects.now some.1.kept
+pub write-told-requires-clause-kept : goal.write-told-requires-clause-kept
+write-told-requires-clause-kept c = let some = c.requires.stands in is_kept c.args.script.now c.args.objects.now some.1.kept
 
-pub write_queue-told-requires-clause-alive : goal.write_queue-told-requires-clause-alive
-write_queue-told-requires-clause-alive c = runs_alive c.args.objects.now c.args.pid c.args.control c.requires.runs
+pub write-told-requires-clause-alive : goal.write-told-requires-clause-alive
+write-told-requires-clause-alive c = runs_alive c.args.objects.now c.args.caller.now.place.pid c.args.caller.now.control c.requires.runs
 
-pub write_queue-told-requires-clause-off : goal.write_queue-told-requires-clause-off
-write_queue-told-requires-clause-off c = subst (IsOffNodes c.args.objects.now.heap c.args.objects.now.procs c.args.pid) (sym (to_z-of_z w64 c.args.fd c.ranges.fd)) c.requires.off
+pub write-told-requires-clause-off : goal.write-told-requires-clause-off
+write-told-requires-clause-off c = subst (IsOffNodes c.args.objects.now.heap c.args.objects.now.procs c.args.caller.now.place.pid) (sym (to_z-of_z w64 c.args.fd c.ranges.fd)) c.requires.off
 
 pub do_part-requires-clause-kept : goal.do_part-requires-clause-kept
 do_part-requires-clause-kept c =
     let some = c.requires.stands in
-    let names = names_written c.args.script.now c.args.objects.now c.write_queue-told.new.heap c.args.pid _ _ _ c.args.done c.write_queue-told.result
-    (c.write_queue-told.ensures.leads c.args.script.now) c.requires.stands
-    (subst (IsOffNodes c.args.objects.now.heap c.args.objects.now.procs c.args.pid) (sym (to_z-of_z w64 c.args.fd c.ranges.fd)) c.requires.off) in
-    (c.args.script.now, kept_mid c.args.script.now c.args.objects.now c.write_queue-told.new.heap c.write_queue-told.ensures.kept (leaves_more c.args.objects.now.heap c.write_queue-told.new.heap c.write_queue-told.ensures.beside) names some.1.kept)
+    let names = names_written c.args.script.now c.args.objects.now c.write-told.new.heap c.args.caller.now.place.pid _ _ _ c.args.done c.write-told.result
+    (c.write-told.ensures.leads c.args.script.now) c.requires.stands
+    (subst (IsOffNodes c.args.objects.now.heap c.args.objects.now.procs c.args.caller.now.place.pid) (sym (to_z-of_z w64 c.args.fd c.ranges.fd)) c.requires.off) in
+    (c.args.script.now, kept_mid c.args.script.now c.args.objects.now c.write-told.new.heap c.write-told.ensures.kept (leaves_more c.args.objects.now.heap c.write-told.new.heap c.write-told.ensures.beside) names some.1.kept)
 
 pub do_part-requires-clause-runs : goal.do_part-requires-clause-runs
 do_part-requires-clause-runs c =
-    let names = names_written c.args.script.now c.args.objects.now c.write_queue-told.new.heap c.args.pid _ _ _ c.args.done c.write_queue-told.result
-    (c.write_queue-told.ensures.leads c.args.script.now) c.requires.stands
-    (subst (IsOffNodes c.args.objects.now.heap c.args.objects.now.procs c.args.pid) (sym (to_z-of_z w64 c.args.fd c.ranges.fd)) c.requires.off) in
-    runs_mid c.args.script.now c.args.objects.now c.write_queue-told.new.heap c.write_queue-told.ensures.kept (leaves_more c.args.objects.now.heap c.write_queue-told.new.heap c.write_queue-told.ensures.beside) names
-    c.args.pid c.args.control c.requires.runs
+    let names = names_written c.args.script.now c.args.objects.now c.write-told.new.heap c.args.caller.now.place.pid _ _ _ c.args.done c.write-told.result
+    (c.write-told.ensures.leads c.args.script.now) c.requires.stands
+    (subst (IsOffNodes c.args.objects.now.heap c.args.objects.now.procs c.args.caller.now.place.pid) (sym (to_z-of_z w64 c.args.fd c.ranges.fd)) c.requires.off) in
+    runs_mid c.args.script.now c.args.objects.now c.write-told.new.heap c.write-told.ensures.kept (leaves_more c.args.objects.now.heap c.write-told.new.heap c.write-told.ensures.beside) names
+    c.args.caller.now.place.pid c.args.caller.now.control c.requires.runs
 
 -- a part is less than the bytes that are left
 pub do_part-requires-clause-fits : goal.do_part-requires-clause-fits
@@ -55,11 +55,11 @@ do_part-requires-clause-fits c =
     let old = c.args.objects.now in
     let some = c.requires.stands in
     let plain = some.0.plain in
-    let pid = c.args.pid in
+    let pid = c.args.caller.now.place.pid in
     let within : ℕ → Type 0 = λ moved. c.args.done + moved ≤ count_of c.args.n in
-    let led = of_three (λ fd addr n. Leads script some.1.files.numbers c.write_queue-told.new.heap old.procs plain some.0.account pid (call.Write fd addr n c.args.done) (write script plain pid fd addr n c.args.done) c.write_queue-told.result)
+    let led = of_three (λ fd addr n. Leads script some.1.files.numbers c.write-told.new.heap old.procs plain some.0.account pid (call.Write fd addr n c.args.done) (write script plain pid fd addr n c.args.done) c.write-told.result)
     _ _ _ c.args.fd c.args.addr c.args.n (to_z-of_z w64 c.args.fd c.ranges.fd) (to_z-of_z w64 c.args.addr c.ranges.addr) (to_z-of_z w64 c.args.n c.ranges.n)
-    (c.write_queue-told.ensures.leads script some.1.files.numbers plain some.0.account (queues_stand script old some.0 some.1)) in
+    (c.write-told.ensures.leads script some.1.files.numbers plain some.0.account (queues_stand script old some.0 some.1)) in
     let told : IsTold script plain pid (write script plain pid c.args.fd c.args.addr c.args.n c.args.done) (turned.Part c.in-Part.moved) led.next =
     subst (λ t. IsTold script plain pid (write script plain pid c.args.fd c.args.addr c.args.n c.args.done) t led.next) c.in-Part.is led.told_so in
     let more : c.args.done + c.in-Part.moved ≤ count_of c.args.n =
@@ -72,37 +72,37 @@ do_part-requires-clause-fits c =
 pub go_on_done-requires-clause-kept : goal.go_on_done-requires-clause-kept
 go_on_done-requires-clause-kept c =
     let some = c.requires.stands in
-    let names = names_written c.args.script.now c.args.objects.now c.write_queue-told.new.heap c.args.pid _ _ _ c.args.done c.write_queue-told.result
-    (c.write_queue-told.ensures.leads c.args.script.now) c.requires.stands
-    (subst (IsOffNodes c.args.objects.now.heap c.args.objects.now.procs c.args.pid) (sym (to_z-of_z w64 c.args.fd c.ranges.fd)) c.requires.off) in
-    kept_mid c.args.script.now c.args.objects.now c.write_queue-told.new.heap c.write_queue-told.ensures.kept (leaves_more c.args.objects.now.heap c.write_queue-told.new.heap c.write_queue-told.ensures.beside) names some.1.kept
+    let names = names_written c.args.script.now c.args.objects.now c.write-told.new.heap c.args.caller.now.place.pid _ _ _ c.args.done c.write-told.result
+    (c.write-told.ensures.leads c.args.script.now) c.requires.stands
+    (subst (IsOffNodes c.args.objects.now.heap c.args.objects.now.procs c.args.caller.now.place.pid) (sym (to_z-of_z w64 c.args.fd c.ranges.fd)) c.requires.off) in
+    kept_mid c.args.script.now c.args.objects.now c.write-told.new.heap c.write-told.ensures.kept (leaves_more c.args.objects.now.heap c.write-told.new.heap c.write-told.ensures.beside) names some.1.kept
 
 pub go_on_done-requires-clause-runs : goal.go_on_done-requires-clause-runs
 go_on_done-requires-clause-runs c =
-    let names = names_written c.args.script.now c.args.objects.now c.write_queue-told.new.heap c.args.pid _ _ _ c.args.done c.write_queue-told.result
-    (c.write_queue-told.ensures.leads c.args.script.now) c.requires.stands
-    (subst (IsOffNodes c.args.objects.now.heap c.args.objects.now.procs c.args.pid) (sym (to_z-of_z w64 c.args.fd c.ranges.fd)) c.requires.off) in
-    runs_mid c.args.script.now c.args.objects.now c.write_queue-told.new.heap c.write_queue-told.ensures.kept (leaves_more c.args.objects.now.heap c.write_queue-told.new.heap c.write_queue-told.ensures.beside) names
-    c.args.pid c.args.control c.requires.runs
+    let names = names_written c.args.script.now c.args.objects.now c.write-told.new.heap c.args.caller.now.place.pid _ _ _ c.args.done c.write-told.result
+    (c.write-told.ensures.leads c.args.script.now) c.requires.stands
+    (subst (IsOffNodes c.args.objects.now.heap c.args.objects.now.procs c.args.caller.now.place.pid) (sym (to_z-of_z w64 c.args.fd c.ranges.fd)) c.requires.off) in
+    runs_mid c.args.script.now c.args.objects.now c.write-told.new.heap c.write-told.ensures.kept (leaves_more c.args.objects.now.heap c.write-told.new.heap c.write-told.ensures.beside) names
+    c.args.caller.now.place.pid c.args.caller.now.control c.requires.runs
 
 pub returns-in-Part-clause-kept : goal.returns-in-Part-clause-kept
 returns-in-Part-clause-kept c =
     let some = c.requires.stands in
-    let names = names_written c.args.script.now c.args.objects.now c.write_queue-told.new.heap c.args.pid _ _ _ c.args.done c.write_queue-told.result
-    (c.write_queue-told.ensures.leads c.args.script.now) c.requires.stands
-    (subst (IsOffNodes c.args.objects.now.heap c.args.objects.now.procs c.args.pid) (sym (to_z-of_z w64 c.args.fd c.ranges.fd)) c.requires.off) in
+    let names = names_written c.args.script.now c.args.objects.now c.write-told.new.heap c.args.caller.now.place.pid _ _ _ c.args.done c.write-told.result
+    (c.write-told.ensures.leads c.args.script.now) c.requires.stands
+    (subst (IsOffNodes c.args.objects.now.heap c.args.objects.now.procs c.args.caller.now.place.pid) (sym (to_z-of_z w64 c.args.fd c.ranges.fd)) c.requires.off) in
     c.do_part.ensures.kept c.args.script.now
-    (kept_mid c.args.script.now c.args.objects.now c.write_queue-told.new.heap c.write_queue-told.ensures.kept (leaves_more c.args.objects.now.heap c.write_queue-told.new.heap c.write_queue-told.ensures.beside) names some.1.kept)
+    (kept_mid c.args.script.now c.args.objects.now c.write-told.new.heap c.write-told.ensures.kept (leaves_more c.args.objects.now.heap c.write-told.new.heap c.write-told.ensures.beside) names some.1.kept)
 
 pub returns-in-Part-clause-paid : goal.returns-in-Part-clause-paid
 returns-in-Part-clause-paid c =
-    IsPaid-trans c.args.objects.now.heap c.args.purse.now c.write_queue-told.new.heap c.write_queue-told.new.purse c.do_part.new.objects.heap c.write_queue-told.new.purse c.write_queue-told.ensures.paid
-    (IsPaid-nothing c.write_queue-told.new.heap c.do_part.new.objects.heap c.write_queue-told.new.purse c.write_queue-told.new.purse c.do_part.ensures.takes refl refl)
+    IsPaid-trans c.args.objects.now.heap c.args.purse.now c.write-told.new.heap c.write-told.new.purse c.do_part.new.objects.heap c.write-told.new.purse c.write-told.ensures.paid
+    (IsPaid-nothing c.write-told.new.heap c.do_part.new.objects.heap c.write-told.new.purse c.write-told.new.purse c.do_part.ensures.takes refl refl)
 
 pub returns-in_default-clause-paid : goal.returns-in_default-clause-paid
 returns-in_default-clause-paid c =
-    IsPaid-trans c.args.objects.now.heap c.args.purse.now c.write_queue-told.new.heap c.write_queue-told.new.purse c.go_on_done.new.objects.heap c.write_queue-told.new.purse c.write_queue-told.ensures.paid
-    (IsPaid-nothing c.write_queue-told.new.heap c.go_on_done.new.objects.heap c.write_queue-told.new.purse c.write_queue-told.new.purse c.go_on_done.ensures.takes refl refl)
+    IsPaid-trans c.args.objects.now.heap c.args.purse.now c.write-told.new.heap c.write-told.new.purse c.go_on_done.new.objects.heap c.write-told.new.purse c.write-told.ensures.paid
+    (IsPaid-nothing c.write-told.new.heap c.go_on_done.new.objects.heap c.write-told.new.purse c.write-told.new.purse c.go_on_done.ensures.takes refl refl)
 
 -- what it leads to, whatever was told
 leads : (script : Script) (old new : Objects) (heap : Heap) (pid : ℕ) (fd addr n as_fd as_addr as_n : ℤ) (done : ℕ) (told : Turned) → as_fd ≡ fd → as_addr ≡ addr → as_n ≡ n
@@ -125,32 +125,32 @@ pub returns-in-Part-clause-does : goal.returns-in-Part-clause-does
 returns-in-Part-clause-does c =
     let script = c.args.script.now in
     let old = c.args.objects.now in
-    let pid = c.args.pid in
+    let pid = c.args.caller.now.place.pid in
     let new = c.do_part.new.objects in
-    let names = names_written c.args.script.now c.args.objects.now c.write_queue-told.new.heap c.args.pid _ _ _ c.args.done c.write_queue-told.result
-    (c.write_queue-told.ensures.leads c.args.script.now) c.requires.stands
-    (subst (IsOffNodes c.args.objects.now.heap c.args.objects.now.procs c.args.pid) (sym (to_z-of_z w64 c.args.fd c.ranges.fd)) c.requires.off) in
+    let names = names_written c.args.script.now c.args.objects.now c.write-told.new.heap c.args.caller.now.place.pid _ _ _ c.args.done c.write-told.result
+    (c.write-told.ensures.leads c.args.script.now) c.requires.stands
+    (subst (IsOffNodes c.args.objects.now.heap c.args.objects.now.procs c.args.caller.now.place.pid) (sym (to_z-of_z w64 c.args.fd c.ranges.fd)) c.requires.off) in
     subst (λ t. Performs script old pid (call.Write c.args.fd c.args.addr c.args.n c.args.done) (λ plain. write script plain pid c.args.fd c.args.addr c.args.n c.args.done) t new)
     (c.in-Part.is ∙ sym c.do_part.ensures.told)
-    (leads script old new c.write_queue-told.new.heap pid c.args.fd c.args.addr c.args.n _ _ _ c.args.done c.write_queue-told.result
-    (to_z-of_z w64 c.args.fd c.ranges.fd) (to_z-of_z w64 c.args.addr c.ranges.addr) (to_z-of_z w64 c.args.n c.ranges.n) c.write_queue-told.ensures.kept c.write_queue-told.ensures.beside names c.requires.off
-    (c.write_queue-told.ensures.leads script)
-    (follows_part script (record { heap = c.write_queue-told.new.heap; procs = old.procs; tree = old.tree; names = old.names }) pid (λ moved. c.args.done + moved ≤ count_of c.args.n) c.write_queue-told.result new c.in-Part.moved
+    (leads script old new c.write-told.new.heap pid c.args.fd c.args.addr c.args.n _ _ _ c.args.done c.write-told.result
+    (to_z-of_z w64 c.args.fd c.ranges.fd) (to_z-of_z w64 c.args.addr c.ranges.addr) (to_z-of_z w64 c.args.n c.ranges.n) c.write-told.ensures.kept c.write-told.ensures.beside names c.requires.off
+    (c.write-told.ensures.leads script)
+    (follows_part script (record { heap = c.write-told.new.heap; procs = old.procs; tree = old.tree; names = old.names }) pid (λ moved. c.args.done + moved ≤ count_of c.args.n) c.write-told.result new c.in-Part.moved
     c.in-Part.is (c.do_part.ensures.goes script)))
 
 pub returns-in_default-clause-does : goal.returns-in_default-clause-does
 returns-in_default-clause-does c =
     let script = c.args.script.now in
     let old = c.args.objects.now in
-    let pid = c.args.pid in
+    let pid = c.args.caller.now.place.pid in
     let new = c.go_on_done.new.objects in
-    let names = names_written c.args.script.now c.args.objects.now c.write_queue-told.new.heap c.args.pid _ _ _ c.args.done c.write_queue-told.result
-    (c.write_queue-told.ensures.leads c.args.script.now) c.requires.stands
-    (subst (IsOffNodes c.args.objects.now.heap c.args.objects.now.procs c.args.pid) (sym (to_z-of_z w64 c.args.fd c.ranges.fd)) c.requires.off) in
+    let names = names_written c.args.script.now c.args.objects.now c.write-told.new.heap c.args.caller.now.place.pid _ _ _ c.args.done c.write-told.result
+    (c.write-told.ensures.leads c.args.script.now) c.requires.stands
+    (subst (IsOffNodes c.args.objects.now.heap c.args.objects.now.procs c.args.caller.now.place.pid) (sym (to_z-of_z w64 c.args.fd c.ranges.fd)) c.requires.off) in
     subst (λ t. Performs script old pid (call.Write c.args.fd c.args.addr c.args.n c.args.done) (λ plain. write script plain pid c.args.fd c.args.addr c.args.n c.args.done) t new)
     (sym c.go_on_done.ensures.told)
-    (leads script old new c.write_queue-told.new.heap pid c.args.fd c.args.addr c.args.n _ _ _ c.args.done c.write_queue-told.result
-    (to_z-of_z w64 c.args.fd c.ranges.fd) (to_z-of_z w64 c.args.addr c.ranges.addr) (to_z-of_z w64 c.args.n c.ranges.n) c.write_queue-told.ensures.kept c.write_queue-told.ensures.beside names c.requires.off
-    (c.write_queue-told.ensures.leads script)
-    (follows_done script (record { heap = c.write_queue-told.new.heap; procs = old.procs; tree = old.tree; names = old.names }) pid (λ moved. c.args.done + moved ≤ count_of c.args.n) c.write_queue-told.result new
+    (leads script old new c.write-told.new.heap pid c.args.fd c.args.addr c.args.n _ _ _ c.args.done c.write-told.result
+    (to_z-of_z w64 c.args.fd c.ranges.fd) (to_z-of_z w64 c.args.addr c.ranges.addr) (to_z-of_z w64 c.args.n c.ranges.n) c.write-told.ensures.kept c.write-told.ensures.beside names c.requires.off
+    (c.write-told.ensures.leads script)
+    (follows_done script (record { heap = c.write-told.new.heap; procs = old.procs; tree = old.tree; names = old.names }) pid (λ moved. c.args.done + moved ≤ count_of c.args.n) c.write-told.result new
     c.go_on_done.ensures.goes (λ moved is some. c.in_default.not-Part moved is)))

@@ -10,24 +10,24 @@ use Rattle.queue_calls.proofs.MovedNumbers.{of_three}
 use Rattle.queue_calls.proofs.Queueing.{is_kept, queues_stand}
 use Rattle.queue_calls.proofs.writing.write_would_block.Goals as goal
 
-pub write_queue_waits-requires-clause-kept : goal.write_queue_waits-requires-clause-kept
-write_queue_waits-requires-clause-kept c = let some = c.requires in is_kept some.0 c.args.objects.now some.2.kept
+pub write_waits-requires-clause-kept : goal.write_waits-requires-clause-kept
+write_waits-requires-clause-kept c = let some = c.requires.stands in is_kept some.0 c.args.objects.now some.2.kept
 
-pub write_queue_waits-requires-clause-alive : goal.write_queue_waits-requires-clause-alive
-write_queue_waits-requires-clause-alive c = let some = c.requires in alive_runs some.0 c.args.objects.now some.1.plain c.args.pid some.2.processes some.3
+pub write_waits-requires-clause-alive : goal.write_waits-requires-clause-alive
+write_waits-requires-clause-alive c = let some = c.requires.stands in alive_runs some.0 c.args.objects.now some.1.plain c.args.place.pid some.2.processes some.3
 
-pub write_queue_waits-requires-clause-right : goal.write_queue_waits-requires-clause-right
-write_queue_waits-requires-clause-right c = no_fault _ (sym c.may_move.ensures ∙ c.if-may_move.true)
+pub write_waits-requires-clause-right : goal.write_waits-requires-clause-right
+write_waits-requires-clause-right c = no_fault _ (sym c.may_move.ensures ∙ c.if-may_move.true)
 
 pub returns-then-may_move : goal.returns-then-may_move
 returns-then-may_move c = λ script world stands.
-    let pid = c.args.pid in
+    let pid = c.args.place.pid in
     let fd = to_z-of_z w64 c.args.fd c.ranges.fd in
     let addr = to_z-of_z w64 c.args.addr c.ranges.addr in
     let n = to_z-of_z w64 c.args.n c.ranges.n in
     let right = of_three (λ x y z. c.may_move.result ≡ is_none (moved_fault 0 y z)) _ _ _ c.args.fd c.args.addr c.args.n fd addr n c.may_move.ensures in
-    of_three (λ x y z. c.write_queue_waits.result ≡ blocks (write script world.plain pid x y z c.args.done)) _ _ _ c.args.fd c.args.addr c.args.n fd addr n
-    (c.write_queue_waits.ensures script stands.files.numbers world.plain world.account (queues_stand script c.args.objects.now world stands))
+    of_three (λ x y z. c.write_waits.result ≡ blocks (write script world.plain pid x y z c.args.done)) _ _ _ c.args.fd c.args.addr c.args.n fd addr n
+    (c.write_waits.ensures script stands.files.numbers world.plain world.account (queues_stand script c.args.objects.now world stands))
     ∙ sym (blocks_right script world.plain pid (moved_fault 0 c.args.addr c.args.n) (write script world.plain pid c.args.fd c.args.addr c.args.n c.args.done) (sym right ∙ c.if-may_move.true))
 
 pub returns-else-may_move : goal.returns-else-may_move
@@ -36,4 +36,4 @@ returns-else-may_move c = λ script world stands.
     let addr = to_z-of_z w64 c.args.addr c.ranges.addr in
     let n = to_z-of_z w64 c.args.n c.ranges.n in
     let right = of_three (λ x y z. c.may_move.result ≡ is_none (moved_fault 0 y z)) _ _ _ c.args.fd c.args.addr c.args.n fd addr n c.may_move.ensures in
-    c.if-may_move.false ∙ sym (blocks_wrong script world.plain c.args.pid (moved_fault 0 c.args.addr c.args.n) (write script world.plain c.args.pid c.args.fd c.args.addr c.args.n c.args.done) (sym right ∙ c.if-may_move.false))
+    c.if-may_move.false ∙ sym (blocks_wrong script world.plain c.args.place.pid (moved_fault 0 c.args.addr c.args.n) (write script world.plain c.args.place.pid c.args.fd c.args.addr c.args.n c.args.done) (sym right ∙ c.if-may_move.false))

@@ -27,6 +27,12 @@ boot-procs-requires c =
     let bytes : rooted.heap ≡ c.args.heap = rooted_size c.args.heap (new_root c.args.blocks) empty rooted c.in_ok-heap.ensures.empty root in
     omega arith
 
+pub key_there-key-requires-clause-stored : goal.key_there-key-requires-clause-stored
+key_there-key-requires-clause-stored c =
+    let owned : IsOwned c.boot-3.new.heap no_owners =
+    rooted_owned c.args.heap (new_root c.args.blocks) c.in_ok-heap.heap c.boot-3.new.heap c.in_ok-heap.ensures.empty c.in-Ok.ensures.root in
+    (c.boot-procs.ensures.moves no_owners owned).holds.stored
+
 pub move_on-requires-clause-stored : goal.move_on-requires-clause-stored
 move_on-requires-clause-stored c =
     let owned : IsOwned c.boot-3.new.heap no_owners =

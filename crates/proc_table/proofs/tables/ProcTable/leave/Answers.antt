@@ -1,6 +1,6 @@
 use Rattle.std.proofs.Common.{◌∷◌, [], ◌++◌, cond, sym, ap, ◌∙◌, subst, arith, append-nil}
 use Rattle.proc_table.specs.Table.{AreBetween}
-use Rattle.proc_table.specs.declared.places.Listed.{Listed}
+use Rattle.proc_table.specs.declared.places.Place.{Place}
 use Rattle.proc_table.proofs.LeaveLemmas.{IsLeaving-next, IsLeaving-rising, StandsAt, stands_at}
 use Rattle.proc_table.proofs.tables.ProcTable.leave.Goals as goal
 use Rattle.proc_table.proofs.tables.ProcTable.leave.Goals.{then-leave_one, else-leave_one}
@@ -10,7 +10,7 @@ loop-place-preserved c =
     let stands : StandsAt c.as_slice-place-items.result.now c.loop-place.place-index = stands_at c.as_slice-place-items.result.now c.loop-place.place-index c.loop-place-test.true in
     let here = sym (stands.read (record { pid = 0; key = 0 })) in
     IsLeaving-next c.args.pid c.args.status c.args.heap.now c.loop-place.heap c.leave_one.new.heap c.as_slice-place-items.result.now c.args.self.now.last
-    c.loop-place.place-index c.loop-place.left.items c.if-leave_one.left.items _ c.leave_one.result c.loop-place.invariant stands (ap (λ (place : Listed). place.key) here)
+    c.loop-place.place-index c.loop-place.left.items c.if-leave_one.left.items _ c.leave_one.result c.loop-place.invariant stands (ap (λ (place : Place). place.key) here)
     c.leave_one.ensures.left c.leave_one.ensures.stays c.leave_one.ensures.takes
     (elim c.if-leave_one.branch [
       | then-leave_one w ↦ (
