@@ -15,22 +15,22 @@ abbrev last : Tree → ℕ → List ℕ → ℕ → Result Tree Errno
 last tree dir name number = Ok (unlink tree dir name number false)
 
 pub inode-inode-requires-clause-stands : goal.inode-inode-requires-clause-stands
-inode-inode-requires-clause-stands g c =
+inode-inode-requires-clause-stands c =
     let r = c.requires.stands in
     (r.0, r.1, r.2, found_in_use r.0 c.args.parent c.args.name.now c.args.node r.2.is_tree r.3)
 
 pub returns-then-not-is_directory-clause-answer : goal.returns-then-not-is_directory-clause-answer
-returns-then-not-is_directory-clause-answer g c = λ tree pins stands.
+returns-then-not-is_directory-clause-answer c = λ tree pins stands.
     let i = c.inode-inode in
     let file = sym (c.is_directory.ensures tree c.args.node (i.ensures.value tree pins stands)) ∙ c.if-not-is_directory.true in
     let rest = calls.unless (not (calls.is_empty tree c.args.node)) ENOTEMPTY (calls.unless (is_held pins c.args.node) EBUSY (last tree c.args.parent c.args.name.now c.args.node)) in
     subst (λ (b : Bool). ChangedTo i.new.heap i.new.self tree (calls.unless (not b) ENOTDIR rest) pins (Err ENOTDIR)) (sym file) (refl, i.ensures.looks.stands tree pins stands)
 
 pub returns-then-not-is_directory-clause-pays : goal.returns-then-not-is_directory-clause-pays
-returns-then-not-is_directory-clause-pays g c = pays_of c.args.heap.now c.inode-inode.new.heap c.args.purse.now c.inode-inode.new.purse c.args.self.now c.inode-inode.new.self c.inode-inode.ensures.looks
+returns-then-not-is_directory-clause-pays c = pays_of c.args.heap.now c.inode-inode.new.heap c.args.purse.now c.inode-inode.new.purse c.args.self.now c.inode-inode.new.self c.inode-inode.ensures.looks
 
 pub returns-then-inode-ne-NO_ENTRIES-clause-answer : goal.returns-then-inode-ne-NO_ENTRIES-clause-answer
-returns-then-inode-ne-NO_ENTRIES-clause-answer g c = λ tree pins stands.
+returns-then-inode-ne-NO_ENTRIES-clause-answer c = λ tree pins stands.
     let i = c.inode-inode in
     let shows = i.ensures.value tree pins stands in
     let dir = sym (c.is_directory.ensures tree c.args.node shows) ∙ c.if-not-is_directory.false in
@@ -40,18 +40,18 @@ returns-then-inode-ne-NO_ENTRIES-clause-answer g c = λ tree pins stands.
     (subst (λ (b : Bool). ChangedTo i.new.heap i.new.self tree (calls.unless (not b) ENOTEMPTY rest) pins (Err ENOTEMPTY)) (sym some) (refl, i.ensures.looks.stands tree pins stands))
 
 pub returns-then-inode-ne-NO_ENTRIES-clause-pays : goal.returns-then-inode-ne-NO_ENTRIES-clause-pays
-returns-then-inode-ne-NO_ENTRIES-clause-pays g c = pays_of c.args.heap.now c.inode-inode.new.heap c.args.purse.now c.inode-inode.new.purse c.args.self.now c.inode-inode.new.self c.inode-inode.ensures.looks
+returns-then-inode-ne-NO_ENTRIES-clause-pays c = pays_of c.args.heap.now c.inode-inode.new.heap c.args.purse.now c.inode-inode.new.purse c.args.self.now c.inode-inode.new.self c.inode-inode.ensures.looks
 
 pub is_pinned-requires-clause-stands : goal.is_pinned-requires-clause-stands
-is_pinned-requires-clause-stands g c =
+is_pinned-requires-clause-stands c =
     let r = c.requires.stands in
     (r.0, r.1, c.inode-inode.ensures.looks.stands r.0 r.1 r.2)
 
 pub is_pinned-requires-clause-there : goal.is_pinned-requires-clause-there
-is_pinned-requires-clause-there g c = c.inode-inode.ensures.kept
+is_pinned-requires-clause-there c = c.inode-inode.ensures.kept
 
 pub returns-then-is_pinned-clause-answer : goal.returns-then-is_pinned-clause-answer
-returns-then-is_pinned-clause-answer g c = λ tree pins stands.
+returns-then-is_pinned-clause-answer c = λ tree pins stands.
     let r = c.requires.stands in
     let i = c.inode-inode in
     let shows = i.ensures.value tree pins stands in
@@ -62,10 +62,10 @@ returns-then-is_pinned-clause-answer g c = λ tree pins stands.
     (subst (λ (b : Bool). ChangedTo i.new.heap i.new.self tree (calls.unless b EBUSY (last tree c.args.parent c.args.name.now c.args.node)) pins (Err EBUSY)) (sym used) (refl, i.ensures.looks.stands tree pins stands))
 
 pub returns-then-is_pinned-clause-pays : goal.returns-then-is_pinned-clause-pays
-returns-then-is_pinned-clause-pays g c = pays_of c.args.heap.now c.inode-inode.new.heap c.args.purse.now c.inode-inode.new.purse c.args.self.now c.inode-inode.new.self c.inode-inode.ensures.looks
+returns-then-is_pinned-clause-pays c = pays_of c.args.heap.now c.inode-inode.new.heap c.args.purse.now c.inode-inode.new.purse c.args.self.now c.inode-inode.new.self c.inode-inode.ensures.looks
 
 pub take_name-requires-clause-stands : goal.take_name-requires-clause-stands
-take_name-requires-clause-stands g c =
+take_name-requires-clause-stands c =
     let r = c.requires.stands in
     let i = c.inode-inode in
     let shows = i.ensures.value r.0 r.1 r.2 in
@@ -75,10 +75,10 @@ take_name-requires-clause-stands g c =
     (r.0, r.1, i.ensures.looks.stands r.0 r.1 r.2, dir_may r.0 r.1 c.args.parent c.args.name.now c.args.node r.3 none unused)
 
 pub take_name-requires-clause-may : goal.take_name-requires-clause-may
-take_name-requires-clause-may g c = c.inode-inode.ensures.looks.may
+take_name-requires-clause-may c = c.inode-inode.ensures.looks.may
 
 pub returns-clause-answer : goal.returns-clause-answer
-returns-clause-answer g c = λ tree pins stands.
+returns-clause-answer c = λ tree pins stands.
     let r = c.requires.stands in
     let i = c.inode-inode in
     let t = c.take_name in
@@ -90,7 +90,7 @@ returns-clause-answer g c = λ tree pins stands.
     (subst (λ (b : Bool). ChangedTo t.new.heap t.new.self tree (calls.unless b EBUSY (last tree c.args.parent c.args.name.now c.args.node)) pins (Ok tt)) (sym unused) (refl, t.ensures.stands tree pins (i.ensures.looks.stands tree pins stands)))
 
 pub returns-clause-pays : goal.returns-clause-pays
-returns-clause-pays g c =
+returns-clause-pays c =
     let i = c.inode-inode in
     let t = c.take_name in
     pays_trans c.args.heap.now i.new.heap t.new.heap c.args.purse.now i.new.purse t.new.purse c.args.self.now i.new.self t.new.self i.ensures.looks t.ensures.pays
