@@ -1,5 +1,5 @@
 use Rattle.std.proofs.Common.{◌≡◌, ℕ, zero, suc, eqb, not, IsSome, nat_lt, refl, sym, ap, ◌∙◌, subst, arith}
-use Rattle.std.proofs.lemmas.Bool.{lt-ltb}
+use Rattle.std.proofs.lemmas.Bool.{lt-ltb, ne_eqb}
 use Rattle.vnode_cache.specs.Nodes.{node_slot}
 use Rattle.memfs_ops.specs.FileTree.{TreeView, Stands}
 use Rattle.memfs_ops.specs.declared.file_tree.FileTree.TheInside.{Inside}
@@ -11,7 +11,7 @@ view fs = record { names = fs.names; vnodes = fs.vnodes; blocks = fs.blocks; dis
 
 some_pins : (count : ℕ) → not (eqb count 0) ≡ nat_lt 0 count
 some_pins zero = refl
-some_pins (suc count) = sym (lt-ltb 0 (suc count) (omega arith))
+some_pins (suc count) = ap not (ne_eqb (suc count) 0 (λ none. omega (arith, none))) ∙ sym (lt-ltb 0 (suc count) (omega arith))
 
 pub pins-requires-clause-keeps : goal.pins-requires-clause-keeps
 pins-requires-clause-keeps c =
