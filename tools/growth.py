@@ -47,10 +47,10 @@ def reads_beside(asleep):
 # Each row: what grows, its numbers, the script for a number, the most instructions an event at the end, and the most growth in hundredths.
 ROWS = [
     ("asleep in `poll` of eight, while one writes and reads a pipe", (0, 8, 62),
-     of_pipe(["r12 = poll -1 r2 POLLIN r4 POLLIN r2 POLLIN r4 POLLIN r2 POLLIN r4 POLLIN r2 POLLIN r4 POLLIN"]), 40000, 2800),
-    ("asleep in `read`, while one writes and reads a pipe", (0, 8, 62), of_pipe(["r12 = read r2 r1 8"]), 20000, 1400),
-    ("asleep in `poll` of eight, while one asks for a file's bytes and its name", (0, 8, 62), reads_beside, 6000, 400),
-    ("asleep in `waitpid`, while one asks for its pid", (0, 8, 62), waits, 4000, 400),
+     of_pipe(["r12 = poll -1 r2 POLLIN r4 POLLIN r2 POLLIN r4 POLLIN r2 POLLIN r4 POLLIN r2 POLLIN r4 POLLIN"]), 1700, 110),
+    ("asleep in `read`, while one writes and reads a pipe", (0, 8, 62), of_pipe(["r12 = read r2 r1 8"]), 1700, 110),
+    ("asleep in `poll` of eight, while one asks for a file's bytes and its name", (0, 8, 62), reads_beside, 1700, 110),
+    ("asleep in `waitpid`, while one asks for its pid", (0, 8, 62), waits, 1300, 110),
 ]
 
 
