@@ -18,3 +18,4 @@ pub mod Needing
 pub mod Telling
 pub mod Resting
 pub mod BytesCached
+pub mod SettledBlocks

@@ -14,7 +14,7 @@ use crate::phases::{goes_within, has_event, is_asleep, waits_within, waits_witho
 use posix_defs::{Phase, Task, Turner};
 
 /// The place of a pid's task. Pids rise from 1, so it isn't behind the pid's own place, and mostly near it.
-fn place_of(tasks: &[Task], pid: u32) -> Option<usize>
+pub(crate) fn place_of(tasks: &[Task], pid: u32) -> Option<usize>
     requires { AreRising 0 tasks.now }
     ensures place { result ≡ place_from 0 tasks.now pid }
     ensures within { IfSome result (λ place. place < length tasks.now) }

@@ -1,8 +1,9 @@
 //! When a run ends.
 
-ghost use Rattle.std.specs.Prelude.{◌≡◌, ◌==◌, if◌then◌else◌, ℕ, length, Some, None, IsNone, slice_get};
+ghost use Rattle.std.specs.Prelude.{◌≡◌, ◌==◌, ◌<◌, if◌then◌else◌, ℕ, length, Some, None, IsNone, slice_get};
 ghost use Rattle.std.specs.Option.{option_or};
 ghost use Rattle.kabi_types.specs.declared.entries.End.TheVariants.{Spent};
+ghost use Rattle.posix_defs.specs.declared.phases.Task.{Task as TaskOf};
 ghost use Rattle.posix_defs.specs.CoreState.{CoreState};
 ghost use Rattle.posix_defs.specs.SoundTasks.{IsSound};
 ghost use Rattle.posix_defs.specs.Ends.{all_asleep, end_of, starves_for, sleeps_on};
@@ -10,8 +11,8 @@ ghost use Rattle.kern_tasks.specs.View.{IsAt, GoesOn};
 
 use super::Core;
 use kabi_types::End;
-use kern_tasks::{all_sleep, is_alone, phase_of};
-use posix_defs::{Phase, Task, Turner};
+use kern_tasks::{is_alone, phase_of};
+use posix_defs::{Phase, Turner};
 
 impl<T: Turner + Drop> Core<T> {
     /// The end that stands now, the first that holds; None where the run goes on, and then some event may be taken.
@@ -84,16 +85,16 @@ impl<T: Turner + Drop> Core<T> {
     fn all_asleep(&self) -> bool
         ensures { (s : CoreState) → IsAt T.stands self.now s → IsSound (T.script self.now.store) s → result ≡ all_asleep (T.script self.now.store) s }
     {
-        // The phases mostly tell it, which asks nothing of the store.
-        all_sleep(self.tasks.as_slice()) && self.all_block()
+        // How many sleep mostly tells it, which asks nothing of the store.
+        self.asleep as usize == self.tasks.len() && self.all_block()
     }
 
-    /// The same, where the store is asked of each that sleeps.
+    /// The same, where the store is asked of each that is runnable.
     fn all_block(&self) -> bool
         ensures { (s : CoreState) → IsAt T.stands self.now s → IsSound (T.script self.now.store) s → result ≡ all_asleep (T.script self.now.store) s }
     {
-        for (place, task) in self.tasks.iter().enumerate() {
-            if !self.sleeps_on(place, *task) {
+        for place in &self.runnable {
+            if !self.sleeps_on(*place as usize) {
                 return false;
             }
         }
@@ -101,13 +102,14 @@ impl<T: Turner + Drop> Core<T> {
     }
 
     /// Whether a process sleeps on a call that would still block: that of the task at this place.
-    fn sleeps_on(&self, place: usize, task: Task) -> bool
-        requires { slice_get self.now.tasks place ≡ Some task }
-        ensures { (s : CoreState) → IsAt T.stands self.now s → IsSound (T.script self.now.store) s
+    fn sleeps_on(&self, place: usize) -> bool
+        requires { place < length self.now.tasks }
+        ensures { (s : CoreState) (task : TaskOf) → IsAt T.stands self.now s → IsSound (T.script self.now.store) s → slice_get self.now.tasks place ≡ Some task
             → result ≡ sleeps_on (T.script self.now.store) s task.pid task.phase }
     {
+        let task = self.tasks[place];
         match task.phase {
-            Phase::Asleep(_) => !self.goes_on(place, task),
+            Phase::Asleep(_) => !self.goes_on(task),
             _ => false,
         }
     }
