@@ -11,5 +11,7 @@ pub use Rattle.posix_defs.specs.CoreRun
 pub mod Room
 pub mod Calm
 pub mod Places
+pub mod Minding
+pub mod Runnable
 pub mod View
 pub mod Others
