@@ -1,9 +1,13 @@
 -- The tasks that pass a test, beside their places: what holds of them in turn holds of all, where of the others it is known.
-use Rattle.std.proofs.Common.{◌≡◌, ℕ, zero, suc, ◌+◌, ◌-◌, ◌<◌, ◌≤◌, ◌==◌, ◌&&◌, not, Bool, true, false, cond, if◌then◌else◌, List, [], ◌∷◌, ◌++◌, length, filter, Option, None, Some, slice_get, refl, ap, ap₂, sym, ◌∙◌, subst, arith}
+use Rattle.std.proofs.Common.{◌≡◌, ℕ, zero, suc, ◌+◌, ◌-◌, ◌<◌, ◌≤◌, ◌==◌, ◌&&◌, not, Bool, true, false, cond, if◌then◌else◌, List, [], ◌∷◌, ◌++◌, length, filter, Option, None, Some, slice_get, get_or, refl, ap, sym, ◌∙◌, subst, arith}
 use Rattle.std.specs.List.{AllByRecursion, count_by, list_all}
+use borrow.Author.Tests.{eqb-true}
+use Rattle.std.proofs.lemmas.List.Sums.{sum_by-cons}
+use Rattle.std.proofs.lemmas.Option.{slice_get-get_or, slice_get_within}
 use Rattle.kabi_types.specs.declared.entries.Event.{Event}
 use Rattle.kabi_types.specs.declared.scripts.Script.{Script}
 use Rattle.posix_defs.specs.declared.phases.Phase.{Phase}
+use Rattle.posix_defs.specs.declared.phases.Phase.TheVariants.{Dead}
 use Rattle.posix_defs.specs.declared.phases.Task.{Task}
 use Rattle.posix_defs.specs.CoreState.{CoreState, phase_in, with_phase_in}
 use Rattle.posix_defs.specs.Choice.{events_in, events_of}
@@ -53,6 +57,18 @@ picked_at passes first (task ∷ tasks) i place e = go (passes task) i e (picked
     go true (suc i) f more = later i f more (task ∷ filter passes tasks) (suc i) refl
     go false i f more = later i f more (filter passes tasks) i refl
 
+-- where there is no place of a number no task is picked with it
+pub none_picked : (passes : Task → Bool) (first : ℕ) (tasks : List Task) (i : ℕ) → slice_get (places_from passes first tasks) i ≡ None → slice_get (filter passes tasks) i ≡ None
+none_picked passes first [] i e = refl
+none_picked passes first (task ∷ tasks) i e = go (passes task) i e (none_picked passes (first + 1) tasks)
+  where
+    go : (b : Bool) (i : ℕ) → slice_get (if b then first ∷ places_from passes (first + 1) tasks else places_from passes (first + 1) tasks) i ≡ None
+        → ((i : ℕ) → slice_get (places_from passes (first + 1) tasks) i ≡ None → slice_get (filter passes tasks) i ≡ None)
+        → slice_get (cond b (task ∷ filter passes tasks) (filter passes tasks)) i ≡ None
+    go true zero f more = cc
+    go true (suc i) f more = more i f
+    go false i f more = more i f
+
 -- each of these places has its task
 pub within_tasks : (passes : Task → Bool) (first : ℕ) (tasks : List Task) (i place : ℕ) → slice_get (places_from passes first tasks) i ≡ Some place → place < first + length tasks
 within_tasks passes first [] i place e = cc
@@ -92,29 +108,36 @@ all_picked test passes (task ∷ tasks) others = go (passes task) refl (all_pick
 
 -- the places that pass stay, where the task passes in its new phase as it did in its old one
 pub places_with : (passes : Task → Bool) (first : ℕ) (tasks : List Task) (pid : ℕ) (phase : Phase)
-    → ((task : Task) → task.phase ≡ phase_in tasks pid → passes task ≡ passes (record task { phase = phase }))
+    → ((task : Task) → task.pid ≡ pid → task.phase ≡ phase_in tasks pid → passes task ≡ passes (record task { phase = phase }))
     → places_from passes first (with_phase_in tasks pid phase) ≡ places_from passes first tasks
 places_with passes first [] pid phase same = refl
 places_with passes first (task ∷ tasks) pid phase same = go (task.pid == pid) refl (places_with passes (first + 1) tasks pid phase)
   where
+    one_pid : (task.pid == pid) ≡ true → task.pid ≡ pid
+    one_pid e = eqb-true task.pid pid e
+
     go : (b : Bool) → (task.pid == pid) ≡ b
-        → (((other : Task) → other.phase ≡ phase_in tasks pid → passes other ≡ passes (record other { phase = phase }))
+        → (((other : Task) → other.pid ≡ pid → other.phase ≡ phase_in tasks pid → passes other ≡ passes (record other { phase = phase }))
           → places_from passes (first + 1) (with_phase_in tasks pid phase) ≡ places_from passes (first + 1) tasks)
         → places_from passes first (if b then record task { phase = phase } ∷ tasks else task ∷ with_phase_in tasks pid phase)
         ≡ (if passes task then first ∷ places_from passes (first + 1) tasks else places_from passes (first + 1) tasks)
     go true is later =
         ap (λ p. if p then first ∷ places_from passes (first + 1) tasks else places_from passes (first + 1) tasks)
-        (sym (same task (sym (ap (λ b. if b then task.phase else phase_in tasks pid) is))))
+        (sym (same task (one_pid is) (sym (ap (λ b. if b then task.phase else phase_in tasks pid) is))))
     go false is later =
         ap (λ rest. if passes task then first ∷ rest else rest)
-        (later (λ other e. same other (e ∙ sym (ap (λ b. if b then task.phase else phase_in tasks pid) is))))
+        (later (λ other own e. same other own (e ∙ sym (ap (λ b. if b then task.phase else phase_in tasks pid) is))))
 
 -- ---- by counts
+
+-- one task more
+pub counted_one : (test : Task → Bool) (task : Task) (tasks : List Task) → count_by test (task ∷ tasks) ≡ cond (test task) 1 0 + count_by test tasks
+counted_one test task tasks = sum_by-cons (λ t. cond (test t) 1 0) task tasks
 
 -- no more pass than there are; and where all do it is as many
 pub no_more : (test : Task → Bool) (tasks : List Task) → count_by test tasks ≤ length tasks
 no_more test [] = omega arith
-no_more test (task ∷ tasks) = go (test task) (no_more test tasks)
+no_more test (task ∷ tasks) = subst (λ n. n ≤ length (task ∷ tasks)) (sym (counted_one test task tasks)) (go (test task) (no_more test tasks))
   where
     go : (b : Bool) → count_by test tasks ≤ length tasks → cond b 1 0 + count_by test tasks ≤ length (task ∷ tasks)
     go true fewer = omega arith
@@ -122,9 +145,101 @@ no_more test (task ∷ tasks) = go (test task) (no_more test tasks)
 
 pub as_many_as_all : (test : Task → Bool) (tasks : List Task) → list_all test tasks ≡ true → count_by test tasks ≡ length tasks
 as_many_as_all test [] e = refl
-as_many_as_all test (task ∷ tasks) e = go (test task) e (as_many_as_all test tasks)
+as_many_as_all test (task ∷ tasks) e = counted_one test task tasks ∙ go (test task) e (as_many_as_all test tasks)
   where
     go : (b : Bool) → (b && list_all test tasks) ≡ true → (list_all test tasks ≡ true → count_by test tasks ≡ length tasks)
         → cond b 1 0 + count_by test tasks ≡ length (task ∷ tasks)
     go true f rest = let same : count_by test tasks ≡ length tasks = rest f in omega arith
-    go false f rest = cc
+    go false f rest = absurd (let e : false ≡ true = f in (cc))
+
+-- where fewer pass than there are not all do
+pub not_as_many : (test : Task → Bool) (tasks : List Task) (count : ℕ) → count ≡ count_by test tasks → count < length tasks → list_all test tasks ≡ false
+not_as_many test tasks count is fewer = go (list_all test tasks) refl
+  where
+    go : (b : Bool) → list_all test tasks ≡ b → list_all test tasks ≡ false
+    go true e = absurd (let all : count_by test tasks ≡ length tasks = as_many_as_all test tasks e in omega arith)
+    go false e = e
+
+-- Where tasks that sleep and tasks that are runnable are as many as tasks together, none is both: of each that sleeps it is settled.
+dozes : (ℕ → Bool) → Task → Bool
+dozes settled task = is_asleep task.phase && is_runnable settled task
+
+together : (settled : ℕ → Bool) (task : Task) → cond (is_asleep task.phase) 1 0 + cond (is_runnable settled task) 1 0 ≡ 1 + cond (dozes settled task) 1 0
+unfolding dozes
+together settled task = go (is_asleep task.phase) (settled task.pid)
+  where
+    go : (a b : Bool) → cond a 1 0 + cond (not (a && b)) 1 0 ≡ 1 + cond (a && not (a && b)) 1 0
+    go true true = refl
+    go true false = refl
+    go false b = refl
+
+counted_twice : (settled : ℕ → Bool) (tasks : List Task)
+    → count_by (λ task. is_asleep task.phase) tasks + length (filter (is_runnable settled) tasks) ≡ length tasks + count_by (dozes settled) tasks
+counted_twice settled [] = refl
+counted_twice settled (task ∷ tasks) =
+    let asleep = counted_one (λ t. is_asleep t.phase) task tasks in
+    let both = counted_one (dozes settled) task tasks in
+    let one : cond (is_asleep task.phase) 1 0 + cond (is_runnable settled task) 1 0 ≡ 1 + cond (dozes settled task) 1 0 = together settled task in
+    let rest : count_by (λ t. is_asleep t.phase) tasks + length (filter (is_runnable settled) tasks) ≡ length tasks + count_by (dozes settled) tasks = counted_twice settled tasks in
+    let more : length (filter (is_runnable settled) (task ∷ tasks)) ≡ cond (is_runnable settled task) 1 0 + length (filter (is_runnable settled) tasks) = picked (is_runnable settled task) in
+    omega arith
+  where
+    picked : (b : Bool) → length (cond b (task ∷ filter (is_runnable settled) tasks) (filter (is_runnable settled) tasks)) ≡ cond b 1 0 + length (filter (is_runnable settled) tasks)
+    picked true = (let e : suc (length (filter (is_runnable settled) tasks)) ≡ 1 + length (filter (is_runnable settled) tasks) = omega arith in e)
+    picked false = (let e : length (filter (is_runnable settled) tasks) ≡ 0 + length (filter (is_runnable settled) tasks) = omega arith in e)
+
+none_counted : (settled : ℕ → Bool) (tasks : List Task) → count_by (dozes settled) tasks ≡ 0 → AllByRecursion (λ task. dozes settled task ≡ false) tasks
+none_counted settled [] e = tt
+none_counted settled (task ∷ tasks) e =
+    let both = counted_one (dozes settled) task tasks in
+    (one (dozes settled task) (omega arith), none_counted settled tasks (omega arith))
+  where
+    one : (b : Bool) → cond b 1 0 ≡ 0 → b ≡ false
+    one true f = absurd (omega (arith, f))
+    one false f = refl
+
+settled_so : (settled : ℕ → Bool) (tasks : List Task) → AllByRecursion (λ task. dozes settled task ≡ false) tasks
+    → AllByRecursion (λ task. is_asleep task.phase ≡ true → settled task.pid ≡ true) tasks
+settled_so settled [] none = tt
+settled_so settled (task ∷ tasks) none = (one task none.0, settled_so settled tasks none.1)
+  where
+    go : (a b : Bool) → (a && not (a && b)) ≡ false → a ≡ true → b ≡ true
+    go true true f e = refl
+    go true false f e = absurd (let g : true ≡ false = f in (cc))
+    go false b f e = absurd (let g : false ≡ true = e in (cc))
+
+    one : (task : Task) → dozes settled task ≡ false → is_asleep task.phase ≡ true → settled task.pid ≡ true
+    unfolding dozes
+    one task f = go (is_asleep task.phase) (settled task.pid) f
+
+pub none_dozes : (settled : ℕ → Bool) (tasks : List Task) (asleep : ℕ) (runnable : List ℕ) → asleep ≡ count_by (λ task. is_asleep task.phase) tasks
+    → runnable ≡ places_from (is_runnable settled) 0 tasks → asleep + length runnable ≡ length tasks
+    → AllByRecursion (λ task. is_asleep task.phase ≡ true → settled task.pid ≡ true) tasks
+none_dozes settled tasks asleep runnable asleep_is runnable_is whole =
+    let many : length runnable ≡ length (filter (is_runnable settled) tasks) = ap length runnable_is ∙ as_many_places (is_runnable settled) 0 tasks in
+    let twice = counted_twice settled tasks in
+    settled_so settled tasks (none_counted settled tasks (omega arith))
+
+-- ---- the task at the place of a number
+
+-- any task
+pub nobody : Task
+nobody = record { pid = 0; phase = Dead }
+
+pub record IsThere (passes : Task → Bool) (tasks : List Task) (i place : ℕ) : Type 0 where
+  pub within : place < length tasks
+  pub within_picked : i < length (filter passes tasks)
+  pub there : slice_get tasks place ≡ Some (get_or (filter passes tasks) i nobody)
+
+pub is_there : (passes : Task → Bool) (tasks : List Task) (places : List ℕ) (i place : ℕ) → places ≡ places_from passes 0 tasks → slice_get places i ≡ Some place
+    → IsThere passes tasks i place
+is_there passes tasks places i place same found =
+    let at = ap (λ ps. slice_get ps i) (sym same) ∙ found in
+    let it = picked_at passes 0 tasks i place at in
+    let within : i < length (filter passes tasks) =
+    subst (λ n. i < n) (ap length same ∙ as_many_places passes 0 tasks) (slice_get_within places i place found) in
+    record {
+      within = let h : place < 0 + length tasks = within_tasks passes 0 tasks i place at in omega arith;
+      within_picked = within;
+      there = ap (slice_get tasks) (let e : place ≡ place - 0 = omega arith in e) ∙ it.same ∙ slice_get-get_or (filter passes tasks) i nobody within;
+    }

@@ -11,7 +11,10 @@ use Rattle.posix_defs.specs.CoreState.{CoreState}
 use Rattle.posix_defs.specs.Ends.{sleeps_on}
 use Rattle.posix_defs.specs.Machine.{would_block}
 use Rattle.posix_defs.specs.Process.{is_alive}
+use Rattle.posix_defs.specs.World.{World}
+use Rattle.posix_defs.specs.Enabled.{IsReady}
 use Rattle.posix_defs.specs.SoundTasks.{IsSound, PhaseFits, TaskFits}
+use Rattle.kern_laws.proofs.Tasks.{found_fits}
 use Rattle.kern_tasks.specs.Room.{has_event, is_asleep}
 use Rattle.kern_tasks.specs.Runnable.{is_runnable}
 use Rattle.kern_tasks.proofs.Picked.{all_picked, events_picked}
@@ -80,3 +83,19 @@ all_have settled room (task ∷ tasks) each = go (is_runnable settled task) refl
         → list_all (λ t. has_event room t.phase) (if b then task ∷ filter (is_runnable settled) tasks else filter (is_runnable settled) tasks) ≡ true
     go true is rest = ap (λ b. b && list_all (λ t. has_event room t.phase) (filter (is_runnable settled) tasks)) (each.0 is) ∙ rest
     go false is rest = rest
+
+-- who wouldn't block isn't settled
+pub ready_unsettled : {T : Type 0} (stands_for : T → World → Type 0) (settled : T → ℕ → Bool) (script_of : T → Script)
+    → ((store : T) (world : World) (pid : ℕ) → stands_for store world → settled store pid ≡ true → is_alive world.plain.table pid ≡ true → would_block (script_of store) world.plain pid ≡ true)
+    → (store : T) (s : CoreState) (pid : ℕ) → IsSound (script_of store) s → stands_for store s.world → IsReady (script_of store) s pid → settled store pid ≡ false
+ready_unsettled stands_for settled script_of law store s pid sound stands ready = go (settled store pid) refl
+  where
+    fits : TaskFits (script_of store) s.world.plain (record { pid = pid; phase = Asleep ready.sleeps.asked })
+    fits = found_fits (script_of store) s.world.plain s.tasks pid (Asleep ready.sleeps.asked) sound.each ready.sleeps.is (λ e. (cc))
+
+    wrong : true ≡ false → ⊥
+    wrong e = cc
+
+    go : (b : Bool) → settled store pid ≡ b → settled store pid ≡ false
+    go true e = absurd (wrong (sym (law store s.world pid stands e fits.phase.0) ∙ ready.ready))
+    go false e = e

@@ -1,7 +1,7 @@
 //! Which tasks are runnable: all but those whose calls sleep and of which the store keeps in mind that they would block. They are
 //! kept by their places, so that an event looks at no task beside.
 
-ghost use Rattle.std.specs.Prelude.{◌≡◌, ◌+◌, ◌≤◌, ◌<◌, ◌++◌, if◌then◌else◌, Bool, false, true, length, vec_len, vec_capacity};
+ghost use Rattle.std.specs.Prelude.{◌≡◌, ◌≢◌, ◌+◌, ◌≤◌, ◌<◌, ◌++◌, if◌then◌else◌, Bool, false, true, Some, length, slice_get, vec_len, vec_capacity};
 ghost use Rattle.std.specs.List.{count_by};
 ghost use Rattle.posix_defs.specs.declared.phases.Task.{Task as TaskOf};
 ghost use Rattle.posix_defs.specs.SoundTasks.{AreRising};
@@ -27,10 +27,24 @@ fn count_below(places: &[u32], place: u32) -> usize
     ensures within { result ≤ length places.now }
 {
     let mut count = places.len();
-    while count > 0 && places[count - 1] >= place {
+    while count > 0 {
+        if places[count - 1] < place {
+            return count;
+        }
         count -= 1;
     }
-    count
+    0
+}
+
+/// Whether a place stands at this number of them.
+fn stands_at(places: &[u32], at: usize, place: u32) -> bool
+    ensures stands { result ≡ true → slice_get places.now at ≡ Some place }
+    ensures apart { result ≡ false → slice_get places.now at ≢ Some place }
+{
+    if at >= places.len() {
+        return false;
+    }
+    places[at] == place
 }
 
 /// Has a place stand among places that rise, or not.
@@ -41,14 +55,21 @@ fn put_place(places: &mut Vec<u32>, place: u32, there: bool)
     ensures room { vec_capacity places.old ≤ vec_capacity places.new }
 {
     let at = count_below(places.as_slice(), place);
-    let stands = at < places.len() && places[at] == place;
-    if stands && !there {
-        places.remove(at);
-    }
-    if there && !stands {
+    if stands_at(places.as_slice(), at, place) {
+        if !there {
+            places.remove(at);
+        }
+    } else if there {
         // There is room.
         let _ = places.insert(at, place);
     }
+}
+
+/// The place of this number.
+pub fn place_at(places: &[u32], number: u32) -> Option<u32>
+    ensures { result ≡ slice_get places.now number }
+{
+    places.get(number as usize).copied()
 }
 
 /// Looks anew whether the task of a pid is runnable, if there is one.
@@ -142,6 +163,31 @@ fn add_runnable(tasks: &[Task], runnable: &mut Vec<u32>, born: bool)
     }
 }
 
+/// Looks anew at the task of a process whose turn left its call asleep, and counts it.
+fn place_sleeper<T: Turner>(
+    store: &T,
+    tasks: &[Task],
+    runnable: &mut Vec<u32>,
+    asleep: &mut u32,
+    pid: u32,
+    sleeps: bool,
+)
+    requires rising { AreRising 0 tasks.now }
+    requires few { length tasks.now ≤ 100001 }
+    requires places { ArePlaces tasks.now runnable.old.items }
+    requires room { length tasks.now < vec_capacity runnable.old }
+    requires asleep { asleep.old < 4294967295 }
+    ensures items { (passes : TaskOf → Bool) → runnable.old.items ≡ places_from passes 0 tasks.now
+        → runnable.new.items ≡ places_from (if sleeps then but_for passes pid (is_runnable (T.settled store.now)) else passes) 0 tasks.now }
+    ensures asleep { asleep.new ≡ asleep.old + (if sleeps then 1 else 0) }
+    ensures room { vec_capacity runnable.old ≤ vec_capacity runnable.new }
+{
+    if sleeps {
+        *asleep += 1;
+        place_anew(store, tasks, runnable, pid);
+    }
+}
+
 /// Looks anew at tasks behind a turn: at all where it may have ended somebody, else at that of its process, where its call sleeps now, at
 /// those of whom the store names, and at the last, where it was born.
 #[inline(never)]
@@ -172,10 +218,7 @@ fn sort_some<T: Turner>(
         return;
     }
     add_runnable(tasks, runnable, born);
-    if sleeps {
-        *asleep += 1;
-        place_anew(store, tasks, runnable, pid);
-    }
+    place_sleeper(store, tasks, runnable, asleep, pid, sleeps);
     sort_stirred(store, tasks, runnable);
 }
 

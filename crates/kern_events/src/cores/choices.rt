@@ -12,7 +12,7 @@ ghost use Rattle.kern_events.specs.Sleepers.{HaveEvents, NoneDozes};
 
 use super::Core;
 use kabi_types::Event;
-use kern_tasks::{all_have_events, count_present, present_at};
+use kern_tasks::{all_have_events, count_present, place_at, present_at};
 use posix_defs::Turner;
 
 impl<T: Turner + Drop> Core<T> {
@@ -45,8 +45,8 @@ impl<T: Turner + Drop> Core<T> {
     {
         let count = self.runnable.len() as u32;
         let chosen = number % (count + count_present(others));
-        match self.runnable.get(chosen as usize) {
-            Some(place) => self.event_at(*place as usize),
+        match place_at(self.runnable.as_slice(), chosen) {
+            Some(place) => self.event_at(place as usize),
             None => present_at(others, chosen - count),
         }
     }
@@ -55,7 +55,10 @@ impl<T: Turner + Drop> Core<T> {
     fn all_go(&self) -> bool
         ensures { result ≡ true → HaveEvents (T.settled self.now.store) (T.script self.now.store).heap self.now.charged self.now.tasks }
     {
-        self.none_dozes() && (self.all_fit() || self.all_awake_go())
+        if !self.none_dozes() {
+            return false;
+        }
+        self.all_fit() || self.all_awake_go()
     }
 
     /// Whether each call that sleeps is one of which the store keeps in mind that it would block.
@@ -69,7 +72,10 @@ impl<T: Turner + Drop> Core<T> {
     fn all_awake_go(&self) -> bool
         ensures { result ≡ true → HaveEvents (T.settled self.now.store) (T.script self.now.store).heap self.now.charged self.now.tasks }
     {
-        self.asleep == 0 && all_have_events(self.tasks.as_slice(), self.room())
+        if self.asleep > 0 {
+            return false;
+        }
+        all_have_events(self.tasks.as_slice(), self.room())
     }
 
     /// The event that is taken where nothing else is chosen: the first that may be, or where a call waits in vain the first

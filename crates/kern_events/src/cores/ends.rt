@@ -86,7 +86,10 @@ impl<T: Turner + Drop> Core<T> {
         ensures { (s : CoreState) → IsAt T.stands self.now s → IsSound (T.script self.now.store) s → result ≡ all_asleep (T.script self.now.store) s }
     {
         // How many sleep mostly tells it, which asks nothing of the store.
-        self.asleep as usize == self.tasks.len() && self.all_block()
+        if (self.asleep as usize) < self.tasks.len() {
+            return false;
+        }
+        self.all_block()
     }
 
     /// The same, where the store is asked of each that is runnable.
