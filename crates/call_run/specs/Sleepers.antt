@@ -1,12 +1,13 @@
 -- What the store keeps in mind of the calls that sleep.
-use Rattle.std.specs.Prelude.{ℕ, ◌≡◌, ◌==◌, ◌+◌, ◌<◌, ◌≤◌, ◌≢◌, ℤ, nat_lt, not, Bool, true, false, if◌then◌else◌, List, [], ◌∷◌, Option, None, Some, slice_get, slice_set, filter}
+use Rattle.std.specs.Prelude.{ℕ, ◌≡◌, ◌==◌, ◌+◌, ◌<◌, ◌≢◌, ℤ, nat_lt, not, Bool, true, false, if◌then◌else◌, List, [], ◌∷◌, Option, None, Some, slice_get, slice_index_or, slice_set, remove, replicate, filter, map}
 use Rattle.std.specs.List.{AllByRecursion}
 use Rattle.std.specs.Option.{option_and_then}
 use Rattle.kabi_types.specs.declared.calls.Call.{Call}
 use Rattle.kabi_types.specs.declared.scripts.Script.{Script}
 use Rattle.machine_laws.specs.Reached.{IsReached}
 use Rattle.posix_defs.specs.Machine.{would_block}
-use Rattle.posix_defs.specs.Plain.{Plain, call_of, last_pid}
+use Rattle.posix_defs.specs.Minding.{is_among}
+use Rattle.posix_defs.specs.Plain.{Plain, call_of}
 use Rattle.posix_defs.specs.Process.{is_alive}
 use Rattle.posix_defs.specs.Turn.{TurnsTo}
 use Rattle.posix_defs.specs.World.{World}
@@ -91,6 +92,25 @@ stands_in told place pid = is_at (slice_get told place) pid
 abbrev pub without : List Sleeper → ℕ → List Sleeper
 without told pid = filter (λ sleeper. not (sleeper.pid == pid)) told
 
+-- who falls asleep isn't told to be apart from anything
+abbrev pub lain : ℕ → Bool → Sleeper
+lain pid blocks = record { pid = pid; blocks = blocks; apart = replicate 32 false }
+
+-- among those who rise by pid one more
+abbrev pub with_sleeper : List Sleeper → Sleeper → List Sleeper
+with_sleeper [] new = new ∷ []
+with_sleeper (sleeper ∷ told) new = if nat_lt sleeper.pid new.pid then sleeper ∷ with_sleeper told new else new ∷ sleeper ∷ told
+
+-- ---- who is named
+
+-- Beside those who were named each is of whom it is kept in mind anew, or no more, that his call would block.
+abbrev pub NamesMore : List Sleeper → List ℕ → List Sleeper → List ℕ → Type 0
+NamesMore old named new more = (who : ℕ) → is_among more who ≡ false → (is_among named who ≡ false) × (is_settled new who ≡ is_settled old who)
+
+-- the same of one sleeper
+abbrev pub NamesOne : List ℕ → Sleeper → Sleeper → List ℕ → Type 0
+NamesOne named old new more = (who : ℕ) → is_among more who ≡ false → (is_among named who ≡ false) × (who ≡ old.pid → new.blocks ≡ old.blocks)
+
 -- ---- channels
 
 -- the channel of a place, if there is one
@@ -108,18 +128,36 @@ pub record IsOf (channel : Option Channel) (pid : ℕ) (fd : ℤ) : Type 0 where
 abbrev pub IsToldApart : Sleeper → ℕ → Type 0
 IsToldApart sleeper place = slice_get sleeper.apart place ≡ Some true
 
+-- It is that of this number of this process, and all sleepers are told to be apart from it.
+pub record IsPassed (channel : Option Channel) (pid : ℕ) (fd : ℤ) : Type 0 where
+  pub it : Channel
+  pub there : channel ≡ Some it
+  pub pid : it.pid ≡ pid
+  pub fd : it.fd ≡ fd
+  pub all_apart : it.all_apart ≡ true
+
+-- the same channel, but that it isn't told to have all apart from it
+abbrev pub doubted : Option Channel → Option Channel
+doubted None = None
+doubted (Some channel) = Some (record channel { all_apart = false })
+
+-- it isn't told of the sleeper that he is apart from what stands at this place
+abbrev pub begun : ℕ → Sleeper → Sleeper
+begun place sleeper = record sleeper { apart = slice_set sleeper.apart place false }
+
 -- there is no such channel, or what the sleeper waits for has nothing to do with what its number is open on, where that is told
 abbrev pub IsApartAt : Script → Plain → Sleeper → ℕ → Option Channel → Type 0
 IsApartAt script plain sleeper place None = Unit {0}
 IsApartAt script plain sleeper place (Some channel) =
     IsToldApart sleeper place → is_apart script plain sleeper.pid channel.pid channel.fd ≡ true
 
--- where it is told of a channel that all are apart from it, they are; its process was made
+-- Where somebody sleeps a channel's process is alive, and all are apart from it where that is told.
 abbrev pub IsChannel : Script → Plain → List Sleeper → Option Channel → Type 0
 IsChannel script plain told None = Unit {0}
-IsChannel script plain told (Some channel) =
-    (channel.pid ≤ last_pid plain)
-    × (channel.all_apart ≡ true → AllByRecursion (λ sleeper. is_apart script plain sleeper.pid channel.pid channel.fd ≡ true) told)
+IsChannel script plain [] (Some channel) = Unit {0}
+IsChannel script plain (sleeper ∷ told) (Some channel) =
+    (is_alive plain.table channel.pid ≡ true)
+    × (channel.all_apart ≡ true → AllByRecursion (λ one. is_apart script plain one.pid channel.pid channel.fd ≡ true) (sleeper ∷ told))
 
 -- ---- what is known of sleepers is what the machine says
 
@@ -141,37 +179,49 @@ pub record AreMinded (script : Script) (plain : Plain) (told : List Sleeper) (ch
 abbrev pub AreTrulyTold : Script → Objects → List Sleeper → Type 0
 AreTrulyTold script objects told = (world : World) → StandsFor script objects world → AllByRecursion (IsTrulyTold script world.plain) told
 
+-- Sleepers stand by rising pid, and where no channel is open there is none.
+pub record AreKeptAsleep (told : List Sleeper) (channels : List (Option Channel)) (open : Bool) : Type 0 where
+  pub rising : AreRising 0 told
+  pub closed : open ≡ false → (place : ℕ) → channel_at channels place ≡ None
+
 -- ---- what changes
 
--- These are the same sleepers, but for some who are gone, asked again whether they would block, and told of no other channel than this
--- to be apart from it: where that is told anew it is so in every world.
-pub data AreAsked (script : Script) (objects : Objects) (channel : Option ℕ) (pid : ℕ) (fd : ℤ) : List Sleeper → List Sleeper → Type 0 where
-  nobody : AreAsked script objects channel pid fd [] []
-  goes : (sleeper : Sleeper) (old new : List Sleeper) → AreAsked script objects channel pid fd old new → AreAsked script objects channel pid fd (sleeper ∷ old) new
-  stays : (sleeper : Sleeper) (blocks : Bool) (old new : List Sleeper) → AreAsked script objects channel pid fd old new
-      → AreAsked script objects channel pid fd (sleeper ∷ old) (record sleeper { blocks = blocks } ∷ new)
-  learns : (sleeper : Sleeper) (place : ℕ) (old new : List Sleeper) → channel ≡ Some place
-      → ((world : World) → StandsFor script objects world → is_apart script world.plain sleeper.pid pid fd ≡ true)
-      → AreAsked script objects channel pid fd old new
-      → AreAsked script objects channel pid fd (sleeper ∷ old) (record sleeper { apart = slice_set sleeper.apart place true } ∷ new)
+-- any sleeper
+abbrev pub any_sleeper : Sleeper
+any_sleeper = lain 0 false
 
--- the same channel, but that it isn't told to have all apart from it
-abbrev pub IsDoubted : Option Channel → Option Channel → Type 0
-IsDoubted None new = new ≡ None
-IsDoubted (Some channel) new = new ≡ Some (record channel { all_apart = false })
+-- Who stands at a place was asked again, and lives; or he has ended, and is forgotten.
+pub data IsLookedAt (script : Script) (objects : Objects) (old : List Sleeper) (place : ℕ) : List Sleeper → Type 0 where
+  asked : (sleeper : Sleeper) → sleeper.pid ≡ (slice_index_or old place any_sleeper).pid
+      → ((world : World) → StandsFor script objects world → IsTrulyTold script world.plain sleeper) → IsLookedAt script objects old place (slice_set old place sleeper)
+  gone : IsLookedAt script objects old place (remove old place)
 
--- so are all
-abbrev pub AreDoubted : List (Option Channel) → List (Option Channel) → Type 0
-AreDoubted old new = (place : ℕ) → IsDoubted (channel_at old place) (channel_at new place)
+-- A sleeper is told to be apart from the channel at this place, or learns it; or he was asked again.
+pub data IsNear (script : Script) (objects : Objects) (pid : ℕ) (fd : ℤ) (channel : ℕ) : Sleeper → Sleeper → Bool → Type 0 where
+  told : (sleeper : Sleeper) → IsToldApart sleeper channel → IsNear script objects pid fd channel sleeper sleeper false
+  learns : (sleeper : Sleeper)
+      → ((world : World) → StandsFor script objects world → is_alive world.plain.table sleeper.pid ≡ true → is_apart script world.plain sleeper.pid pid fd ≡ true)
+      → IsNear script objects pid fd channel sleeper (record sleeper { apart = slice_set sleeper.apart channel true }) false
+  asked : (sleeper : Sleeper) (blocks : Bool) → (IsToldApart sleeper channel → ⊥)
+      → ((world : World) → StandsFor script objects world → is_alive world.plain.table sleeper.pid ≡ true → would_block script world.plain sleeper.pid ≡ blocks)
+      → IsNear script objects pid fd channel sleeper (record sleeper { blocks = blocks }) true
 
--- it is gone, or it is the same, and of another process than this
-abbrev pub StaysOrGoes : ℕ → Option Channel → Option Channel → Type 0
-StaysOrGoes pid old None = Unit {0}
-StaysOrGoes pid old (Some channel) = (old ≡ Some channel) × (channel.pid ≢ pid)
+-- so it is of all, and none was asked again, unless that is said
+abbrev pub AreNear : Script → Objects → ℕ → ℤ → ℕ → List Sleeper → List Sleeper → Bool → Type 0
+AreNear script objects pid fd channel [] [] near = Unit {0}
+AreNear script objects pid fd channel (old ∷ olds) (new ∷ news) near =
+    ((one : Bool) × IsNear script objects pid fd channel old new one × (one ≡ true → near ≡ true)) × AreNear script objects pid fd channel olds news near
+AreNear script objects pid fd channel _ _ near = ⊥
 
--- no channel is of this process, and every other one stays or is gone
-abbrev pub AreWithout : List (Option Channel) → ℕ → List (Option Channel) → Type 0
-AreWithout old pid new = (place : ℕ) → StaysOrGoes pid (channel_at old place) (channel_at new place)
+-- The channel at a place is that of a number, or it isn't told of anybody that he is apart from it.
+pub data HasBegun (channel : Option Channel) (pid : ℕ) (fd : ℤ) (place : ℕ) (old : List Sleeper) : List Sleeper → Type 0 where
+  stood : IsOf channel pid fd → HasBegun channel pid fd place old old
+  anew : HasBegun channel pid fd place old (map (begun place) old)
+
+-- it is gone; or it is the same, but that it isn't told to have all apart from it, and somebody slept
+abbrev pub IsDoubted : List Sleeper → Option Channel → Option Channel → Type 0
+IsDoubted told old None = Unit {0}
+IsDoubted told old (Some new) = (channel : Channel) × (old ≡ Some channel) × (new ≡ record channel { all_apart = false }) × (told ≢ [])
 
 -- What is kept in mind is so of a world, in which a process's next call would block.
 pub record StandsAsleep (script : Script) (world : World) (pid : ℕ) (told : List Sleeper) (channels : List (Option Channel)) : Type 0 where

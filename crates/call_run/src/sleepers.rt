@@ -1,22 +1,22 @@
 //! What the store keeps in mind of calls that sleep: whether each would still block, and through which numbers bytes were moved that it
 //! doesn't wait for. So a turn has few of them looked at again: those that wait for what it touched.
 
-ghost use Rattle.std.specs.Prelude.{◌≡◌, ◌≢◌, ◌≤◌, ◌<◌, ◌++◌, ◌∷◌, [], ◌==◌, if◌then◌else◌, ℕ, Bool, None, Some, length, map, replicate, slice_set, true, false, not};
+ghost use Rattle.std.specs.Prelude.{◌≡◌, ◌⊎◌, ◌≤◌, ◌<◌, ◌+◌, [], ℕ, Bool, None, Some, length, map, remove, slice_set, true, false, not};
 ghost use Rattle.std.specs.List.{AllByRecursion};
 ghost use Rattle.arrayvec.specs.ArrayVec.{array_vec_len};
 ghost use Rattle.kabi_types.specs.declared.calls.Call.{Call as CallOf};
 ghost use Rattle.kabi_types.specs.declared.scripts.Script.{Script};
 ghost use Rattle.machine_laws.specs.Reached.{IsReached};
 ghost use Rattle.posix_defs.specs.Machine.{would_block};
-ghost use Rattle.posix_defs.specs.Minding.{HasNamed, is_among};
+ghost use Rattle.posix_defs.specs.Minding.{HasNamed};
 ghost use Rattle.posix_defs.specs.Process.{is_alive};
-ghost use Rattle.posix_defs.specs.Relief.{Kills, refused_in};
+ghost use Rattle.posix_defs.specs.Relief.{refused_in};
 ghost use Rattle.posix_defs.specs.World.{World};
 ghost use Rattle.posix_defs.specs.declared.turner.Turned.{Turned as TurnedOf};
 ghost use Rattle.store_objects.specs.Standing.{StandsFor};
-ghost use Rattle.waking_laws.specs.Waking.{gives_number, is_apart, moves_through, wakes_nobody};
-ghost use Rattle.call_run.specs.Sleepers.{came_of, is_sleep, AreAsked, AreDoubted, AreMinded, AreRising, AreTrulyTold, AreWithout, IsBehind, IsOf, StandsAsleep, IsToldApart, is_settled, place_in, stands_in, stirs_done, stirs_of, told_of, without};
-ghost use Rattle.call_run.specs.Stores.{IsStoreOf};
+ghost use Rattle.waking_laws.specs.Waking.{gives_number, wakes_nobody};
+ghost use Rattle.call_run.specs.Sleepers.{AreMinded, AreNear, AreRising, AreTrulyTold, HasBegun, IsBehind, IsDoubted, IsLookedAt, IsNear, IsOf, IsPassed, NamesMore, NamesOne, StandsAsleep, begun, came_of, channel_at, doubted, is_settled, is_sleep, lain, place_in, stands_in, stirs_done, stirs_of, told_of, with_sleeper, without};
+ghost use Rattle.call_run.specs.declared.sleepers.Stirs.TheVariants.{Through};
 
 use crate::calls::would_block;
 use crate::touching::is_apart;
@@ -84,14 +84,14 @@ pub struct Sleepers {
     told: ArrayVec<Sleeper, 64>,
     // Each at the place that its process and its number give; the later one takes it.
     channels: [Option<Channel>; CHANNELS],
-    // There is a channel.
+    // There may be a channel.
     open: bool,
     // Of whom the last turn, refusal, kill or eviction has changed whether it is kept in mind that they would block.
     stirred: ArrayVec<u32, 128>,
 }
 
 impl Model for Sleepers {
-    ghost use Rattle.call_run.specs.Sleepers.{AreRising};
+    ghost use Rattle.call_run.specs.Sleepers.{AreKeptAsleep};
     ghost use Rattle.call_run.specs.Stores.{SleepersView};
 
     ghost Value = { SleepersView };
@@ -103,7 +103,7 @@ impl Model for Sleepers {
       stirred = sleepers.stirred.items;
     } };
 
-    ghost invariant = { λ sleepers. AreRising 0 sleepers.told.items };
+    ghost invariant = { λ sleepers. AreKeptAsleep sleepers.told.items sleepers.channels sleepers.open };
 }
 
 /// Whether a turn of this call, whatever it came to, changes nothing that another process's call may wait for: no queue, no child that
@@ -214,10 +214,13 @@ fn place_of(told: &[Sleeper], pid: u32) -> usize
     ensures within { result ≤ length told.now }
 {
     let mut place = told.len().min(pid as usize);
-    while place > 0 && told[place - 1].pid >= pid {
+    while place > 0 {
+        if told[place - 1].pid < pid {
+            return place;
+        }
         place -= 1;
     }
-    place
+    0
 }
 
 /// Whether a process stands at a place among sleepers.
@@ -225,7 +228,10 @@ fn stands_at(told: &[Sleeper], place: usize, pid: u32) -> bool
     ensures stands { result ≡ stands_in told.now place pid }
     ensures within { result ≡ true → place < length told.now }
 {
-    place < told.len() && told[place].pid == pid
+    if place >= told.len() {
+        return false;
+    }
+    told[place].pid == pid
 }
 
 /// The place of a number's channel.
@@ -239,7 +245,20 @@ fn channel_of(pid: u32, fd: i64) -> usize
 fn is_of(channel: Option<Channel>, pid: u32, fd: i64) -> bool
     ensures { result ≡ true → IsOf channel pid fd }
 {
-    matches!(channel, Some(it) if it.pid == pid && it.fd == fd)
+    match channel {
+        Some(it) => it.pid == pid && it.fd == fd,
+        None => false,
+    }
+}
+
+/// Whether this is the channel of a process's number, and all sleepers are apart from it.
+fn is_passed(channel: Option<Channel>, pid: u32, fd: i64) -> bool
+    ensures { result ≡ true → IsPassed channel pid fd }
+{
+    match channel {
+        Some(it) => it.all_apart && it.pid == pid && it.fd == fd,
+        None => false,
+    }
 }
 
 /// Asks again whether a sleeper that is alive would block.
@@ -249,12 +268,51 @@ fn ask(script: &Script, objects: &Objects, sleeper: &mut Sleeper, stirred: &mut 
     ensures same { sleeper.new ≡ record sleeper.old { blocks = sleeper.new.blocks } }
     ensures blocks { (world : World) → StandsFor script.now objects.now world → is_alive world.plain.table sleeper.old.pid ≡ true
         → would_block script.now world.plain sleeper.old.pid ≡ sleeper.new.blocks }
-    ensures stirred { stirred.new.items ≡ stirred.old.items ++ (if sleeper.new.blocks == sleeper.old.blocks then [] else sleeper.old.pid ∷ []) }
+    ensures named { NamesOne stirred.old.items sleeper.old sleeper.new stirred.new.items }
+    ensures room { array_vec_len stirred.new ≤ array_vec_len stirred.old + 1 }
 {
     let blocks = !goes_on(script, objects, sleeper.pid);
     if blocks != sleeper.blocks {
         sleeper.blocks = blocks;
         stirred.push(sleeper.pid);
+    }
+}
+
+/// Forgets a sleeper who has ended.
+fn forget_at(told: &mut ArrayVec<Sleeper, 64>, stirred: &mut ArrayVec<u32, 128>, place: usize)
+    requires within { place < array_vec_len told.old }
+    requires rising { AreRising 0 told.old.items }
+    requires room { array_vec_len stirred.old < 128 }
+    ensures items { told.new.items ≡ remove told.old.items place }
+    ensures named { NamesMore told.old.items stirred.old.items told.new.items stirred.new.items }
+    ensures room { array_vec_len stirred.new ≤ array_vec_len stirred.old + 1 }
+{
+    let gone = told.remove(place);
+    if gone.blocks {
+        stirred.push(gone.pid);
+    }
+}
+
+/// Asks again the sleeper at a place, or forgets him, where he has ended.
+fn look_at(
+    script: &Script,
+    objects: &Objects,
+    told: &mut ArrayVec<Sleeper, 64>,
+    stirred: &mut ArrayVec<u32, 128>,
+    place: usize,
+)
+    requires stands { (world : World) × StandsFor script.now objects.now world }
+    requires within { place < array_vec_len told.old }
+    requires rising { AreRising 0 told.old.items }
+    requires room { array_vec_len stirred.old < 128 }
+    ensures looked { IsLookedAt script.now objects.now told.old.items place told.new.items }
+    ensures named { NamesMore told.old.items stirred.old.items told.new.items stirred.new.items }
+    ensures room { array_vec_len stirred.new ≤ array_vec_len stirred.old + 1 }
+{
+    if objects.runs(told[place].pid) {
+        ask(script, objects, &mut told[place], stirred);
+    } else {
+        forget_at(told, stirred, place);
     }
 }
 
@@ -268,71 +326,115 @@ fn ask_each(
 )
     requires stands { (world : World) × StandsFor script.now objects.now world }
     requires rising { AreRising 0 told.old.items }
-    requires room { array_vec_len stirred.old ≤ 64 }
+    requires room { array_vec_len stirred.old + array_vec_len told.old ≤ 128 }
     ensures rising { AreRising 0 told.new.items }
-    ensures true_ { AreTrulyTold script.now objects.now told.new.items }
-    ensures asked { AreAsked script.now objects.now None 0 0 told.old.items told.new.items }
-    ensures named { (pid : ℕ) → is_among stirred.new.items pid ≡ false → (is_among stirred.old.items pid ≡ false) × (is_settled told.new.items pid ≡ is_settled told.old.items pid) }
+    ensures truly { AreTrulyTold script.now objects.now told.new.items }
+    ensures named { NamesMore told.old.items stirred.old.items told.new.items stirred.new.items }
+    ensures room { array_vec_len stirred.new ≤ array_vec_len stirred.old + array_vec_len told.old }
 {
-    let mut place = 0;
-    while place < told.len() {
-        if objects.runs(told[place].pid) {
-            ask(script, objects, &mut told[place], stirred);
-            place += 1;
-        } else {
-            let gone = told.remove(place);
-            if gone.blocks {
-                stirred.push(gone.pid);
-            }
-        }
+    let mut place = told.len();
+    while place > 0 {
+        place -= 1;
+        look_at(script, objects, told, stirred, place);
     }
 }
 
-/// Asks again the sleepers of whom it isn't told that they are apart from the channel of a number, and who aren't. It answers whether there is
+/// It is told of a sleeper whether he is apart from the channel of this place.
+fn tell_apart(sleeper: &mut Sleeper, channel: usize, apart: bool)
+    requires { channel < 32 }
+    ensures { sleeper.new ≡ record sleeper.old { apart = slice_set sleeper.old.apart channel apart } }
+{
+    sleeper.apart[channel] = apart;
+}
+
+/// Asks again a sleeper of whom it isn't told that he is apart from the channel of a number, and who isn't. It answers whether he is such a
 /// one.
-fn ask_near(
+fn look_near(
     script: &Script,
     objects: &Objects,
-    told: &mut ArrayVec<Sleeper, 64>,
+    sleeper: &mut Sleeper,
     stirred: &mut ArrayVec<u32, 128>,
     pid: u32,
     fd: i64,
     channel: usize,
 ) -> bool
-    requires stands { (world : World) × StandsFor script.now objects.now world × AllByRecursion (λ sleeper. is_alive world.plain.table sleeper.pid ≡ true) told.old.items }
-    requires caller { (world : World) → StandsFor script.now objects.now world → is_alive world.plain.table pid ≡ true }
-    requires rising { AreRising 0 told.old.items }
+    requires alive { (world : World) × StandsFor script.now objects.now world × (is_alive world.plain.table sleeper.old.pid ≡ true) × (is_alive world.plain.table pid ≡ true) }
     requires channel { channel < 32 }
-    requires room { array_vec_len stirred.old ≤ 64 }
-    ensures rising { AreRising 0 told.new.items }
-    ensures asked { AreAsked script.now objects.now (Some channel) pid fd told.old.items told.new.items }
-    ensures true_ { (world : World) → StandsFor script.now objects.now world → AllByRecursion (λ sleeper. is_alive world.plain.table sleeper.pid ≡ true) told.old.items
-        → AllByRecursion (λ sleeper. (IsToldApart sleeper channel → ⊥) → would_block script.now world.plain sleeper.pid ≡ sleeper.blocks) told.new.items }
-    ensures apart { result ≡ false → AllByRecursion (λ sleeper. IsToldApart sleeper channel) told.new.items }
-    ensures named { (who : ℕ) → is_among stirred.new.items who ≡ false → (is_among stirred.old.items who ≡ false) × (is_settled told.new.items who ≡ is_settled told.old.items who) }
+    requires room { array_vec_len stirred.old < 128 }
+    ensures near { IsNear script.now objects.now pid fd channel sleeper.old sleeper.new result }
+    ensures named { NamesOne stirred.old.items sleeper.old sleeper.new stirred.new.items }
+    ensures room { array_vec_len stirred.new ≤ array_vec_len stirred.old + 1 }
+{
+    if sleeper.apart[channel] {
+        return false;
+    }
+    if is_apart(script, objects, sleeper.pid, pid, fd) {
+        tell_apart(sleeper, channel, true);
+        return false;
+    }
+    ask(script, objects, sleeper, stirred);
+    true
+}
+
+/// The same of all sleepers. It answers whether one is such a one.
+fn ask_near(
+    script: &Script,
+    objects: &Objects,
+    told: &mut [Sleeper],
+    stirred: &mut ArrayVec<u32, 128>,
+    pid: u32,
+    fd: i64,
+    channel: usize,
+) -> bool
+    requires alive { (world : World) × StandsFor script.now objects.now world × AllByRecursion (λ sleeper. is_alive world.plain.table sleeper.pid ≡ true) told.old
+        × (is_alive world.plain.table pid ≡ true) }
+    requires rising { AreRising 0 told.old }
+    requires channel { channel < 32 }
+    requires room { array_vec_len stirred.old + length told.old ≤ 128 }
+    ensures near { AreNear script.now objects.now pid fd channel told.old told.new result }
+    ensures named { NamesMore told.old stirred.old.items told.new stirred.new.items }
+    ensures room { array_vec_len stirred.new ≤ array_vec_len stirred.old + length told.old }
 {
     let mut near = false;
-    for place in 0..told.len() {
-        let sleeper = &mut told[place];
-        if !sleeper.apart[channel] {
-            if is_apart(script, objects, sleeper.pid, pid, fd) {
-                sleeper.apart[channel] = true;
-            } else {
-                ask(script, objects, sleeper, stirred);
-                near = true;
-            }
+    let mut place = told.len();
+    while place > 0 {
+        place -= 1;
+        if look_near(script, objects, &mut told[place], stirred, pid, fd, channel) {
+            near = true;
         }
     }
     near
 }
 
-/// It isn't told of anybody any more that he is apart from a channel.
-fn begin_channel(told: &mut ArrayVec<Sleeper, 64>, channel: usize)
+/// It isn't told of anybody any more that he is apart from the channel of this place.
+fn begin_channel(told: &mut [Sleeper], channel: usize)
     requires { channel < 32 }
-    ensures { told.new.items ≡ map (λ sleeper. record sleeper { apart = slice_set sleeper.apart channel false }) told.old.items }
+    ensures { told.new ≡ map (begun channel) told.old }
 {
     for sleeper in told.iter_mut() {
-        sleeper.apart[channel] = false;
+        tell_apart(sleeper, channel, false);
+    }
+}
+
+/// The channel, where it isn't known of all that they are apart from it.
+fn doubted(channel: Option<Channel>) -> Option<Channel>
+    ensures { result ≡ doubted channel }
+{
+    match channel {
+        Some(it) => Some(Channel {
+            all_apart: false,
+            ..it
+        }),
+        None => None,
+    }
+}
+
+/// So are all channels.
+fn doubt_all(channels: &mut [Option<Channel>])
+    ensures { channels.new ≡ map doubted channels.old }
+{
+    for channel in channels.iter_mut() {
+        *channel = doubted(*channel);
     }
 }
 
@@ -340,7 +442,7 @@ impl Sleepers {
     /// Nobody sleeps.
     pub fn new() -> Sleepers
         ensures told { result.told ≡ [] }
-        ensures channels { result.channels ≡ replicate 32 None }
+        ensures channels { (place : ℕ) → channel_at result.channels place ≡ None }
     {
         Sleepers {
             told: ArrayVec::new(),
@@ -366,7 +468,7 @@ impl Sleepers {
     pub fn settles(&self, pid: u32) -> bool
         ensures { result ≡ is_settled self.now.told pid }
     {
-        matches!(self.told(pid), Some(true))
+        self.told(pid).unwrap_or(false)
     }
 
     /// Of whom that may have changed last.
@@ -378,7 +480,7 @@ impl Sleepers {
 
     /// A process has a turn, and doesn't sleep any more.
     fn get_up(&mut self, pid: u32)
-        requires { length self.old.stirred ≡ 0 }
+        requires { self.old.stirred ≡ [] }
         ensures told { self.new.told ≡ without self.old.told pid }
         ensures channels { self.new.channels ≡ self.old.channels }
         ensures named { HasNamed (is_settled self.old.told) (is_settled self.new.told) self.new.stirred }
@@ -386,10 +488,20 @@ impl Sleepers {
     {
         let place = place_of(self.told.as_slice(), pid);
         if stands_at(self.told.as_slice(), place, pid) {
-            let sleeper = self.told.remove(place);
-            if sleeper.blocks {
-                self.stirred.push(pid);
-            }
+            forget_at(&mut self.told, &mut self.stirred, place);
+        }
+    }
+
+    /// Somebody will sleep of whom no channel knows. Where nobody did, the processes of channels may have ended.
+    fn doubt(&mut self)
+        ensures told { self.new.told ≡ self.old.told }
+        ensures stirred { self.new.stirred ≡ self.old.stirred }
+        ensures channels { (place : ℕ) → IsDoubted self.old.told (channel_at self.old.channels place) (channel_at self.new.channels place) }
+    {
+        if self.told.is_empty() {
+            self.forget_channels();
+        } else if self.open {
+            doubt_all(&mut self.channels);
         }
     }
 
@@ -397,101 +509,116 @@ impl Sleepers {
     /// isn't kept in mind.
     #[inline(never)]
     fn lie_down(&mut self, pid: u32, blocks: bool)
+        requires some { 0 < pid }
         requires apart { told_of self.old.told pid ≡ None }
-        requires room { length self.old.stirred ≤ 65 }
-        ensures others { without self.new.told pid ≡ self.old.told }
-        ensures told { told_of self.new.told pid ≢ Some (not blocks) }
-        ensures new { AllByRecursion (λ sleeper. sleeper.pid ≡ pid → (place : ℕ) → IsToldApart sleeper place → ⊥) self.new.told }
-        ensures channels { AreDoubted self.old.channels self.new.channels }
-        ensures named { (who : ℕ) → is_among self.new.stirred who ≡ false → (is_among self.old.stirred who ≡ false) × (is_settled self.new.told who ≡ is_settled self.old.told who) }
+        requires room { length self.old.stirred < 128 }
+        ensures told { (self.new.told ≡ with_sleeper self.old.told (lain pid blocks)) ⊎ (self.new.told ≡ self.old.told) }
+        ensures channels { (place : ℕ) → IsDoubted self.old.told (channel_at self.old.channels place) (channel_at self.new.channels place) }
+        ensures named { NamesMore self.old.told self.old.stirred self.new.told self.new.stirred }
     {
-        let place = place_of(self.told.as_slice(), pid);
-        if self.told.len() < 64 {
-            self.told.insert(
-                place,
-                Sleeper {
-                    pid,
-                    blocks,
-                    apart: [false; CHANNELS],
-                },
-            );
-            if blocks {
-                self.stirred.push(pid);
-            }
-        }
         self.doubt();
-    }
-
-    /// A process's call would block still. Where it is kept in mind since an earlier turn, it is the same call.
-    fn sleep_on(&mut self, pid: u32)
-        requires { (script : Script) (world : World) × StandsAsleep script world pid self.old.told self.old.channels }
-        ensures minded { (script : Script) (world : World) → StandsAsleep script world pid self.old.told self.old.channels → AreMinded script world.plain self.new.told self.new.channels }
-        ensures named { HasNamed (is_settled self.old.told) (is_settled self.new.told) self.new.stirred }
-    {
+        if self.told.len() == 64 {
+            return;
+        }
         let place = place_of(self.told.as_slice(), pid);
-        if !stands_at(self.told.as_slice(), place, pid) {
-            self.lie_down(pid, true);
-        } else if !self.told[place].blocks {
-            self.told[place].blocks = true;
+        let apart = [false; CHANNELS];
+        self.told.insert(place, Sleeper { pid, blocks, apart });
+        if blocks {
             self.stirred.push(pid);
         }
     }
 
-    /// Somebody sleeps of whom no channel knows.
-    fn doubt(&mut self)
-        ensures same { self.new ≡ record self.old { channels = self.new.channels } }
-        ensures channels { AreDoubted self.old.channels self.new.channels }
+    /// A process's call would block still. Where it is kept in mind since an earlier turn, it is the same call.
+    fn sleep_on(&mut self, pid: u32)
+        requires asleep { (script : Script) × (world : World) × StandsAsleep script world pid self.old.told self.old.channels }
+        requires none { self.old.stirred ≡ [] }
+        ensures minded { (script : Script) (world : World) → StandsAsleep script world pid self.old.told self.old.channels → AreMinded script world.plain self.new.told self.new.channels }
+        ensures named { HasNamed (is_settled self.old.told) (is_settled self.new.told) self.new.stirred }
     {
-        if self.open {
-            for channel in self.channels.iter_mut() {
-                if let Some(it) = channel {
-                    it.all_apart = false;
-                }
-            }
+        if self.told(pid).is_none() {
+            self.lie_down(pid, true);
         }
     }
 
-    /// A process has other numbers.
-    fn close_channels(&mut self, pid: u32)
-        ensures same { self.new ≡ record self.old { channels = self.new.channels } }
-        ensures channels { AreWithout self.old.channels pid self.new.channels }
+    /// Nothing is known any more of numbers through which bytes were moved.
+    fn forget_channels(&mut self)
+        ensures told { self.new.told ≡ self.old.told }
+        ensures stirred { self.new.stirred ≡ self.old.stirred }
+        ensures channels { (place : ℕ) → channel_at self.new.channels place ≡ None }
     {
         if self.open {
-            for fd in 0..4 {
-                self.channels[channel_of(pid, fd)] = None;
-            }
+            self.channels = [None; CHANNELS];
+            self.open = false;
         }
+    }
+
+    /// All are stale.
+    #[inline(never)]
+    fn ask_all(&mut self, script: &Script, objects: &Objects)
+        requires stands { (world : World) × StandsFor script.now objects.now world }
+        requires room { length self.old.stirred ≤ 1 }
+        ensures minded { (world : World) → StandsFor script.now objects.now world → AreMinded script.now world.plain self.new.told self.new.channels }
+        ensures named { NamesMore self.old.told self.old.stirred self.new.told self.new.stirred }
+        ensures room { length self.new.stirred ≤ 65 }
+    {
+        self.forget_channels();
+        ask_each(script, objects, &mut self.told, &mut self.stirred);
+    }
+
+    /// Nobody is told to be apart from the channel of a number, unless it stands there already.
+    fn begin(&mut self, place: usize, pid: u32, fd: i64)
+        requires { place < 32 }
+        ensures same { self.new ≡ record self.old { told = self.new.told } }
+        ensures told { HasBegun (channel_at self.old.channels place) pid fd place self.old.told self.new.told }
+    {
+        if !is_of(self.channels[place], pid, fd) {
+            begin_channel(self.told.as_mut_slice(), place);
+        }
+    }
+
+    /// Those who aren't apart from the channel of a number are asked, and it is kept.
+    fn ask_there(&mut self, script: &Script, objects: &Objects, pid: u32, fd: i64, place: usize)
+        requires alive { (world : World) × StandsFor script.now objects.now world
+            × AllByRecursion (λ sleeper. is_alive world.plain.table sleeper.pid ≡ true) self.old.told × (is_alive world.plain.table pid ≡ true) }
+        requires place { place < 32 }
+        requires room { length self.old.stirred ≤ 1 }
+        ensures near { (near : Bool) × AreNear script.now objects.now pid fd place self.old.told self.new.told near
+            × (self.new.channels ≡ slice_set self.old.channels place (Some (record { pid = pid; fd = fd; all_apart = not near }))) }
+        ensures named { NamesMore self.old.told self.old.stirred self.new.told self.new.stirred }
+        ensures room { length self.new.stirred ≤ 65 }
+    {
+        let (told, stirred) = (self.told.as_mut_slice(), &mut self.stirred);
+        let near = ask_near(script, objects, told, stirred, pid, fd, place);
+        self.open = true;
+        self.channels[place] = Some(Channel {
+            pid,
+            fd,
+            all_apart: !near,
+        });
     }
 
     /// What a number is open on was touched: those who wait for it are asked.
     #[inline(never)]
     fn touch(&mut self, script: &Script, objects: &Objects, pid: u32, fd: i64)
         requires behind { (old new : World) × (call : CallOf) × (told : TurnedOf) × IsBehind script.now objects.now old new pid call told self.old.told self.old.channels
-            × (moves_through call ≡ Some fd) }
+            × (stirs_of call (came_of told) ≡ Through fd) }
         requires up { told_of self.old.told pid ≡ None }
         requires room { length self.old.stirred ≤ 1 }
         ensures minded { (old new : World) (call : CallOf) (told : TurnedOf) → IsBehind script.now objects.now old new pid call told self.old.told self.old.channels
-            → moves_through call ≡ Some fd → AreMinded script.now new.plain self.new.told self.new.channels }
-        ensures named { (who : ℕ) → is_among self.new.stirred who ≡ false → (is_among self.old.stirred who ≡ false) × (is_settled self.new.told who ≡ is_settled self.old.told who) }
+            → stirs_of call (came_of told) ≡ Through fd → AreMinded script.now new.plain self.new.told self.new.channels }
+        ensures named { NamesMore self.old.told self.old.stirred self.new.told self.new.stirred }
+        ensures room { length self.new.stirred ≤ 65 }
     {
         if self.told.len() <= FEW {
-            ask_each(script, objects, &mut self.told, &mut self.stirred);
+            self.ask_all(script, objects);
             return;
         }
-        let channel = channel_of(pid, fd);
-        if !is_of(self.channels[channel], pid, fd) {
-            begin_channel(&mut self.told, channel);
-        } else if matches!(self.channels[channel], Some(it) if it.all_apart) {
+        let place = channel_of(pid, fd);
+        if is_passed(self.channels[place], pid, fd) {
             return;
         }
-        let (told, stirred) = (&mut self.told, &mut self.stirred);
-        let near = ask_near(script, objects, told, stirred, pid, fd, channel);
-        self.open = true;
-        self.channels[channel] = Some(Channel {
-            pid,
-            fd,
-            all_apart: !near,
-        });
+        self.begin(place, pid, fd);
+        self.ask_there(script, objects, pid, fd, place);
     }
 
     /// Asks those whom a turn of another may have woken, or kept from going on.
@@ -501,20 +628,17 @@ impl Sleepers {
         requires room { length self.old.stirred ≤ 1 }
         ensures minded { (old new : World) (told : TurnedOf) → IsBehind script.now objects.now old new pid call.now told self.old.told self.old.channels → came ≡ came_of told
             → AreMinded script.now new.plain self.new.told self.new.channels }
-        ensures named { (who : ℕ) → is_among self.new.stirred who ≡ false → (is_among self.old.stirred who ≡ false) × (is_settled self.new.told who ≡ is_settled self.old.told who) }
+        ensures named { NamesMore self.old.told self.old.stirred self.new.told self.new.stirred }
+        ensures room { length self.new.stirred ≤ 65 }
     {
         match stirs_of(call, came) {
             Stirs::Nobody => {
                 if gives_number(call) {
-                    self.close_channels(pid);
+                    self.forget_channels();
                 }
             }
             Stirs::Through(fd) => self.touch(script, objects, pid, fd),
-            // All are stale.
-            Stirs::Everybody => {
-                self.close_channels(pid);
-                ask_each(script, objects, &mut self.told, &mut self.stirred);
-            }
+            Stirs::Everybody => self.ask_all(script, objects),
         }
     }
 
@@ -548,7 +672,7 @@ impl Sleepers {
         call: &Call,
         came: Came,
     )
-        requires behind { (old new : World) × (told : TurnedOf) × IsBehind script.now objects.now old new pid call.now told self.old.told self.old.channels × (came ≡ came_of told) }
+        requires { (old new : World) × (told : TurnedOf) × IsBehind script.now objects.now old new pid call.now told self.old.told self.old.channels × (came ≡ came_of told) }
         ensures minded { (old new : World) (told : TurnedOf) → IsBehind script.now objects.now old new pid call.now told self.old.told self.old.channels → came ≡ came_of told
             → AreMinded script.now new.plain self.new.told self.new.channels }
         ensures named { HasNamed (is_settled self.old.told) (is_settled self.new.told) self.new.stirred }
@@ -577,15 +701,12 @@ impl Sleepers {
 
     /// A process was killed.
     pub fn killed(&mut self, script: &Script, objects: &Objects)
-        requires { (world : World) × IsStoreOf script.now objects.now world }
-        ensures minded { (old new : World) (pid : ℕ) → IsReached script.now old.plain → AreMinded script.now old.plain self.old.told self.old.channels
-            → Kills old pid new → IsStoreOf script.now objects.now new → AreMinded script.now new.plain self.new.told self.new.channels }
-        ensures same { (world : World) → AreMinded script.now world.plain self.old.told self.old.channels → IsStoreOf script.now objects.now world
-            → AreMinded script.now world.plain self.new.told self.new.channels }
+        requires { (world : World) × StandsFor script.now objects.now world }
+        ensures minded { (world : World) → StandsFor script.now objects.now world → AreMinded script.now world.plain self.new.told self.new.channels }
         ensures named { HasNamed (is_settled self.old.told) (is_settled self.new.told) self.new.stirred }
     {
         self.stirred.clear();
-        ask_each(script, objects, &mut self.told, &mut self.stirred);
+        self.ask_all(script, objects);
     }
 
     /// Something was evicted, which stirs nobody.
