@@ -16,6 +16,7 @@ pub mod Ends
 pub mod Naming
 pub mod Needing
 pub mod Telling
+pub mod Minding
 pub mod Resting
 pub mod BytesCached
 pub mod SettledBlocks

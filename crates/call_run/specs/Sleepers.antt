@@ -25,13 +25,10 @@ use Rattle.call_run.specs.declared.sleepers.Stirs.TheVariants.{Nobody, Through, 
 
 -- ---- whom a turn may have woken, or kept from going on
 
--- by a call that was done: those who wait for what it moved bytes of; nobody; or who knows whom
+-- by a call that was done, or a part of it: those who wait for what it moved bytes of; nobody; or who knows whom
 abbrev pub stirs_by : Option ℤ → Bool → Stirs
 stirs_by (Some fd) nobody = Through fd
 stirs_by None nobody = if nobody then Nobody else Everybody
-
-abbrev pub stirs_done : Call → Stirs
-stirs_done which = stirs_by (moves_through which) (wakes_nobody which)
 
 -- what a turn came to: one that failed did nothing
 abbrev pub came_of : Turned → Came
@@ -45,8 +42,8 @@ came_of (turned.Ended status) = came.End
 abbrev pub stirs_of : Call → Came → Stirs
 stirs_of which came.Nothing = Nobody
 stirs_of which came.Sleep = Nobody
-stirs_of which came.Part = stirs_done which
-stirs_of which came.Done = stirs_done which
+stirs_of which came.Part = stirs_by (moves_through which) false
+stirs_of which came.Done = stirs_by (moves_through which) (wakes_nobody which)
 stirs_of which came.End = Everybody
 
 -- the turn left its call asleep
@@ -192,17 +189,17 @@ any_sleeper = lain 0 false
 
 -- Who stands at a place was asked again, and lives; or he has ended, and is forgotten.
 pub data IsLookedAt (script : Script) (objects : Objects) (old : List Sleeper) (place : ℕ) : List Sleeper → Type 0 where
-  asked : (sleeper : Sleeper) → sleeper.pid ≡ (slice_index_or old place any_sleeper).pid
+  is_asked : (sleeper : Sleeper) → sleeper.pid ≡ (slice_index_or old place any_sleeper).pid
       → ((world : World) → StandsFor script objects world → IsTrulyTold script world.plain sleeper) → IsLookedAt script objects old place (slice_set old place sleeper)
-  gone : IsLookedAt script objects old place (remove old place)
+  is_gone : IsLookedAt script objects old place (remove old place)
 
 -- A sleeper is told to be apart from the channel at this place, or learns it; or he was asked again.
 pub data IsNear (script : Script) (objects : Objects) (pid : ℕ) (fd : ℤ) (channel : ℕ) : Sleeper → Sleeper → Bool → Type 0 where
-  told : (sleeper : Sleeper) → IsToldApart sleeper channel → IsNear script objects pid fd channel sleeper sleeper false
-  learns : (sleeper : Sleeper)
+  is_known : (sleeper : Sleeper) → IsToldApart sleeper channel → IsNear script objects pid fd channel sleeper sleeper false
+  is_learned : (sleeper : Sleeper)
       → ((world : World) → StandsFor script objects world → is_alive world.plain.table sleeper.pid ≡ true → is_apart script world.plain sleeper.pid pid fd ≡ true)
       → IsNear script objects pid fd channel sleeper (record sleeper { apart = slice_set sleeper.apart channel true }) false
-  asked : (sleeper : Sleeper) (blocks : Bool) → (IsToldApart sleeper channel → ⊥)
+  is_near : (sleeper : Sleeper) (blocks : Bool) → (IsToldApart sleeper channel → ⊥)
       → ((world : World) → StandsFor script objects world → is_alive world.plain.table sleeper.pid ≡ true → would_block script world.plain sleeper.pid ≡ blocks)
       → IsNear script objects pid fd channel sleeper (record sleeper { blocks = blocks }) true
 
@@ -215,8 +212,8 @@ AreNear script objects pid fd channel _ _ near = ⊥
 
 -- The channel at a place is that of a number, or it isn't told of anybody that he is apart from it.
 pub data HasBegun (channel : Option Channel) (pid : ℕ) (fd : ℤ) (place : ℕ) (old : List Sleeper) : List Sleeper → Type 0 where
-  stood : IsOf channel pid fd → HasBegun channel pid fd place old old
-  anew : HasBegun channel pid fd place old (map (begun place) old)
+  has_stood : IsOf channel pid fd → HasBegun channel pid fd place old old
+  is_anew : HasBegun channel pid fd place old (map (begun place) old)
 
 -- it is gone; or it is the same, but that it isn't told to have all apart from it, and somebody slept
 abbrev pub IsDoubted : List Sleeper → Option Channel → Option Channel → Type 0

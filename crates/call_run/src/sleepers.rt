@@ -14,8 +14,8 @@ ghost use Rattle.posix_defs.specs.Relief.{refused_in};
 ghost use Rattle.posix_defs.specs.World.{World};
 ghost use Rattle.posix_defs.specs.declared.turner.Turned.{Turned as TurnedOf};
 ghost use Rattle.store_objects.specs.Standing.{StandsFor};
-ghost use Rattle.waking_laws.specs.Waking.{gives_number, wakes_nobody};
-ghost use Rattle.call_run.specs.Sleepers.{AreMinded, AreNear, AreRising, AreTrulyTold, HasBegun, IsBehind, IsDoubted, IsLookedAt, IsNear, IsOf, IsPassed, NamesMore, NamesOne, StandsAsleep, begun, came_of, channel_at, doubted, is_settled, is_sleep, lain, place_in, stands_in, stirs_done, stirs_of, told_of, with_sleeper, without};
+ghost use Rattle.waking_laws.specs.Waking.{gives_number, moves_through, wakes_nobody};
+ghost use Rattle.call_run.specs.Sleepers.{AreMinded, AreNear, AreRising, AreTrulyTold, HasBegun, IsBehind, IsDoubted, IsLookedAt, IsNear, IsOf, IsPassed, NamesMore, NamesOne, StandsAsleep, begun, came_of, channel_at, doubted, is_settled, is_sleep, lain, place_in, stands_in, stirs_by, stirs_of, told_of, with_sleeper, without};
 ghost use Rattle.call_run.specs.declared.sleepers.Stirs.TheVariants.{Through};
 
 use crate::calls::would_block;
@@ -153,13 +153,14 @@ fn gives_number(call: &Call) -> bool
     )
 }
 
-/// Whom a call that was done, or a part of it, may have woken.
-fn stirs_done(call: &Call) -> Stirs
-    ensures { result ≡ stirs_done call.now }
+/// Whom a call that was done, or a part of it, may have woken: those who wait for what it moved bytes of; nobody, where it is such a call; else
+/// who knows whom.
+fn stirs_by(call: &Call, nobody: bool) -> Stirs
+    ensures { result ≡ stirs_by (moves_through call.now) nobody }
 {
     match call {
         Call::Read { fd, .. } | Call::Write { fd, .. } => Stirs::Through(*fd),
-        _ if wakes_nobody(call) => Stirs::Nobody,
+        _ if nobody => Stirs::Nobody,
         _ => Stirs::Everybody,
     }
 }
@@ -184,7 +185,8 @@ fn stirs_of(call: &Call, came: Came) -> Stirs
 {
     match came {
         Came::Nothing | Came::Sleep => Stirs::Nobody,
-        Came::Part | Came::Done => stirs_done(call),
+        Came::Part => stirs_by(call, false),
+        Came::Done => stirs_by(call, wakes_nobody(call)),
         Came::End => Stirs::Everybody,
     }
 }

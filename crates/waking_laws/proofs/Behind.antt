@@ -154,6 +154,24 @@ moved_apart script old new pid who fd which told reached turns moves apart alive
         (answers_leave_alone script old.plain reached pid who which is apart alive) (moves_answer script old.plain pid who apart which fd moves) other
     go false is over = nothing_changed script who old.plain new.plain (ap (λ (world : World). world.plain) over.1)
 
+-- who is alive stays so behind a turn that moves bytes
+pub moved_lives : (script : Script) (old new : World) (pid who : ℕ) (fd : ℤ) (which : Call) (told : Turned) → TurnsTo script old pid which told new
+    → moves_through which ≡ Some fd → who ≢ pid → is_alive old.plain.table who ≡ true → is_alive new.plain.table who ≡ true
+moved_lives script old new pid who fd which told turns moves apart alive = go (is_alive old.plain.table pid) refl turns
+  where
+    target : Option Target
+    target = target_at old.plain.files pid fd
+
+    by : (given : Answer) → Tells given old.plain told new.plain → LeadsTo (IsMoved target pid who old.plain) given → is_alive new.plain.table who ≡ true
+    by Blocked tells moved = ap (λ (plain : Plain). is_alive plain.table who) tells.1 ∙ alive
+    by (Done said next) tells moved = ap (λ (plain : Plain). is_alive plain.table who) tells.1 ∙ ap is_alive_in (let kin = moved.kin in kin.itself) ∙ alive
+    by (Part count next) tells moved = ap (λ (plain : Plain). is_alive plain.table who) tells.1 ∙ ap is_alive_in (let kin = moved.kin in kin.itself) ∙ alive
+    by (Ended status next) tells moved = ap (λ (plain : Plain). is_alive plain.table who) tells.1 ∙ ap is_alive_in (let kin = moved.kin in kin.itself) ∙ alive
+
+    go : (lives : Bool) → is_alive old.plain.table pid ≡ lives → TurnsWhere lives script old pid which told new → is_alive new.plain.table who ≡ true
+    go true is answers = by (machine script old.plain pid which) answers.answer (moves_answer script old.plain pid who apart which fd moves)
+    go false is over = ap (λ (world : World). is_alive world.plain.table who) over.1 ∙ alive
+
 -- ---- its own numbers
 
 -- no process has the number 0
