@@ -161,11 +161,10 @@ not_as_many test tasks count is fewer = go (list_all test tasks) refl
     go false e = e
 
 -- Where tasks that sleep and tasks that are runnable are as many as tasks together, none is both: of each that sleeps it is settled.
-dozes : (ℕ → Bool) → Task → Bool
+abbrev dozes : (ℕ → Bool) → Task → Bool
 dozes settled task = is_asleep task.phase && is_runnable settled task
 
 together : (settled : ℕ → Bool) (task : Task) → cond (is_asleep task.phase) 1 0 + cond (is_runnable settled task) 1 0 ≡ 1 + cond (dozes settled task) 1 0
-unfolding dozes
 together settled task = go (is_asleep task.phase) (settled task.pid)
   where
     go : (a b : Bool) → cond a 1 0 + cond (not (a && b)) 1 0 ≡ 1 + cond (a && not (a && b)) 1 0
@@ -209,7 +208,6 @@ settled_so settled (task ∷ tasks) none = (one task none.0, settled_so settled 
     go false b f e = absurd (let g : false ≡ true = e in (cc))
 
     one : (task : Task) → dozes settled task ≡ false → is_asleep task.phase ≡ true → settled task.pid ≡ true
-    unfolding dozes
     one task f = go (is_asleep task.phase) (settled task.pid) f
 
 pub none_dozes : (settled : ℕ → Bool) (tasks : List Task) (asleep : ℕ) (runnable : List ℕ) → asleep ≡ count_by (λ task. is_asleep task.phase) tasks

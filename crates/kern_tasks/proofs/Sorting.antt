@@ -186,12 +186,12 @@ asleep_with (task ∷ tasks) pid old phase is other = go (task.pid == pid) is (�
     go true e later =
         let after : counted (record task { phase = phase } ∷ tasks) ≡ cond (is_asleep phase) 1 0 + counted tasks = counted_one (λ t. is_asleep t.phase) (record task { phase = phase }) tasks in
         let same : cond (is_asleep task.phase) 1 0 ≡ cond (is_asleep old) 1 0 = ap (λ p. cond (is_asleep p) 1 0) e in
-        omega arith
+        omega (arith, before)
     go false e later =
         let after : counted (task ∷ with_phase_in tasks pid phase) ≡ cond (is_asleep task.phase) 1 0 + counted (with_phase_in tasks pid phase) =
         counted_one (λ t. is_asleep t.phase) task (with_phase_in tasks pid phase) in
         let rest : counted (with_phase_in tasks pid phase) + cond (is_asleep old) 1 0 ≡ counted tasks + cond (is_asleep phase) 1 0 = later e in
-        omega arith
+        omega (arith, before)
 
 -- as many, where the task was awake and is
 pub still_asleep : (items placed : List Task) (pid : ℕ) (old phase : Phase) (asleep : ℕ) → asleep ≡ count_by (λ task. is_asleep task.phase) items
