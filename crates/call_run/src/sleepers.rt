@@ -424,8 +424,9 @@ fn doubted(channel: Option<Channel>) -> Option<Channel>
 {
     match channel {
         Some(it) => Some(Channel {
+            pid: it.pid,
+            fd: it.fd,
             all_apart: false,
-            ..it
         }),
         None => None,
     }
