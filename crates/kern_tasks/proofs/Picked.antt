@@ -118,7 +118,7 @@ places_with passes first (task ∷ tasks) pid phase same = go (task.pid == pid) 
 
     go : (b : Bool) → (task.pid == pid) ≡ b
         → (((other : Task) → other.pid ≡ pid → other.phase ≡ phase_in tasks pid → passes other ≡ passes (record other { phase = phase }))
-          → places_from passes (first + 1) (with_phase_in tasks pid phase) ≡ places_from passes (first + 1) tasks)
+        → places_from passes (first + 1) (with_phase_in tasks pid phase) ≡ places_from passes (first + 1) tasks)
         → places_from passes first (if b then record task { phase = phase } ∷ tasks else task ∷ with_phase_in tasks pid phase)
         ≡ (if passes task then first ∷ places_from passes (first + 1) tasks else places_from passes (first + 1) tasks)
     go true is later =

@@ -130,7 +130,7 @@ stands_with (other ∷ places) place stands = go (nat_lt other place) refl stand
         → (Stands places (below places place) place → (with_place places place true ≡ places) × (with_place places place false ≡ remove places (below places place)))
         → ((if b then other ∷ with_place places place true else if other == place then other ∷ places else place ∷ other ∷ places) ≡ other ∷ places)
         × ((if b then other ∷ with_place places place false else if other == place then places else other ∷ places)
-          ≡ remove (other ∷ places) (if b then below places place + 1 else 0))
+        ≡ remove (other ∷ places) (if b then below places place + 1 else 0))
     go true is e more = let later = more (at_next e) in (ap (λ rest. other ∷ rest) later.0, ap (λ rest. other ∷ rest) later.1 ∙ removed)
       where
         next : below places place + 1 ≡ suc (below places place)
@@ -158,7 +158,7 @@ goes_with (other ∷ places) place none = go (nat_lt other place) refl none (goe
     go : (b : Bool) → nat_lt other place ≡ b → (slice_get (other ∷ places) (if b then below places place + 1 else 0) ≡ Some place → ⊥)
         → ((Stands places (below places place) place → ⊥) → (with_place places place true ≡ insert places (below places place) place) × (with_place places place false ≡ places))
         → ((if b then other ∷ with_place places place true else if other == place then other ∷ places else place ∷ other ∷ places)
-          ≡ insert (other ∷ places) (if b then below places place + 1 else 0) place)
+        ≡ insert (other ∷ places) (if b then below places place + 1 else 0) place)
         × ((if b then other ∷ with_place places place false else if other == place then places else other ∷ places) ≡ other ∷ places)
     go true is no more = let later = more (λ f. no (ap (slice_get (other ∷ places)) next ∙ f)) in (ap (λ rest. other ∷ rest) later.0 ∙ put, ap (λ rest. other ∷ rest) later.1)
       where
@@ -247,7 +247,7 @@ one_anew passes anew pid first below place (task ∷ tasks) d rising e = go (tas
 
     go : (b : Bool) → (task.pid == pid) ≡ b → cond b (Some first) (place_from (first + 1) tasks pid) ≡ Some place
         → (place_from (first + 1) tasks pid ≡ Some place
-          → with_place rest place (anew (slice_index_or tasks (place - (first + 1)) d)) ≡ later)
+        → with_place rest place (anew (slice_index_or tasks (place - (first + 1)) d)) ≡ later)
         → with_place (if passes task then first ∷ rest else rest) place (anew (slice_index_or (task ∷ tasks) (place - first) d))
         ≡ (if (if b then anew task else passes task) then first ∷ later else later)
     go true is f more =

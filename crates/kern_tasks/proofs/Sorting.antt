@@ -66,7 +66,7 @@ own_passes settled first below (task ∷ tasks) pid phase rising awake = go (tas
     none_else least first (other ∷ others) up under =
         let above : least < other.pid = up.0 in
         ap (λ b. if (if b then true else is_runnable settled other) then first ∷ places_from (but_for (is_runnable settled) pid (λ _. true)) (first + 1) others
-          else places_from (but_for (is_runnable settled) pid (λ _. true)) (first + 1) others) (differs other.pid pid (omega arith))
+        else places_from (but_for (is_runnable settled) pid (λ _. true)) (first + 1) others) (differs other.pid pid (omega arith))
         ∙ ap (λ rest. if is_runnable settled other then first ∷ rest else rest) (none_else other.pid (first + 1) others up.1 (omega arith))
       where
         differs : (a b : ℕ) → b < a → (a == b) ≡ false
@@ -74,19 +74,19 @@ own_passes settled first below (task ∷ tasks) pid phase rising awake = go (tas
 
     go : (b : Bool) → (task.pid == pid) ≡ b
         → (is_asleep (phase_in tasks pid) ≡ false
-          → places_from (but_for (is_runnable settled) pid (λ _. true)) (first + 1) (with_phase_in tasks pid phase) ≡ places_from (is_runnable settled) (first + 1) tasks)
+        → places_from (but_for (is_runnable settled) pid (λ _. true)) (first + 1) (with_phase_in tasks pid phase) ≡ places_from (is_runnable settled) (first + 1) tasks)
         → places_from (but_for (is_runnable settled) pid (λ _. true)) first (if b then record task { phase = phase } ∷ tasks else task ∷ with_phase_in tasks pid phase)
         ≡ places_from (is_runnable settled) first (task ∷ tasks)
     go true is later =
         let same : task.pid ≡ pid = elim (eqb_tells task.pid pid) [ inl it ↦ it.1 | inr it ↦ absurd (both is it.0) ] in
         let phased : is_asleep task.phase ≡ false = ap is_asleep (sym (ap (λ b. if b then task.phase else phase_in tasks pid) is)) ∙ awake in
         ap (λ b. if (if b then true else is_runnable settled (record task { phase = phase })) then first ∷ places_from (but_for (is_runnable settled) pid (λ _. true)) (first + 1) tasks
-          else places_from (but_for (is_runnable settled) pid (λ _. true)) (first + 1) tasks) is
+        else places_from (but_for (is_runnable settled) pid (λ _. true)) (first + 1) tasks) is
         ∙ ap (λ ps. first ∷ ps) (none_else task.pid (first + 1) tasks rising.1 (omega (arith, same)))
         ∙ sym (ap (λ b. if not (b && settled task.pid) then first ∷ places_from (is_runnable settled) (first + 1) tasks else places_from (is_runnable settled) (first + 1) tasks) phased)
     go false is later =
         ap (λ b. if (if b then true else is_runnable settled task) then first ∷ places_from (but_for (is_runnable settled) pid (λ _. true)) (first + 1) (with_phase_in tasks pid phase)
-          else places_from (but_for (is_runnable settled) pid (λ _. true)) (first + 1) (with_phase_in tasks pid phase)) is
+        else places_from (but_for (is_runnable settled) pid (λ _. true)) (first + 1) (with_phase_in tasks pid phase)) is
         ∙ ap (λ rest. if is_runnable settled task then first ∷ rest else rest)
         (later (ap is_asleep (ap (λ b. if b then task.phase else phase_in tasks pid) (sym is)) ∙ awake))
 
@@ -310,7 +310,7 @@ module _ (old : ℕ → Bool) (pid before after : ℕ) (one : Bool) (phase : Pha
   -- and behind the look those are runnable that the store says
   pub turned_runnable : (new : ℕ → Bool) (named : List ℕ) (sleeps : Bool) (looked : List ℕ) → HasNamed old new named → is_asleep phase ≡ sleeps
       → ((passes : Task → Bool) → kept ++ born_place all one ≡ places_from passes 0 all
-        → looked ≡ places_from (turned_test passes pid sleeps named (is_runnable new)) 0 all)
+      → looked ≡ places_from (turned_test passes pid sleeps named (is_runnable new)) 0 all)
       → looked ≡ runnable_in new all
   turned_runnable new named sleeps looked has asleep looks =
       let own : AllByRecursion (λ task. task.pid ≡ pid → is_asleep task.phase ≡ is_asleep phase) placed =

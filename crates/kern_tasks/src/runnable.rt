@@ -134,12 +134,7 @@ fn fill_runnable<T: Turner>(store: &T, tasks: &[Task], runnable: &mut Vec<u32>)
 
 /// Looks anew at all tasks: which are runnable, and how many calls sleep.
 #[inline(never)]
-pub fn sort_anew<T: Turner>(
-    store: &T,
-    tasks: &[Task],
-    runnable: &mut Vec<u32>,
-    asleep: &mut u32,
-)
+pub fn sort_anew<T: Turner>(store: &T, tasks: &[Task], runnable: &mut Vec<u32>, asleep: &mut u32)
     requires few { length tasks.now ≤ 100001 }
     requires room { length tasks.now ≤ vec_capacity runnable.old }
     ensures items { runnable.new.items ≡ runnable_in (T.settled store.now) tasks.now }

@@ -144,7 +144,16 @@ impl<T: Turner + Drop> Core<T> {
         let born = before < last;
         let (tasks, runnable) = (self.tasks.as_slice(), &mut self.runnable);
         let asleep = &mut self.asleep;
-        sort_turned(&self.store, tasks, runnable, asleep, pid, sleeps, ends, born);
+        sort_turned(
+            &self.store,
+            tasks,
+            runnable,
+            asleep,
+            pid,
+            sleeps,
+            ends,
+            born,
+        );
         self.reserved -= asked.bound;
         self.charged = self.store.live() + RESERVE + self.reserved;
         let entry = entry_of(pid, asked.kind, turned);

@@ -8,4 +8,4 @@ use Rattle.kern_tasks.proofs.runnable.fill_runnable.Goals.{then-is_runnable, els
 
 pub loop-place-preserved : goal.loop-place-preserved
 loop-place-preserved g c =
-    elim c.if-is_runnable.branch [ | then-is_runnable w ↦ ? | else-is_runnable w ↦ ? ]
+    elim c.if-is_runnable.branch [ then-is_runnable w ↦ ? | else-is_runnable w ↦ ? ]
