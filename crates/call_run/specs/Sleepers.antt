@@ -176,10 +176,10 @@ pub record AreMinded (script : Script) (plain : Plain) (told : List Sleeper) (ch
 abbrev pub AreTrulyTold : Script → Objects → List Sleeper → Type 0
 AreTrulyTold script objects told = (world : World) → StandsFor script objects world → AllByRecursion (IsTrulyTold script world.plain) told
 
--- Sleepers stand by rising pid, and where no channel is open there is none.
-pub record AreKeptAsleep (told : List Sleeper) (channels : List (Option Channel)) (open : Bool) : Type 0 where
+-- Sleepers stand by rising pid, and where none may be open there is no channel.
+pub record AreKeptAsleep (told : List Sleeper) (channels : List (Option Channel)) (is_open : Bool) : Type 0 where
   pub rising : AreRising 0 told
-  pub closed : open ≡ false → (place : ℕ) → channel_at channels place ≡ None
+  pub closed : is_open ≡ false → (place : ℕ) → channel_at channels place ≡ None
 
 -- ---- what changes
 

@@ -26,7 +26,7 @@ IsAtRest objects = objects.heap.high ≡ live_bytes objects.heap
 pub record SleepersView : Type 0 where
   pub told : List Sleeper
   pub channels : List (Option Channel)
-  pub open : Bool
+  pub is_open : Bool
   pub stirred : List ℕ
 
 -- A store: its script, its objects, and what it keeps in mind of the calls that sleep.

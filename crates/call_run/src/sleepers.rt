@@ -85,7 +85,7 @@ pub struct Sleepers {
     // Each at the place that its process and its number give; the later one takes it.
     channels: [Option<Channel>; CHANNELS],
     // There may be a channel.
-    open: bool,
+    is_open: bool,
     // Of whom the last turn, refusal, kill or eviction has changed whether it is kept in mind that they would block.
     stirred: ArrayVec<u32, 128>,
 }
@@ -99,11 +99,11 @@ impl Model for Sleepers {
     ghost view = { λ sleepers. record {
       told = sleepers.told.items;
       channels = sleepers.channels;
-      open = sleepers.open;
+      is_open = sleepers.is_open;
       stirred = sleepers.stirred.items;
     } };
 
-    ghost invariant = { λ sleepers. AreKeptAsleep sleepers.told.items sleepers.channels sleepers.open };
+    ghost invariant = { λ sleepers. AreKeptAsleep sleepers.told.items sleepers.channels sleepers.is_open };
 }
 
 /// Whether a turn of this call, whatever it came to, changes nothing that another process's call may wait for: no queue, no child that
@@ -450,7 +450,7 @@ impl Sleepers {
         Sleepers {
             told: ArrayVec::new(),
             channels: [None; CHANNELS],
-            open: false,
+            is_open: false,
             stirred: ArrayVec::new(),
         }
     }
@@ -503,7 +503,7 @@ impl Sleepers {
     {
         if self.told.is_empty() {
             self.forget_channels();
-        } else if self.open {
+        } else if self.is_open {
             doubt_all(&mut self.channels);
         }
     }
@@ -549,9 +549,9 @@ impl Sleepers {
         ensures stirred { self.new.stirred ≡ self.old.stirred }
         ensures channels { (place : ℕ) → channel_at self.new.channels place ≡ None }
     {
-        if self.open {
+        if self.is_open {
             self.channels = [None; CHANNELS];
-            self.open = false;
+            self.is_open = false;
         }
     }
 
@@ -592,7 +592,7 @@ impl Sleepers {
     {
         let (told, stirred) = (self.told.as_mut_slice(), &mut self.stirred);
         let near = ask_near(script, objects, told, stirred, pid, fd, place);
-        self.open = true;
+        self.is_open = true;
         self.channels[place] = Some(Channel {
             pid,
             fd,
@@ -667,14 +667,7 @@ impl Sleepers {
 
     /// The same, where somebody sleeps. It stands by itself, since a function pays for the room of all its locals whenever it is entered.
     #[inline(never)]
-    fn look_after(
-        &mut self,
-        script: &Script,
-        objects: &Objects,
-        pid: u32,
-        call: &Call,
-        came: Came,
-    )
+    fn look_after(&mut self, script: &Script, objects: &Objects, pid: u32, call: &Call, came: Came)
         requires { (old new : World) × (told : TurnedOf) × IsBehind script.now objects.now old new pid call.now told self.old.told self.old.channels × (came ≡ came_of told) }
         ensures minded { (old new : World) (told : TurnedOf) → IsBehind script.now objects.now old new pid call.now told self.old.told self.old.channels → came ≡ came_of told
             → AreMinded script.now new.plain self.new.told self.new.channels }
