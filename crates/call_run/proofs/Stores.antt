@@ -16,7 +16,7 @@ use Rattle.store_objects.specs.Objects.{IsCaller}
 use Rattle.store_objects.specs.Standing.{IsSound, StandsFor}
 use Rattle.store_objects.proofs.Callers.{caller_running}
 use Rattle.store_objects.proofs.LiveIs.{live_is}
-use Rattle.store_objects.proofs.RunningProcs.{alive_is}
+use Rattle.store_objects.proofs.RunningProcs.{alive_is, alive_runs}
 use Rattle.call_run.specs.Families.{HasDone, HasHalf, HasPaths}
 use Rattle.call_run.specs.Stores.{IsStoreOf}
 use Rattle.call_run.proofs.Sound.{half, sound}

@@ -108,6 +108,10 @@ NamesMore old named new more = (who : ℕ) → is_among more who ≡ false → (
 abbrev pub NamesOne : List ℕ → Sleeper → Sleeper → List ℕ → Type 0
 NamesOne named old new more = (who : ℕ) → is_among more who ≡ false → (is_among named who ≡ false) × (who ≡ old.pid → new.blocks ≡ old.blocks)
 
+-- of whom nothing was told nothing is
+abbrev pub AreFewer : List Sleeper → List Sleeper → Type 0
+AreFewer old new = (who : ℕ) → told_of old who ≡ None → told_of new who ≡ None
+
 -- ---- channels
 
 -- the channel of a place, if there is one

@@ -15,7 +15,8 @@ ghost use Rattle.posix_defs.specs.World.{World};
 ghost use Rattle.posix_defs.specs.declared.turner.Turned.{Turned as TurnedOf};
 ghost use Rattle.store_objects.specs.Standing.{StandsFor};
 ghost use Rattle.waking_laws.specs.Waking.{gives_number, moves_through, wakes_nobody};
-ghost use Rattle.call_run.specs.Sleepers.{AreMinded, AreNear, AreRising, AreTrulyTold, HasBegun, IsBehind, IsDoubted, IsLookedAt, IsNear, IsOf, IsPassed, NamesMore, NamesOne, StandsAsleep, begun, came_of, channel_at, doubted, is_settled, is_sleep, lain, place_in, stands_in, stirs_by, stirs_of, told_of, with_sleeper, without};
+ghost use Rattle.call_run.specs.Sleepers.{AreFewer, AreMinded, AreNear, AreRising, AreTrulyTold, HasBegun, IsBehind, IsDoubted, IsLookedAt, IsNear, IsOf, IsPassed, NamesMore, NamesOne, StandsAsleep, begun, came_of, channel_at, doubted, is_settled, is_sleep, lain, place_in, stands_in, stirs_by, stirs_of, told_of, with_sleeper, without};
+ghost use Rattle.call_run.specs.declared.sleepers.Came.TheVariants.{Part};
 ghost use Rattle.call_run.specs.declared.sleepers.Stirs.TheVariants.{Through};
 
 use crate::calls::would_block;
@@ -331,6 +332,7 @@ fn ask_each(
     requires room { array_vec_len stirred.old + array_vec_len told.old ≤ 128 }
     ensures rising { AreRising 0 told.new.items }
     ensures truly { AreTrulyTold script.now objects.now told.new.items }
+    ensures fewer { AreFewer told.old.items told.new.items }
     ensures named { NamesMore told.old.items stirred.old.items told.new.items stirred.new.items }
     ensures room { array_vec_len stirred.new ≤ array_vec_len stirred.old + array_vec_len told.old }
 {
@@ -486,7 +488,7 @@ impl Sleepers {
         requires { self.old.stirred ≡ [] }
         ensures told { self.new.told ≡ without self.old.told pid }
         ensures channels { self.new.channels ≡ self.old.channels }
-        ensures named { HasNamed (is_settled self.old.told) (is_settled self.new.told) self.new.stirred }
+        ensures named { NamesMore self.old.told [] self.new.told self.new.stirred }
         ensures few { length self.new.stirred ≤ 1 }
     {
         let place = place_of(self.told.as_slice(), pid);
@@ -561,6 +563,7 @@ impl Sleepers {
         requires stands { (world : World) × StandsFor script.now objects.now world }
         requires room { length self.old.stirred ≤ 1 }
         ensures minded { (world : World) → StandsFor script.now objects.now world → AreMinded script.now world.plain self.new.told self.new.channels }
+        ensures fewer { AreFewer self.old.told self.new.told }
         ensures named { NamesMore self.old.told self.old.stirred self.new.told self.new.stirred }
         ensures room { length self.new.stirred ≤ 65 }
     {
@@ -609,6 +612,7 @@ impl Sleepers {
         requires room { length self.old.stirred ≤ 1 }
         ensures minded { (old new : World) (call : CallOf) (told : TurnedOf) → IsBehind script.now objects.now old new pid call told self.old.told self.old.channels
             → stirs_of call (came_of told) ≡ Through fd → AreMinded script.now new.plain self.new.told self.new.channels }
+        ensures up { told_of self.new.told pid ≡ None }
         ensures named { NamesMore self.old.told self.old.stirred self.new.told self.new.stirred }
         ensures room { length self.new.stirred ≤ 65 }
     {
@@ -631,6 +635,7 @@ impl Sleepers {
         requires room { length self.old.stirred ≤ 1 }
         ensures minded { (old new : World) (told : TurnedOf) → IsBehind script.now objects.now old new pid call.now told self.old.told self.old.channels → came ≡ came_of told
             → AreMinded script.now new.plain self.new.told self.new.channels }
+        ensures up { told_of self.new.told pid ≡ None }
         ensures named { NamesMore self.old.told self.old.stirred self.new.told self.new.stirred }
         ensures room { length self.new.stirred ≤ 65 }
     {
@@ -643,6 +648,32 @@ impl Sleepers {
             Stirs::Through(fd) => self.touch(script, objects, pid, fd),
             Stirs::Everybody => self.ask_all(script, objects),
         }
+    }
+
+    /// A process's call doesn't sleep on: those are asked whom its turn may have woken.
+    fn go_on(&mut self, script: &Script, objects: &Objects, pid: u32, call: &Call, came: Came)
+        requires behind { (old new : World) × (told : TurnedOf) × IsBehind script.now objects.now old new pid call.now told self.old.told self.old.channels × (came ≡ came_of told) }
+        requires none { self.old.stirred ≡ [] }
+        ensures minded { (old new : World) (told : TurnedOf) → IsBehind script.now objects.now old new pid call.now told self.old.told self.old.channels → came ≡ came_of told
+            → AreMinded script.now new.plain self.new.told self.new.channels }
+        ensures up { told_of self.new.told pid ≡ None }
+        ensures named { NamesMore self.old.told [] self.new.told self.new.stirred }
+        ensures room { length self.new.stirred ≤ 65 }
+    {
+        self.get_up(pid);
+        self.stir(script, objects, pid, call, came);
+    }
+
+    /// So it is where a part was done, and the rest sleeps.
+    fn go_on_in_part(&mut self, script: &Script, objects: &Objects, pid: u32, call: &Call)
+        requires behind { (old new : World) × (told : TurnedOf) × IsBehind script.now objects.now old new pid call.now told self.old.told self.old.channels × (Part ≡ came_of told) }
+        requires none { self.old.stirred ≡ [] }
+        ensures minded { (old new : World) (told : TurnedOf) → IsBehind script.now objects.now old new pid call.now told self.old.told self.old.channels → Part ≡ came_of told
+            → AreMinded script.now new.plain self.new.told self.new.channels }
+        ensures named { HasNamed (is_settled self.old.told) (is_settled self.new.told) self.new.stirred }
+    {
+        self.go_on(script, objects, pid, call, Came::Part);
+        self.lie_down(pid, !goes_on(script, objects, pid));
     }
 
     /// Behind a turn of this call of a process, which came to this: those whom it may have woken are asked, and whose call sleeps is kept
@@ -674,14 +705,12 @@ impl Sleepers {
         ensures named { HasNamed (is_settled self.old.told) (is_settled self.new.told) self.new.stirred }
     {
         self.stirred.clear();
-        if matches!(came, Came::Sleep) {
-            self.sleep_on(pid);
-            return;
-        }
-        self.get_up(pid);
-        self.stir(script, objects, pid, call, came);
-        if matches!(came, Came::Part) {
-            self.lie_down(pid, !goes_on(script, objects, pid));
+        match came {
+            Came::Sleep => self.sleep_on(pid),
+            Came::Part => self.go_on_in_part(script, objects, pid, call),
+            Came::Nothing | Came::Done | Came::End => {
+                self.go_on(script, objects, pid, call, came)
+            }
         }
     }
 
