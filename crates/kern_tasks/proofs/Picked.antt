@@ -1,5 +1,5 @@
 -- The tasks that pass a test, beside their places: what holds of them in turn holds of all, where of the others it is known.
-use Rattle.std.proofs.Common.{◌≡◌, ℕ, zero, suc, ◌+◌, ◌-◌, ◌<◌, ◌≤◌, ◌==◌, ◌&&◌, not, Bool, true, false, cond, if◌then◌else◌, List, [], ◌∷◌, ◌++◌, length, filter, Option, None, Some, slice_get, get_or, refl, ap, sym, ◌∙◌, subst, arith}
+use Rattle.std.proofs.Common.{◌≡◌, ℕ, zero, suc, ◌+◌, ◌-◌, ◌<◌, ◌≤◌, ◌==◌, ◌&&◌, not, Bool, true, false, cond, if◌then◌else◌, List, [], ◌∷◌, ◌++◌, length, drop, filter, Option, None, Some, slice_get, get_or, refl, ap, sym, ◌∙◌, subst, arith}
 use Rattle.std.specs.List.{AllByRecursion, count_by, list_all}
 use borrow.Author.Tests.{eqb-true}
 use Rattle.std.proofs.lemmas.List.Sums.{sum_by-cons}
@@ -13,6 +13,7 @@ use Rattle.posix_defs.specs.CoreState.{CoreState, phase_in, with_phase_in}
 use Rattle.posix_defs.specs.Choice.{events_in, events_of}
 use Rattle.kern_tasks.specs.Room.{is_asleep}
 use Rattle.kern_tasks.specs.Runnable.{is_runnable, places_from}
+use Rattle.kern_tasks.proofs.TaskLoops.{next_task}
 
 -- ---- by places
 
@@ -133,6 +134,21 @@ places_with passes first (task ∷ tasks) pid phase same = go (task.pid == pid) 
 -- one task more
 pub counted_one : (test : Task → Bool) (task : Task) (tasks : List Task) → count_by test (task ∷ tasks) ≡ cond (test task) 1 0 + count_by test tasks
 counted_one test task tasks = sum_by-cons (λ t. cond (test t) 1 0) task tasks
+
+-- so many are counted, and one place further
+pub counted_more : (test : Task → Bool) (tasks : List Task) (place count all : ℕ) (d : Task) → place < length tasks → test (get_or tasks place d) ≡ true
+    → count + count_by test (drop place tasks) ≡ all → count + 1 + count_by test (drop (place + 1) tasks) ≡ all
+counted_more test tasks place count all d within passed so =
+    let next = ap (count_by test) (next_task tasks place d within) ∙ counted_one test (get_or tasks place d) (drop (place + 1) tasks) in
+    let one : cond (test (get_or tasks place d)) 1 0 ≡ 1 = ap (λ b. cond b 1 0) passed in
+    omega (arith, next, one, so)
+
+pub counted_past : (test : Task → Bool) (tasks : List Task) (place count all : ℕ) (d : Task) → place < length tasks → test (get_or tasks place d) ≡ false
+    → count + count_by test (drop place tasks) ≡ all → count + count_by test (drop (place + 1) tasks) ≡ all
+counted_past test tasks place count all d within failed so =
+    let next = ap (count_by test) (next_task tasks place d within) ∙ counted_one test (get_or tasks place d) (drop (place + 1) tasks) in
+    let none : cond (test (get_or tasks place d)) 1 0 ≡ 0 = ap (λ b. cond b 1 0) failed in
+    omega (arith, next, none, so)
 
 -- no more pass than there are; and where all do it is as many
 pub no_more : (test : Task → Bool) (tasks : List Task) → count_by test tasks ≤ length tasks

@@ -265,6 +265,12 @@ one_anew passes anew pid first below place (task ∷ tasks) d rising e = go (tas
         ∙ further (passes task) (anew (slice_index_or tasks (place - (first + 1)) d)) (omega arith)
         ∙ ap (λ ps. if passes task then first ∷ ps else ps) (more f)
 
+pub first_anew : (passes anew : Task → Bool) (pid place : ℕ) (tasks : List Task) (d : Task) → AreRising 0 tasks → place_from 0 tasks pid ≡ Some place
+    → with_place (places_from passes 0 tasks) place (anew (slice_index_or tasks place d)) ≡ places_from (but_for passes pid anew) 0 tasks
+first_anew passes anew pid place tasks d rising e =
+    ap (λ n. with_place (places_from passes 0 tasks) place (anew (slice_index_or tasks n d))) (let same : place ≡ place - 0 = omega arith in same)
+    ∙ one_anew passes anew pid 0 0 place tasks d rising e
+
 -- ---- the test is made anew for some
 
 -- for one more
