@@ -1,6 +1,4 @@
-use Rattle.std.proofs.Common.{◌≡◌, ◌<◌, ◌≤◌, Some, length, slice_get, remove, sym, ap, subst, ◌∙◌, arith}
-use Rattle.std.specs.Prelude.{insert}
-use Rattle.std.specs.Result.{is_ok}
+use Rattle.std.proofs.Common.{◌≡◌, ◌<◌, ◌≤◌, if◌then◌else◌, length, insert, slice_get, remove, sym, ap, subst, ◌∙◌, arith}
 use Rattle.std.proofs.lemmas.Option.{slice_get_within}
 use Rattle.kern_tasks.specs.Runnable.{AreRisingFrom, below, with_place}
 use Rattle.kern_tasks.proofs.Runnables.{Stands, goes_with, stands_with}
@@ -42,7 +40,11 @@ pub returns-then-there-clause-items : goal.returns-then-there-clause-items
 returns-then-there-clause-items c =
     let items = c.args.places.now.items in
     let at : c.count_below-at.result ≡ below items c.args.place = c.count_below-at.ensures.below ∙ ap (λ ps. below ps c.args.place) c.as_slice.ensures.value in
-    ? at
+    c.insert.ensures.items ∙ ap (λ b. if b then insert items c.count_below-at.result c.args.place else items) (c.insert.ensures.succeeds c.requires.room)
+    ∙ ap (λ n. insert items n c.args.place) at
+    ∙ sym (goes_with items c.args.place (λ stands.
+    c.stands_at.ensures.apart c.if-stands_at.false (ap (λ ps. slice_get ps c.count_below-at.result) c.as_slice-2.ensures.value ∙ ap (slice_get items) at ∙ stands))).0
+    ∙ ap (with_place items c.args.place) (sym c.if-there.true)
 
 pub returns-else-there-clause-items : goal.returns-else-there-clause-items
 returns-else-there-clause-items c =
