@@ -1,7 +1,7 @@
 //! Which tasks are runnable: all but those whose calls sleep and of which the store keeps in mind that they would block. They are
 //! kept by their places, so that an event looks at no task beside.
 
-ghost use Rattle.std.specs.Prelude.{◌≡◌, ◌≢◌, ◌+◌, ◌≤◌, ◌<◌, ◌++◌, if◌then◌else◌, Bool, false, true, Some, length, slice_get, vec_len, vec_capacity};
+ghost use Rattle.std.specs.Prelude.{◌≡◌, ◌≢◌, ◌+◌, ◌≤◌, ◌<◌, ◌++◌, [], if◌then◌else◌, Bool, false, true, Some, length, slice_get, vec_len, vec_capacity};
 ghost use Rattle.std.specs.List.{count_by};
 ghost use Rattle.posix_defs.specs.declared.phases.Task.{Task as TaskOf};
 ghost use Rattle.posix_defs.specs.SoundTasks.{AreRising};
@@ -217,7 +217,21 @@ fn sort_some<T: Turner>(
     sort_stirred(store, tasks, runnable);
 }
 
-/// The same. Mostly there is nothing to look at.
+/// Whether a turn leaves nothing to look at, as it mostly does.
+#[inline(always)]
+fn is_plain<T: Turner>(store: &T, sleeps: bool, ends: bool, born: bool) -> bool
+    ensures ends { result ≡ true → ends ≡ false }
+    ensures born { result ≡ true → born ≡ false }
+    ensures sleeps { result ≡ true → sleeps ≡ false }
+    ensures stirred { result ≡ true → T.stirred store.now ≡ [] }
+{
+    if ends || born || sleeps {
+        return false;
+    }
+    store.stirred().is_empty()
+}
+
+/// The same, where it mostly does nothing.
 #[inline(always)]
 pub fn sort_turned<T: Turner>(
     store: &T,
@@ -241,7 +255,8 @@ pub fn sort_turned<T: Turner>(
     ensures asleep { ends ≡ false → asleep.new ≡ asleep.old + (if sleeps then 1 else 0) }
     ensures room { vec_capacity runnable.old ≤ vec_capacity runnable.new }
 {
-    if ends || born || sleeps || !store.stirred().is_empty() {
-        sort_some(store, tasks, runnable, asleep, pid, sleeps, ends, born);
+    if is_plain(store, sleeps, ends, born) {
+        return;
     }
+    sort_some(store, tasks, runnable, asleep, pid, sleeps, ends, born);
 }
