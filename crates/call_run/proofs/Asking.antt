@@ -1,5 +1,5 @@
 -- The loops that ask sleepers again, from the last to the first.
-use Rattle.std.proofs.Common.{◌≡◌, ℕ, zero, suc, ◌+◌, ◌-◌, ◌<◌, ◌≤◌, ℤ, Bool, true, false, List, [], ◌∷◌, drop, length, slice_set, slice_index_or, remove, refl, ap, sym, ◌∙◌, subst, arith, length-set}
+use Rattle.std.proofs.Common.{◌≡◌, ◌≢◌, ◌==◌, ℕ, zero, suc, ◌+◌, ◌-◌, ◌<◌, ◌≤◌, ℤ, Bool, true, false, if◌then◌else◌, Option, None, Some, eqb-true, List, [], ◌∷◌, drop, length, slice_set, slice_index_or, remove, refl, ap, sym, ◌∙◌, subst, arith, length-set}
 use Rattle.std.specs.List.{AllByRecursion}
 use Rattle.kabi_types.specs.declared.scripts.Script.{Script}
 use Rattle.posix_defs.specs.World.{World}
@@ -7,8 +7,8 @@ use Rattle.posix_defs.specs.Process.{is_alive}
 use Rattle.store_objects.specs.declared.objects.Objects.{Objects}
 use Rattle.store_objects.specs.Standing.{StandsFor}
 use Rattle.call_run.specs.declared.sleepers.Sleeper.{Sleeper}
-use Rattle.call_run.specs.Sleepers.{AreNear, AreRising, AreTrulyTold, IsLookedAt, IsNear, IsTrulyTold, any_sleeper, is_asked, is_gone, is_known, is_learned, is_near}
-use Rattle.call_run.proofs.Telling.{rising_removed, rising_set}
+use Rattle.call_run.specs.Sleepers.{AreFewer, AreNear, AreRising, AreTrulyTold, IsLookedAt, IsNear, IsTrulyTold, any_sleeper, is_asked, is_gone, is_known, is_learned, is_near, told_of}
+use Rattle.call_run.proofs.Telling.{each_other, rising_removed, rising_set, told_removed, told_set, told_there}
 
 -- ---- all are asked
 
@@ -102,3 +102,37 @@ module _ (script : Script) (objects : Objects) (pid : ℕ) (fd : ℤ) (channel :
   near_rising least (x ∷ old) (y ∷ new) near asked rising =
       let same = same_pid x y asked.0.0 asked.0.1 in
       (subst (λ n. least < n) (sym same) rising.0, subst (λ n. AreRising n new) (sym same) (near_rising x.pid old new near asked.1 rising.1))
+
+-- ---- of whom nothing was told nothing is
+
+never_some : {X : Type 0} {b : Bool} → Some b ≡ None → X
+never_some e = cc
+
+pub looked_fewer : (script : Script) (objects : Objects) (place : ℕ) (old new : List Sleeper) → place < length old → AreRising 0 old → IsLookedAt script objects old place new → AreFewer old new
+looked_fewer script objects place old new within rising (is_asked sleeper same truly) who none =
+    told_set old 0 place who any_sleeper sleeper rising within same ∙ go (sleeper.pid == who) refl
+  where
+    go : (b : Bool) → (sleeper.pid == who) ≡ b → (if b then Some sleeper.blocks else told_of old who) ≡ None
+    go false e = none
+    go true e =
+        let own : who ≡ (slice_index_or old place any_sleeper).pid = sym (eqb-true sleeper.pid who e) ∙ same in
+        never_some (sym (ap (told_of old) own ∙ told_there old 0 place any_sleeper rising within) ∙ none)
+looked_fewer script objects place old new within rising is_gone who none =
+    told_removed old 0 place who any_sleeper rising within ∙ go ((slice_index_or old place any_sleeper).pid == who)
+  where
+    go : (b : Bool) → (if b then None else told_of old who) ≡ None
+    go true = refl
+    go false = none
+
+-- the same pids, in turn
+pub same_fewer : (old new : List Sleeper) (pid : ℕ) → told_of old pid ≡ None → ((P : ℕ → Type 0) → AllByRecursion (λ sleeper. P sleeper.pid) old → AllByRecursion (λ sleeper. P sleeper.pid) new)
+    → told_of new pid ≡ None
+same_fewer old new pid none pids = untold new (pids (λ n. n ≢ pid) (each_other old pid none))
+  where
+    untold : (ts : List Sleeper) → AllByRecursion (λ sleeper. sleeper.pid ≢ pid) ts → told_of ts pid ≡ None
+    untold [] all = refl
+    untold (sleeper ∷ ts) all = go (sleeper.pid == pid) refl (untold ts all.1)
+      where
+        go : (b : Bool) → (sleeper.pid == pid) ≡ b → told_of ts pid ≡ None → (if b then Some sleeper.blocks else told_of ts pid) ≡ None
+        go true e later = absurd (all.0 (eqb-true sleeper.pid pid e))
+        go false e later = later

@@ -1,5 +1,5 @@
 -- What is kept in mind of sleepers is so behind a turn too.
-use Rattle.std.proofs.Common.{◌≡◌, ◌≢◌, ℕ, suc, zero, ◌||◌, ◌<◌, ℤ, not, Bool, true, false, List, [], ◌∷◌, map, replicate, Option, None, Some, slice_get, slice_set, length, refl, ap, sym, ◌∙◌, subst, inl, inr}
+use Rattle.std.proofs.Common.{◌≡◌, ◌≢◌, ℕ, suc, zero, ◌||◌, ◌<◌, ℤ, not, Bool, true, false, List, [], ◌∷◌, map, replicate, Option, None, Some, slice_get, slice_set, length, refl, ap, sym, ◌∙◌, subst, inl, inr, arith}
 use Rattle.std.specs.List.{AllByRecursion, list_any}
 use Rattle.std.specs.Option.{option_and_then}
 use Rattle.std.proofs.lemmas.Bool.Decides.{eqb_tells}
@@ -422,11 +422,10 @@ module _ (script : Script) (old new : World) (pid : ℕ) (fd : ℤ) (which : Cal
           begun_pids P middle is_anew all = map_all (λ sleeper. P sleeper.pid) (λ sleeper. P sleeper.pid) (begun place) sleepers (λ sleeper here. here) all
 
           -- a channel there
-          opened : Option Channel
+          abbrev opened : Option Channel
           opened = Some (record { pid = pid; fd = fd; all_apart = not near })
 
           at_place : place < length channels → channel_at (slice_set channels place opened) place ≡ opened
-          unfolding opened
           at_place within = ap (option_and_then (λ channel. channel)) (get_set_same channels place opened within)
 
           at_other : (at : ℕ) → at ≢ place → channel_at (slice_set channels place opened) at ≡ channel_at channels at
@@ -641,3 +640,99 @@ stands_asleep script objects old new pid which told sleepers channels behind cam
         by (machine script old.plain pid (call_of script old.plain pid)) refl
         (subst (λ w. Tells (machine script old.plain pid w) old.plain told new.plain) (behind.own is) answers.answer) is
     go false is over = absurd (gone (sym over.0 ∙ asleep))
+
+-- ---- behind a turn
+
+-- a process with the number 0 never lives
+pub alive_some : (plain : Plain) (pid : ℕ) → is_alive plain.table pid ≡ true → 0 < pid
+alive_some plain zero alive = absurd (dead alive)
+  where
+    dead : is_alive plain.table 0 ≡ true → ⊥
+    dead e = cc
+alive_some plain (suc pid) alive = omega arith
+
+-- who moved bytes was alive
+pub mover_was : (script : Script) (old new : World) (pid : ℕ) (fd : ℤ) (which : Call) (told : Turned) → TurnsTo script old pid which told new
+    → stirs_of which (came_of told) ≡ Through fd → is_alive old.plain.table pid ≡ true
+mover_was script old new pid fd which told turns stirs = go (is_alive old.plain.table pid) refl turns
+  where
+    gone : stirs_of which (came_of turned.Gone) ≡ Through fd → ⊥
+    gone e = cc
+
+    go : (lives : Bool) → is_alive old.plain.table pid ≡ lives → TurnsWhere lives script old pid which told new → is_alive old.plain.table pid ≡ true
+    go true is answers = is
+    go false is over = absurd (gone (ap (λ t. stirs_of which (came_of t)) (sym over.0) ∙ stirs))
+
+-- a process of whose call a part was done lives
+pub part_lives : (script : Script) (objects : Objects) (old new : World) (pid : ℕ) (which : Call) (told : Turned) (sleepers : List Sleeper) (channels : List (Option Channel))
+    → IsBehind script objects old new pid which told sleepers channels → came.Part ≡ came_of told → is_alive new.plain.table pid ≡ true
+part_lives script objects old new pid which told sleepers channels behind came_is = go (is_alive old.plain.table pid) refl behind.turns
+  where
+    gone : came.Part ≡ came_of turned.Gone → ⊥
+    gone e = cc
+
+    lasts : (t : Turned) → came.Part ≡ came_of t → (status : ℕ) → t ≡ turned.Ended status → ⊥
+    lasts t e status is = ended (e ∙ ap came_of is)
+      where
+        ended : came.Part ≡ came.End → ⊥
+        ended f = cc
+
+    go : (lives : Bool) → is_alive old.plain.table pid ≡ lives → TurnsWhere lives script old pid which told new → is_alive new.plain.table pid ≡ true
+    go true is answers = mover_lives script old new pid which told behind.reached behind.turns (lasts told came_is) is
+    go false is over = absurd (gone (came_is ∙ ap came_of over.0))
+
+module _ (script : Script) (objects : Objects) (old new : World) (pid : ℕ) (which : Call) (told : Turned) (sleepers : List Sleeper) (channels : List (Option Channel))
+    (behind : IsBehind script objects old new pid which told sleepers channels) where
+  -- the process gets up
+  pub up_behind : (others : List Sleeper) (same : List (Option Channel)) → others ≡ without sleepers pid → same ≡ channels → IsBehind script objects old new pid which told others same
+  up_behind others same others_are same_are = record {
+    reached = behind.reached;
+    minded =
+        subst (λ ts. AreMinded script old.plain ts same) (sym others_are)
+        (subst (AreMinded script old.plain (without sleepers pid)) (sym same_are) (minded_without script old.plain sleepers channels pid behind.minded));
+    own = behind.own;
+    turns = behind.turns;
+    stands = behind.stands;
+    reaches = behind.reaches;
+  }
+
+  module _ (up : told_of sleepers pid ≡ None) where
+    -- nobody is stirred
+    pub nobody_stirred : stirs_of which (came_of told) ≡ Nobody → gives_number which ≡ false → AreMinded script new.plain sleepers channels
+    nobody_stirred stirs keeps =
+        passed_minded script old new pid which told behind.reached behind.turns (nobody_passes which told stirs) sleepers channels behind.minded up keeps
+
+    pub nobody_forgotten : (none : List (Option Channel)) → ((place : ℕ) → channel_at none place ≡ None) → stirs_of which (came_of told) ≡ Nobody → AreMinded script new.plain sleepers none
+    nobody_forgotten none are_none stirs =
+        minded_alone script new.plain sleepers none are_none
+        (passed_truly script old new pid which told behind.reached behind.turns (nobody_passes which told stirs) sleepers channels behind.minded up)
+
+    module _ (fd : ℤ) (stirs : stirs_of which (came_of told) ≡ Through fd) where
+      mover : is_alive old.plain.table pid ≡ true
+      mover = mover_was script old new pid fd which told behind.turns stirs
+
+      -- the process lives on, and so do those who sleep
+      pub touched_lives : is_alive new.plain.table pid ≡ true
+      touched_lives =
+          let so = moves_so which told fd stirs in
+          mover_still script old new pid fd which told behind.reached behind.turns so.0 so.1 mover
+
+      pub sleepers_live : AllByRecursion (λ sleeper. is_alive new.plain.table sleeper.pid ≡ true) sleepers
+      sleepers_live =
+          let so = moves_so which told fd stirs in
+          each_map (λ sleeper. IsTrulyTold script old.plain sleeper × (sleeper.pid ≢ pid)) (λ sleeper. is_alive new.plain.table sleeper.pid ≡ true) sleepers
+          (λ sleeper it. moved_lives script old new pid sleeper.pid fd which told behind.turns so.0 it.1 it.0.alive)
+          (each_and (IsTrulyTold script old.plain) (λ sleeper. sleeper.pid ≢ pid) sleepers behind.minded.each (each_other sleepers pid up))
+
+      pub touched_passed : (place : ℕ) → IsPassed (channel_at channels place) pid fd → AreMinded script new.plain sleepers channels
+      touched_passed place is =
+          let so = moves_so which told fd stirs in
+          all_passed script old new pid fd which told behind.reached behind.turns so.0 so.1 mover sleepers channels behind.minded up place is
+
+      pub touched_near : (place : ℕ) (near : Bool) (first : Sleeper) (rest : List Sleeper) → sleepers ≡ first ∷ rest → (middle after : List Sleeper)
+          → HasBegun (channel_at channels place) pid fd place sleepers middle → AreNear script objects pid fd place middle after near → place < length channels
+          → AreMinded script new.plain after (slice_set channels place (Some (record { pid = pid; fd = fd; all_apart = not near })))
+      touched_near place near first rest some middle after began asked within =
+          let so = moves_so which told fd stirs in
+          near_minded script old new pid fd which told behind.reached behind.turns so.0 so.1 mover sleepers channels behind.minded up place objects behind.stands near first rest some middle after
+          began asked within
