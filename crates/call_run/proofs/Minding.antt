@@ -266,7 +266,7 @@ module _ (script : Script) (old new : World) (pid : ℕ) (fd : ℤ) (which : Cal
             (λ sleeper. StaysAsItWas script sleeper.pid old.plain new.plain) sleepers
             (λ sleeper it.
             other_apart sleeper.pid it.0.1 it.0.0.alive
-            (ap (λ n. is_apart script old.plain sleeper.pid n fd) (sym is.pid) ∙ ap (is_apart script old.plain sleeper.pid is.it.pid) (sym is.fd) ∙ it.1))
+            (ap (λ n. is_apart script old.plain sleeper.pid n fd) (sym is.same_pid) ∙ ap (is_apart script old.plain sleeper.pid is.it.pid) (sym is.same_fd) ∙ it.1))
             (each_and (λ sleeper. IsTrulyTold script old.plain sleeper × (sleeper.pid ≢ pid)) (λ sleeper. is_apart script old.plain sleeper.pid is.it.pid is.it.fd ≡ true) sleepers
             (each_and (IsTrulyTold script old.plain) (λ sleeper. sleeper.pid ≢ pid) sleepers minded.each (each_other sleepers pid up)) all)
 
@@ -292,7 +292,7 @@ module _ (script : Script) (old new : World) (pid : ℕ) (fd : ℤ) (which : Cal
         truly = it.0;
         other = it.1;
         here = λ told_apart.
-            ap (λ n. is_apart script old.plain sleeper.pid n fd) (sym is.pid) ∙ ap (is_apart script old.plain sleeper.pid is.it.pid) (sym is.fd)
+            ap (λ n. is_apart script old.plain sleeper.pid n fd) (sym is.same_pid) ∙ ap (is_apart script old.plain sleeper.pid is.it.pid) (sym is.same_fd)
             ∙ subst (IsApartAt script old.plain sleeper place) is.there (it.2 place) told_apart;
         there = λ at apart. it.2 at;
       }

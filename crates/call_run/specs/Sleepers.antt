@@ -122,8 +122,8 @@ channel_at channels place = option_and_then (λ channel. channel) (slice_get cha
 pub record IsOf (channel : Option Channel) (pid : ℕ) (fd : ℤ) : Type 0 where
   pub it : Channel
   pub there : channel ≡ Some it
-  pub pid : it.pid ≡ pid
-  pub fd : it.fd ≡ fd
+  pub same_pid : it.pid ≡ pid
+  pub same_fd : it.fd ≡ fd
 
 -- it is told of the sleeper that he is apart from what stands at this place
 abbrev pub IsToldApart : Sleeper → ℕ → Type 0
@@ -133,8 +133,8 @@ IsToldApart sleeper place = slice_get sleeper.apart place ≡ Some true
 pub record IsPassed (channel : Option Channel) (pid : ℕ) (fd : ℤ) : Type 0 where
   pub it : Channel
   pub there : channel ≡ Some it
-  pub pid : it.pid ≡ pid
-  pub fd : it.fd ≡ fd
+  pub same_pid : it.pid ≡ pid
+  pub same_fd : it.fd ≡ fd
   pub all_apart : it.all_apart ≡ true
 
 -- the same channel, but that it isn't told to have all apart from it

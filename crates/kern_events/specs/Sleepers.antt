@@ -38,8 +38,8 @@ pub record HaveEvents (settled : ℕ → Bool) (heap charged : ℕ) (tasks : Lis
 pub record Knows {T : Type 0} (stands_for : T → World → Type 0) (script : Script) (settled : ℕ → Bool) (core : CoreView T) (heap run_room task_room : ℕ)
     (runnable : List ℕ) (place_room asleep most : ℕ) (told : Evictables) : Type 0 where
   pub kept : IsKept stands_for script core heap run_room task_room
-  pub runnable : runnable ≡ runnable_in settled core.tasks
+  pub placed : runnable ≡ runnable_in settled core.tasks
   pub places : core.steps + 2 ≤ place_room
-  pub asleep : asleep ≡ count_by (λ task. is_asleep task.phase) core.tasks
+  pub counted : asleep ≡ count_by (λ task. is_asleep task.phase) core.tasks
   pub waiting : AllByRecursion (λ task. WaitsForAtMost most task.phase) core.tasks
   pub caches : AreEvictable stands_for core.store told

@@ -50,9 +50,9 @@ invariant_of-self g c =
           (c.note.ensures.peak ∙ ap (λ n. max c.self.inside.peak n.charged) c.noted_of-noted.ensures) c.note.ensures.room c.remove.ensures.room
           (let few : length c.remove.new.tasks.items ≡ length (tasks_without c.self.inside.tasks.items c.args.pid) = ap length c.remove.ensures.items in
           let less : length (tasks_without c.self.inside.tasks.items c.args.pid) ≤ length c.self.inside.tasks.items = length-without c.self.inside.tasks.items c.args.pid in omega arith) refl;
-      runnable = c.sort_anew.ensures.items ∙ ap (runnable_in (g.T.Turner.settled c.self.inside.store)) c.as_slice-2.ensures.value;
+      placed = c.sort_anew.ensures.items ∙ ap (runnable_in (g.T.Turner.settled c.self.inside.store)) c.as_slice-2.ensures.value;
       places = let before : c.self.inside.steps + 2 ≤ vec_capacity c.self.inside.runnable = c.self.invariant.places in omega (arith, c.sort_anew.ensures.room);
-      asleep = c.sort_anew.ensures.asleep ∙ ap (count_by (λ task. is_asleep task.phase)) c.as_slice-2.ensures.value;
+      counted = c.sort_anew.ensures.asleep ∙ ap (count_by (λ task. is_asleep task.phase)) c.as_slice-2.ensures.value;
       waiting = waits_without_one _ _ _ c.args.pid c.remove.ensures.items c.self.invariant.waiting;
       caches = c.self.invariant.caches;
     }

@@ -27,10 +27,10 @@ invariant_of-self g c =
           (ap (λ ts. phase_in ts c.args.pid) (sym c.as_slice.ensures.value) ∙ sym c.phase_of.ensures ∙ c.in-Waiting.is)
           c.set_phase.ensures.items (omega arith) (omega arith) c.noted_of-noted.ensures c.note.ensures.run _ _ _ _ _ _ c.self.invariant.kept
           (subst (λ core. MayTake g.T.Turner.stands (g.T.Turner.script core.store) core (Admit c.args.pid)) (sym c.self.view_is) c.requires) c.note.ensures.peak c.note.ensures.room c.set_phase.ensures.room;
-      runnable =
-          still_runnable (g.T.Turner.settled c.self.inside.store) _ _ c.args.pid (Admitted c.in-Waiting.asked) _ c.self.invariant.runnable (ap is_asleep (found)) refl c.set_phase.ensures.items;
+      placed =
+          still_runnable (g.T.Turner.settled c.self.inside.store) _ _ c.args.pid (Admitted c.in-Waiting.asked) _ c.self.invariant.placed (ap is_asleep (found)) refl c.set_phase.ensures.items;
       places = c.self.invariant.places;
-      asleep = still_asleep _ _ c.args.pid (Waiting c.in-Waiting.asked) (Admitted c.in-Waiting.asked) _ c.self.invariant.asleep (found) (λ e. (cc)) refl refl c.set_phase.ensures.items;
+      counted = still_asleep _ _ c.args.pid (Waiting c.in-Waiting.asked) (Admitted c.in-Waiting.asked) _ c.self.invariant.counted (found) (λ e. (cc)) refl refl c.set_phase.ensures.items;
       waiting = waits_with _ _ _ c.args.pid (Admitted c.in-Waiting.asked) tt c.set_phase.ensures.items c.self.invariant.waiting;
       caches = c.self.invariant.caches;
     }

@@ -12,4 +12,4 @@ returns-then-self-asleep-len g c = λ s at sound.
     let fewer : c.self.inside.asleep < length c.self.inside.tasks.items = omega (arith, c.len.ensures, c.self.inside.tasks.ok.0) in
     let are = at.tasks ∙ sym (ap (λ core. core.tasks) c.self.view_is) in
     sym (ap (list_all (λ task. sleeps_on script s task.pid task.phase)) are
-    ∙ not_all_asleep script s c.self.inside.tasks.items (not_as_many (λ task. is_asleep task.phase) _ _ c.self.invariant.asleep fewer))
+    ∙ not_all_asleep script s c.self.inside.tasks.items (not_as_many (λ task. is_asleep task.phase) _ _ c.self.invariant.counted fewer))

@@ -38,14 +38,14 @@ invariant_of-result g c =
             let same : vec_capacity c.push_reserved.new.self ≡ vec_capacity c.in_ok-tasks.tasks = c.push_reserved.ensures.capacity in
             omega arith;
       };
-      runnable =
+      placed =
           c.push_reserved-2.ensures.items ∙ ap (λ before. before ++ 0 ∷ []) c.in_ok-runnable.ensures.items
           ∙ ap (runnable_in (g.T.Turner.settled c.args.store)) (sym tasks);
       places =
           let enough : c.args.steps + 2 ≤ vec_capacity c.in_ok-runnable.runnable = c.in_ok-runnable.ensures.capacity in
           let same : vec_capacity c.push_reserved-2.new.self ≡ vec_capacity c.in_ok-runnable.runnable = c.push_reserved-2.ensures.capacity in
           omega arith;
-      asleep = ap (count_by (λ task. is_asleep task.phase)) (sym tasks);
+      counted = ap (count_by (λ task. is_asleep task.phase)) (sym tasks);
       waiting = subst (AllByRecursion (λ task. WaitsForAtMost 0 task.phase)) (sym tasks) (tt, tt);
       caches = c.evictables_of-evictables.ensures;
     }

@@ -48,13 +48,13 @@ invariant_of-self g c =
           kept_next g.T.Turner.stands _ _ _ _ (Evict c.args.what) _ _ _ _ _ _ c.self.invariant.kept may
           (evicts g.T.Turner.stands _ _ may.state c.args.what _ after.0 c.live.result _ _ may.is_at may.enabled after.1 after.2 (c.live.ensures.bytes after.0 after.1))
           c.note.ensures.run refl c.note.ensures.peak c.note.ensures.room refl (omega arith) c.evict.ensures.script;
-      runnable =
+      placed =
           c.sort_stirred.ensures.items (is_runnable (g.T.Turner.settled c.self.inside.store))
-          (c.self.invariant.runnable ∙ ap (runnable_in (g.T.Turner.settled c.self.inside.store)) (sym c.as_slice.ensures.value))
+          (c.self.invariant.placed ∙ ap (runnable_in (g.T.Turner.settled c.self.inside.store)) (sym c.as_slice.ensures.value))
           ∙ stirred_is _ _ _ c.as_slice.result.now c.evict.ensures.named
           ∙ ap (runnable_in (g.T.Turner.settled c.evict.new.self)) c.as_slice.ensures.value;
       places = let before : c.self.inside.steps + 2 ≤ vec_capacity c.self.inside.runnable = c.self.invariant.places in omega (arith, c.sort_stirred.ensures.room);
-      asleep = c.self.invariant.asleep;
+      counted = c.self.invariant.counted;
       waiting = c.self.invariant.waiting;
       caches = c.evictables_of-self-inside.ensures;
     }
@@ -71,7 +71,7 @@ sort_stirred-requires-clause-few g c =
 pub sort_stirred-requires-clause-places : goal.sort_stirred-requires-clause-places
 sort_stirred-requires-clause-places g c = record {
   passes = is_runnable (g.T.Turner.settled c.self.inside.store);
-  same = c.self.invariant.runnable ∙ ap (runnable_in (g.T.Turner.settled c.self.inside.store)) (sym c.as_slice.ensures.value);
+  same = c.self.invariant.placed ∙ ap (runnable_in (g.T.Turner.settled c.self.inside.store)) (sym c.as_slice.ensures.value);
 }
 
 pub sort_stirred-requires-clause-room : goal.sort_stirred-requires-clause-room

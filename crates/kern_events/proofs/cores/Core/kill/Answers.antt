@@ -76,9 +76,9 @@ invariant_of-self g c =
           (let less : length c.bury.new.tasks.items ≤ length c.self.inside.tasks.items =
           subst (λ ts. length ts ≤ length c.self.inside.tasks.items) (sym (c.bury.ensures.items after.0 after.1)) (length-buried after.0.plain c.self.inside.tasks.items) in omega arith)
           c.kill.ensures.script;
-      runnable = c.sort_anew.ensures.items ∙ ap (runnable_in (g.T.Turner.settled c.kill.new.self)) c.as_slice-2.ensures.value;
+      placed = c.sort_anew.ensures.items ∙ ap (runnable_in (g.T.Turner.settled c.kill.new.self)) c.as_slice-2.ensures.value;
       places = let before : c.self.inside.steps + 2 ≤ vec_capacity c.self.inside.runnable = c.self.invariant.places in omega (arith, c.sort_anew.ensures.room);
-      asleep = c.sort_anew.ensures.asleep ∙ ap (count_by (λ task. is_asleep task.phase)) c.as_slice-2.ensures.value;
+      counted = c.sort_anew.ensures.asleep ∙ ap (count_by (λ task. is_asleep task.phase)) c.as_slice-2.ensures.value;
       waiting = waits_buried _ after.0.plain _ _ (c.bury.ensures.items after.0 after.1) c.self.invariant.waiting;
       caches = c.evictables_of-self-inside.ensures;
     }

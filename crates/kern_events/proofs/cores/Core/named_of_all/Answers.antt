@@ -15,13 +15,13 @@ use Rattle.kern_events.proofs.cores.Core.named_of_all.Goals as goal
 pub overflow_cast-count : goal.overflow_cast-count
 overflow_cast-count g c =
     let few : length c.self.inside.tasks.items ≤ 100001 = few_tasks g.T.Turner.stands _ _ _ _ _ c.self.invariant.kept in
-    let places : length c.self.inside.runnable.items ≤ length c.self.inside.tasks.items = few_places _ _ _ c.self.invariant.runnable in
+    let places : length c.self.inside.runnable.items ≤ length c.self.inside.tasks.items = few_places _ _ _ c.self.invariant.placed in
     omega (arith, c.len-count.ensures)
 
 pub overflow_add-chosen : goal.overflow_add-chosen
 overflow_add-chosen g c =
     let few : length c.self.inside.tasks.items ≤ 100001 = few_tasks g.T.Turner.stands _ _ _ _ _ c.self.invariant.kept in
-    let places : length c.self.inside.runnable.items ≤ length c.self.inside.tasks.items = few_places _ _ _ c.self.invariant.runnable in
+    let places : length c.self.inside.runnable.items ≤ length c.self.inside.tasks.items = few_places _ _ _ c.self.invariant.placed in
     let others : c.count_present.result ≤ 4 = c.count_present.ensures.few in
     omega (arith, c.len-count.ensures)
 
@@ -31,7 +31,7 @@ nonzero_rem-chosen g c =
     let settled = g.T.Turner.settled c.args.self.now.store in
     let here = c.requires.goes_on in
     let same : c.self.inside.runnable.items ≡ runnable_in settled c.args.self.now.tasks =
-    c.self.invariant.runnable ∙ ap (λ core. runnable_in (g.T.Turner.settled core.store) core.tasks) c.self.view_is in
+    c.self.invariant.placed ∙ ap (λ core. runnable_in (g.T.Turner.settled core.store) core.tasks) c.self.view_is in
     let go = all_go_in script here.state settled _ c.args.self.now.tasks here.is_at.charged c.requires.all in
     let are = events_runnable script here.state settled (λ pid e alive. g.T.Turner.settled_block c.args.self.now.store here.state.world pid here.is_at.stands e alive)
     (is_sound here.runs) c.args.self.now.tasks here.is_at.tasks in
@@ -47,7 +47,7 @@ pub event_at-requires : goal.event_at-requires
 event_at-requires g c =
     let settled = g.T.Turner.settled c.args.self.now.store in
     let same : c.as_slice.result.now ≡ runnable_in settled c.args.self.now.tasks =
-    c.as_slice.ensures.value ∙ c.self.invariant.runnable ∙ ap (λ core. runnable_in (g.T.Turner.settled core.store) core.tasks) c.self.view_is in
+    c.as_slice.ensures.value ∙ c.self.invariant.placed ∙ ap (λ core. runnable_in (g.T.Turner.settled core.store) core.tasks) c.self.view_is in
     let here = is_there (is_runnable settled) c.args.self.now.tasks _ _ c.in-Some.place same (sym c.place_at.ensures ∙ c.in-Some.is) in
     here.within
 
@@ -56,7 +56,7 @@ returns-in-Some-clause-named g c = λ s at sound.
     let script = g.T.Turner.script c.args.self.now.store in
     let settled = g.T.Turner.settled c.args.self.now.store in
     let same : c.as_slice.result.now ≡ runnable_in settled c.args.self.now.tasks =
-    c.as_slice.ensures.value ∙ c.self.invariant.runnable ∙ ap (λ core. runnable_in (g.T.Turner.settled core.store) core.tasks) c.self.view_is in
+    c.as_slice.ensures.value ∙ c.self.invariant.placed ∙ ap (λ core. runnable_in (g.T.Turner.settled core.store) core.tasks) c.self.view_is in
     let here = is_there (is_runnable settled) c.args.self.now.tasks _ _ c.in-Some.place same (sym c.place_at.ensures ∙ c.in-Some.is) in
     let go = all_go_in script s settled _ c.args.self.now.tasks at.charged c.requires.all in
     let are = events_runnable script s settled (λ pid e alive. g.T.Turner.settled_block c.args.self.now.store s.world pid at.stands e alive) sound c.args.self.now.tasks at.tasks in
@@ -74,7 +74,7 @@ returns-in-None-clause-named g c = λ s at sound.
     let script = g.T.Turner.script c.args.self.now.store in
     let settled = g.T.Turner.settled c.args.self.now.store in
     let same : c.as_slice.result.now ≡ runnable_in settled c.args.self.now.tasks =
-    c.as_slice.ensures.value ∙ c.self.invariant.runnable ∙ ap (λ core. runnable_in (g.T.Turner.settled core.store) core.tasks) c.self.view_is in
+    c.as_slice.ensures.value ∙ c.self.invariant.placed ∙ ap (λ core. runnable_in (g.T.Turner.settled core.store) core.tasks) c.self.view_is in
     let none = none_picked (is_runnable settled) 0 c.args.self.now.tasks _ (ap (λ ps. slice_get ps (c.args.number % (c.len-count.result + c.count_present.result))) (sym same) ∙ sym c.place_at.ensures ∙ c.in-None.is) in
     let go = all_go_in script s settled _ c.args.self.now.tasks at.charged c.requires.all in
     let are = events_runnable script s settled (λ pid e alive. g.T.Turner.settled_block c.args.self.now.store s.world pid at.stands e alive) sound c.args.self.now.tasks at.tasks in
@@ -91,7 +91,7 @@ pub overflow_sub-chosen : goal.overflow_sub-chosen
 overflow_sub-chosen g c =
     let settled = g.T.Turner.settled c.args.self.now.store in
     let same : c.as_slice.result.now ≡ runnable_in settled c.args.self.now.tasks =
-    c.as_slice.ensures.value ∙ c.self.invariant.runnable ∙ ap (λ core. runnable_in (g.T.Turner.settled core.store) core.tasks) c.self.view_is in
+    c.as_slice.ensures.value ∙ c.self.invariant.placed ∙ ap (λ core. runnable_in (g.T.Turner.settled core.store) core.tasks) c.self.view_is in
     let none = none_picked (is_runnable settled) 0 c.args.self.now.tasks _ (ap (λ ps. slice_get ps (c.args.number % (c.len-count.result + c.count_present.result))) (sym same) ∙ sym c.place_at.ensures ∙ c.in-None.is) in
     let many : c.len-count.result ≡ length (filter (is_runnable settled) c.args.self.now.tasks) =
     c.len-count.ensures ∙ sym c.as_slice.ensures.len ∙ ap length same ∙ as_many_places (is_runnable settled) 0 c.args.self.now.tasks in

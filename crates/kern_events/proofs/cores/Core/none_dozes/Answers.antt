@@ -9,4 +9,4 @@ returns g c = λ e.
     let whole : c.self.inside.asleep + length c.self.inside.runnable.items ≡ length c.self.inside.tasks.items =
     (let same : c.self.inside.asleep + c.len.result ≡ c.len-2.result = eqb-true _ _ e in omega (arith, c.len.ensures, c.len-2.ensures, c.self.inside.runnable.ok.0, c.self.inside.tasks.ok.0)) in
     subst (λ core. NoneDozes (g.T.Turner.settled core.store) core.tasks) c.self.view_is
-    (none_dozes (g.T.Turner.settled c.self.inside.store) c.self.inside.tasks.items _ _ c.self.invariant.asleep c.self.invariant.runnable whole)
+    (none_dozes (g.T.Turner.settled c.self.inside.store) c.self.inside.tasks.items _ _ c.self.invariant.counted c.self.invariant.placed whole)

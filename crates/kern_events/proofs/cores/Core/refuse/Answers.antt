@@ -33,7 +33,7 @@ invariant_of-self g c =
     let may = subst (λ core. MayTake g.T.Turner.stands (g.T.Turner.script core.store) core (Ask c.args.pid)) (sym c.self.view_is) c.requires.may in
     let found : phase_in c.self.inside.tasks.items c.args.pid ≡ User = ap (λ ts. phase_in ts c.args.pid) (sym may.is_at.tasks) ∙ may.enabled in
     let still : c.self.inside.runnable.items ≡ runnable_in (g.T.Turner.settled c.self.inside.store) c.as_slice.result.now =
-    still_runnable (g.T.Turner.settled c.self.inside.store) _ _ c.args.pid User _ c.self.invariant.runnable (ap is_asleep found) refl c.set_phase.ensures.items
+    still_runnable (g.T.Turner.settled c.self.inside.store) _ _ c.args.pid User _ c.self.invariant.placed (ap is_asleep found) refl c.set_phase.ensures.items
     ∙ ap (runnable_in (g.T.Turner.settled c.self.inside.store)) (sym c.as_slice.ensures.value) in
     record {
       kept =
@@ -51,11 +51,11 @@ invariant_of-self g c =
           (c.note.ensures.peak ∙ ap (λ n. max c.self.inside.peak n.charged) c.noted_of-noted.ensures) c.note.ensures.room c.set_phase.ensures.room
           (let few : length c.set_phase.new.tasks.items ≡ length c.self.inside.tasks.items = ap length c.set_phase.ensures.items ∙ length-with c.self.inside.tasks.items c.args.pid User in omega arith)
           c.refuse.ensures.script;
-      runnable =
+      placed =
           c.sort_stirred.ensures.items (is_runnable (g.T.Turner.settled c.self.inside.store)) still ∙ stirred_is _ _ _ c.as_slice.result.now c.refuse.ensures.named
           ∙ ap (runnable_in (g.T.Turner.settled c.refuse.new.self)) c.as_slice.ensures.value;
       places = let before : c.self.inside.steps + 2 ≤ vec_capacity c.self.inside.runnable = c.self.invariant.places in omega (arith, c.sort_stirred.ensures.room);
-      asleep = still_asleep _ _ c.args.pid User User _ c.self.invariant.asleep found (λ e. (cc)) refl refl c.set_phase.ensures.items;
+      counted = still_asleep _ _ c.args.pid User User _ c.self.invariant.counted found (λ e. (cc)) refl refl c.set_phase.ensures.items;
       waiting = waits_with _ _ _ c.args.pid User tt c.set_phase.ensures.items c.self.invariant.waiting;
       caches = c.evictables_of-self-inside.ensures;
     }
@@ -79,7 +79,7 @@ sort_stirred-requires-clause-places g c =
     record {
       passes = is_runnable (g.T.Turner.settled c.self.inside.store);
       same =
-          still_runnable (g.T.Turner.settled c.self.inside.store) _ _ c.args.pid User _ c.self.invariant.runnable (ap is_asleep found) refl c.set_phase.ensures.items
+          still_runnable (g.T.Turner.settled c.self.inside.store) _ _ c.args.pid User _ c.self.invariant.placed (ap is_asleep found) refl c.set_phase.ensures.items
           ∙ ap (runnable_in (g.T.Turner.settled c.self.inside.store)) (sym c.as_slice.ensures.value);
     }
 

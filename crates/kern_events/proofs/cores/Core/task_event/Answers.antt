@@ -12,7 +12,7 @@ pub loop-place-init : goal.loop-place-init
 loop-place-init g c =
     let settled = g.T.Turner.settled in
     let same : c.deref-place-items.result.now ≡ runnable_in (settled c.args.self.now.store) c.args.self.now.tasks =
-    c.deref-place-items.ensures.value ∙ c.self.invariant.runnable ∙ ap (λ core. runnable_in (settled core.store) core.tasks) c.self.view_is in
+    c.deref-place-items.ensures.value ∙ c.self.invariant.placed ∙ ap (λ core. runnable_in (settled core.store) core.tasks) c.self.view_is in
     record {
       items = same;
       more = omega arith;

@@ -35,7 +35,7 @@ loop-place-preserved g c =
 pub returns-clause-few : goal.returns-clause-few
 returns-clause-few g c =
     let tasks : length c.self.inside.tasks.items ≤ 100001 = few_tasks g.T.Turner.stands _ _ _ _ _ c.self.invariant.kept in
-    let places : length c.self.inside.runnable.items ≤ length c.self.inside.tasks.items = few_places _ _ _ c.self.invariant.runnable in
+    let places : length c.self.inside.runnable.items ≤ length c.self.inside.tasks.items = few_places _ _ _ c.self.invariant.placed in
     let same : length c.deref-place-items.result.now ≡ length c.self.inside.runnable.items = ap length c.deref-place-items.ensures.value in
     let few : c.loop-place.count ≤ c.loop-place.place-index = c.loop-place.invariant.few in
     omega arith
@@ -48,7 +48,7 @@ pub loop-place-init : goal.loop-place-init
 loop-place-init g c =
     let settled = g.T.Turner.settled in
     let same : c.deref-place-items.result.now ≡ runnable_in (settled c.args.self.now.store) c.args.self.now.tasks =
-    c.deref-place-items.ensures.value ∙ c.self.invariant.runnable ∙ ap (λ core. runnable_in (settled core.store) core.tasks) c.self.view_is in
+    c.deref-place-items.ensures.value ∙ c.self.invariant.placed ∙ ap (λ core. runnable_in (settled core.store) core.tasks) c.self.view_is in
     record {
       items = same;
       few = lit≤ tt;

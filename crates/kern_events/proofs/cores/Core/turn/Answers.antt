@@ -260,13 +260,13 @@ sort_turned-requires-clause-places g c =
     let all_so = λ (e : c.may_end-ends.result ≡ false). c.as_slice-2.ensures.value ∙ c.add_born.ensures.items
     ∙ ap (λ kept. kept ++ born (c.last_pid-before.result + 1) (c.last_pid-last.result - c.last_pid-before.result)) (buried_so ∙ calm_so e) in
     λ e. are_places (g.T.Turner.settled c.self.inside.store) c.args.pid c.last_pid-before.result c.last_pid-last.result _ c.phase_after-phase.result c.self.inside.tasks.items c.set_phase.new.tasks.items
-    c.as_slice-2.result.now c.self.inside.runnable.items rising own awake c.set_phase.ensures.items (all_so e) was_born c.self.invariant.runnable
+    c.as_slice-2.result.now c.self.inside.runnable.items rising own awake c.set_phase.ensures.items (all_so e) was_born c.self.invariant.placed
 
 pub sort_turned-requires-clause-asleep : goal.sort_turned-requires-clause-asleep
 sort_turned-requires-clause-asleep g c =
     let few : length c.self.inside.tasks.items ≤ 100001 = few_tasks g.T.Turner.stands _ _ _ _ _ c.self.invariant.kept in
     let less : count_by (λ task. is_asleep task.phase) c.self.inside.tasks.items ≤ length c.self.inside.tasks.items = no_more (λ task. is_asleep task.phase) c.self.inside.tasks.items in
-    let is : c.self.inside.asleep ≡ count_by (λ task. is_asleep task.phase) c.self.inside.tasks.items = c.self.invariant.asleep in
+    let is : c.self.inside.asleep ≡ count_by (λ task. is_asleep task.phase) c.self.inside.tasks.items = c.self.invariant.counted in
     omega arith
 
 pub invariant_of-self : goal.invariant_of-self
@@ -313,21 +313,21 @@ invariant_of-self g c =
           (c.note.ensures.peak ∙ ap (λ n. max c.self.inside.peak n.charged) c.noted_of-noted.ensures) c.note.ensures.room
           (c.add_born.ensures.room ∙ c.bury_ended.ensures.room ∙ c.set_phase.ensures.room)
           (few_then _ _ _ _ _ c.add_born.ensures.items made less) c.turn_next-turned.ensures.script;
-      runnable =
+      placed =
           either_way c.may_end-ends.result
           (λ e. (c.sort_turned.ensures.anew e).0 ∙ ap (runnable_in (g.T.Turner.settled c.turn_next-turned.new.store)) c.as_slice-2.ensures.value)
           (λ e. turned_runnable (g.T.Turner.settled c.self.inside.store) c.args.pid c.last_pid-before.result c.last_pid-last.result _ c.phase_after-phase.result c.self.inside.tasks.items c.set_phase.new.tasks.items
-          c.as_slice-2.result.now c.self.inside.runnable.items rising own awake c.set_phase.ensures.items (all_so e) was_born c.self.invariant.runnable
+          c.as_slice-2.result.now c.self.inside.runnable.items rising own awake c.set_phase.ensures.items (all_so e) was_born c.self.invariant.placed
           (g.T.Turner.settled c.turn_next-turned.new.store) (g.T.Turner.stirred c.turn_next-turned.new.store) c.leaves_asleep-sleeps.result _ c.turn_next-turned.ensures.named sleeps_so (c.sort_turned.ensures.items e)
           ∙ ap (runnable_in (g.T.Turner.settled c.turn_next-turned.new.store)) c.as_slice-2.ensures.value);
       places = let room : c.self.inside.steps + 2 ≤ vec_capacity c.self.inside.runnable = c.self.invariant.places in omega (arith, c.sort_turned.ensures.room);
-      asleep =
+      counted =
           either_way c.may_end-ends.result
           (λ e. (c.sort_turned.ensures.anew e).1 ∙ ap (count_by (λ task. is_asleep task.phase)) c.as_slice-2.ensures.value)
           (λ e. c.sort_turned.ensures.asleep e
           ∙ turned_asleep (g.T.Turner.settled c.self.inside.store) c.args.pid c.last_pid-before.result c.last_pid-last.result _ c.phase_after-phase.result c.self.inside.tasks.items c.set_phase.new.tasks.items
-          c.as_slice-2.result.now c.self.inside.runnable.items rising own awake c.set_phase.ensures.items (all_so e) was_born c.self.invariant.runnable
-          c.leaves_asleep-sleeps.result _ sleeps_so (λ d. dead_not _ (d ∙ found)) c.self.invariant.asleep
+          c.as_slice-2.result.now c.self.inside.runnable.items rising own awake c.set_phase.ensures.items (all_so e) was_born c.self.invariant.placed
+          c.leaves_asleep-sleeps.result _ sleeps_so (λ d. dead_not _ (d ∙ found)) c.self.invariant.counted
           ∙ ap (count_by (λ task. is_asleep task.phase)) c.as_slice-2.ensures.value);
       waiting =
           waits_after _ may.state.world.plain here.world.plain _ _ c.args.pid c.phase_after-phase.result (c.phase_after-phase.ensures.waits _)

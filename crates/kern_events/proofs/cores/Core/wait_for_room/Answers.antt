@@ -36,10 +36,10 @@ invariant_of-self g c =
           (c.note.ensures.run ∙ ap (λ n. c.self.inside.run.items ++ n ∷ []) c.noted_of-noted.ensures) refl
           (c.note.ensures.peak ∙ ap (λ n. max c.self.inside.peak n.charged) c.noted_of-noted.ensures) c.note.ensures.room c.set_phase.ensures.room
           (let few : length c.set_phase.new.tasks.items ≡ length c.self.inside.tasks.items = ap length c.set_phase.ensures.items ∙ length-with c.self.inside.tasks.items c.args.pid (Waiting c.args.asked) in omega arith) refl;
-      runnable =
-          still_runnable (g.T.Turner.settled c.self.inside.store) _ _ c.args.pid (Waiting c.args.asked) _ c.self.invariant.runnable (ap is_asleep (found)) refl c.set_phase.ensures.items;
+      placed =
+          still_runnable (g.T.Turner.settled c.self.inside.store) _ _ c.args.pid (Waiting c.args.asked) _ c.self.invariant.placed (ap is_asleep (found)) refl c.set_phase.ensures.items;
       places = c.self.invariant.places;
-      asleep = still_asleep _ _ c.args.pid (User) (Waiting c.args.asked) _ c.self.invariant.asleep (found) (λ e. (cc)) refl refl c.set_phase.ensures.items;
+      counted = still_asleep _ _ c.args.pid (User) (Waiting c.args.asked) _ c.self.invariant.counted (found) (λ e. (cc)) refl refl c.set_phase.ensures.items;
       waiting = waits_too _ _ _ _ c.args.pid c.args.asked (omega arith) c.set_phase.ensures.items c.self.invariant.waiting;
       caches = c.self.invariant.caches;
     }

@@ -25,7 +25,7 @@ overflow_sub-self g c =
     let found : phase_in c.self.inside.tasks.items c.args.pid ≡ Asleep c.in-Asleep.asked =
     ap (λ ts. phase_in ts c.args.pid) (sym c.as_slice.ensures.value) ∙ sym c.phase_of.ensures ∙ c.in-Asleep.is in
     let fewer : c.self.inside.asleep ≡ count_by (λ task. is_asleep task.phase) c.set_phase.new.tasks.items + 1 =
-    woken_asleep _ _ c.args.pid (Asleep c.in-Asleep.asked) (Waiting c.in-Asleep.asked) _ c.self.invariant.asleep found (λ e. (cc)) refl refl c.set_phase.ensures.items in
+    woken_asleep _ _ c.args.pid (Asleep c.in-Asleep.asked) (Waiting c.in-Asleep.asked) _ c.self.invariant.counted found (λ e. (cc)) refl refl c.set_phase.ensures.items in
     omega arith
 
 pub invariant_of-self : goal.invariant_of-self
@@ -35,16 +35,16 @@ invariant_of-self g c =
     ap (λ ts. phase_in ts c.args.pid) (sym c.as_slice.ensures.value) ∙ sym c.phase_of.ensures ∙ c.in-Asleep.is in
     let unsettled = ready_unsettled g.T.Turner.stands g.T.Turner.settled g.T.Turner.script g.T.Turner.settled_block c.self.inside.store may.state c.args.pid (is_sound may.runs) may.is_at.stands may.enabled in
     let fewer : c.self.inside.asleep ≡ count_by (λ task. is_asleep task.phase) c.set_phase.new.tasks.items + 1 =
-    woken_asleep _ _ c.args.pid (Asleep c.in-Asleep.asked) (Waiting c.in-Asleep.asked) _ c.self.invariant.asleep found (λ e. (cc)) refl refl c.set_phase.ensures.items in
+    woken_asleep _ _ c.args.pid (Asleep c.in-Asleep.asked) (Waiting c.in-Asleep.asked) _ c.self.invariant.counted found (λ e. (cc)) refl refl c.set_phase.ensures.items in
     record {
       kept =
           kept_passed g.T.Turner.stands (Wake c.args.pid) c.args.pid Asleep Waiting (waking c.args.pid) _ c.in-Asleep.asked _ _ _ _ _ _
           (ap (λ ts. phase_in ts c.args.pid) (sym c.as_slice.ensures.value) ∙ sym c.phase_of.ensures ∙ c.in-Asleep.is)
           c.set_phase.ensures.items (omega arith) (omega arith) c.noted_of-noted.ensures c.note.ensures.run _ _ _ _ _ _ c.self.invariant.kept
           (subst (λ core. MayTake g.T.Turner.stands (g.T.Turner.script core.store) core (Wake c.args.pid)) (sym c.self.view_is) c.requires) c.note.ensures.peak c.note.ensures.room c.set_phase.ensures.room;
-      runnable = woken_runnable (g.T.Turner.settled c.self.inside.store) _ _ c.args.pid (Waiting c.in-Asleep.asked) _ c.self.invariant.runnable unsettled c.set_phase.ensures.items;
+      placed = woken_runnable (g.T.Turner.settled c.self.inside.store) _ _ c.args.pid (Waiting c.in-Asleep.asked) _ c.self.invariant.placed unsettled c.set_phase.ensures.items;
       places = c.self.invariant.places;
-      asleep = omega arith;
+      counted = omega arith;
       waiting = waits_too _ _ _ _ c.args.pid c.in-Asleep.asked (omega arith) c.set_phase.ensures.items c.self.invariant.waiting;
       caches = c.self.invariant.caches;
     }
