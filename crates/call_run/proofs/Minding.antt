@@ -59,7 +59,7 @@ pub minded_alone : (script : Script) (plain : Plain) (told : List Sleeper) (chan
 minded_alone script plain told channels none truly = record {
   each = truly;
   apart = each_all (KnowsChannels script plain channels) told (λ sleeper place. subst (IsApartAt script plain sleeper place) (sym (none place)) tt);
-  channels = λ place. subst (IsChannel script plain told) (sym (none place)) tt;
+  known = λ place. subst (IsChannel script plain told) (sym (none place)) tt;
 }
 
 -- ---- what a process waits for has to do with what it had before
@@ -91,7 +91,7 @@ pub record Stays (old new : Plain) (channel : Channel) : Type 0 where
 pub carried : (script : Script) (old new : Plain) (told : List Sleeper) (channels : List (Option Channel)) → AreMinded script old told channels
     → AllByRecursion (λ sleeper. StaysAsItWas script sleeper.pid old new) told
     → ((channel : Channel) → is_alive old.table channel.pid ≡ true → Stays old new channel) → AreMinded script new told channels
-carried script old new [] channels minded stay through = record { each = tt; apart = tt; channels = λ place. none (channel_at channels place) }
+carried script old new [] channels minded stay through = record { each = tt; apart = tt; known = λ place. none (channel_at channels place) }
   where
     none : (found : Option Channel) → IsChannel script new [] found
     none None = tt
@@ -103,9 +103,9 @@ carried script old new (sleeper ∷ rest) channels minded stay through = record 
       (each_and (IsTrulyTold script old) (λ one. StaysAsItWas script one.pid old new) (sleeper ∷ rest) minded.each stay);
   apart =
       each_map (λ one. StaysAsItWas script one.pid old new × KnowsChannels script old channels one) (KnowsChannels script new channels) (sleeper ∷ rest)
-      (λ one it place. knows one it.0 place (channel_at channels place) (minded.channels place) (it.1 place))
+      (λ one it place. knows one it.0 place (channel_at channels place) (minded.known place) (it.1 place))
       (each_and (λ one. StaysAsItWas script one.pid old new) (KnowsChannels script old channels) (sleeper ∷ rest) stay minded.apart);
-  channels = λ place. channel (channel_at channels place) (minded.channels place);
+  known = λ place. channel (channel_at channels place) (minded.known place);
 }
   where
     knows : (one : Sleeper) → StaysAsItWas script one.pid old new → (place : ℕ) (found : Option Channel) → IsChannel script old (sleeper ∷ rest) found
@@ -258,7 +258,7 @@ module _ (script : Script) (old new : World) (pid : ℕ) (fd : ℤ) (which : Cal
   module _ (sleepers : List Sleeper) (channels : List (Option Channel)) (minded : AreMinded script old.plain sleepers channels) (up : told_of sleepers pid ≡ None) where
     -- where all are apart from it nothing is to be done
     pub all_passed : (place : ℕ) → IsPassed (channel_at channels place) pid fd → AreMinded script new.plain sleepers channels
-    all_passed place is = go sleepers refl (minded.channels place)
+    all_passed place is = go sleepers refl (minded.known place)
       where
         stay : AllByRecursion (λ sleeper. is_apart script old.plain sleeper.pid is.it.pid is.it.fd ≡ true) sleepers → AllByRecursion (λ sleeper. StaysAsItWas script sleeper.pid old.plain new.plain) sleepers
         stay all =
@@ -442,14 +442,14 @@ module _ (script : Script) (old new : World) (pid : ℕ) (fd : ℤ) (which : Cal
             channel_lives : (at : ℕ) (channel : Channel) → channel_at channels at ≡ Some channel → is_alive old.plain.table channel.pid ≡ true
             channel_lives at channel is =
                 let known : IsChannel script old.plain (first ∷ rest) (Some channel) =
-                subst (λ ts. IsChannel script old.plain ts (Some channel)) some (subst (IsChannel script old.plain sleepers) is (minded.channels at)) in
+                subst (λ ts. IsChannel script old.plain ts (Some channel)) some (subst (IsChannel script old.plain sleepers) is (minded.known at)) in
                 known.0
 
             all_of : (at : ℕ) (channel : Channel) → channel_at channels at ≡ Some channel → channel.all_apart ≡ true
                 → AllByRecursion (λ one. is_apart script old.plain one.pid channel.pid channel.fd ≡ true) sleepers
             all_of at channel is all =
                 let known : IsChannel script old.plain (first ∷ rest) (Some channel) =
-                subst (λ ts. IsChannel script old.plain ts (Some channel)) some (subst (IsChannel script old.plain sleepers) is (minded.channels at)) in
+                subst (λ ts. IsChannel script old.plain ts (Some channel)) some (subst (IsChannel script old.plain sleepers) is (minded.known at)) in
                 subst (AllByRecursion (λ one. is_apart script old.plain one.pid channel.pid channel.fd ≡ true)) (sym some) (known.1 all)
 
             module _ (middle after : List Sleeper) (began : HasBegun (channel_at channels place) pid fd place sleepers middle)
@@ -505,7 +505,7 @@ module _ (script : Script) (old new : World) (pid : ℕ) (fd : ℤ) (which : Cal
               near_minded = record {
                 each = all_looked middle after (all_begun middle began) asked (IsTrulyTold script new.plain) (λ sleeper one it. it.truly);
                 apart = all_looked middle after (all_begun middle began) asked (KnowsChannels script new.plain (slice_set channels place opened)) knows;
-                channels = λ at. elim (eqb_tells at place) [
+                known = λ at. elim (eqb_tells at place) [
                   | inl same ↦
                       subst (IsChannel script new.plain after) (sym (ap (channel_at (slice_set channels place opened)) same.1 ∙ at_place within))
                       (here_channel after (all_looked middle after (all_begun middle began) asked (λ one. near ≡ false → is_apart script new.plain one.pid pid fd ≡ true) (λ sleeper one it. it.quiet)))
@@ -527,7 +527,7 @@ pub minded_without : (script : Script) (plain : Plain) (told : List Sleeper) (ch
 minded_without script plain told channels pid minded = record {
   each = each_without (IsTrulyTold script plain) told pid minded.each;
   apart = each_without (KnowsChannels script plain channels) told pid minded.apart;
-  channels = λ place. go told (channel_at channels place) (minded.channels place);
+  known = λ place. go told (channel_at channels place) (minded.known place);
 }
   where
     go : (ts : List Sleeper) (found : Option Channel) → IsChannel script plain ts found → IsChannel script plain (without ts pid) found
@@ -550,7 +550,7 @@ module _ (script : Script) (plain : Plain) (told : List Sleeper) (channels chang
           ap (λ (it : Channel). is_apart script plain one.pid it.pid it.fd) doubt.2 ∙ before told_apart
 
   channels_still : (ts : List Sleeper) (place : ℕ) → IsChannel script plain ts (channel_at changed place)
-  channels_still ts place = go (channel_at channels place) (channel_at changed place) (doubts place) (minded.channels place)
+  channels_still ts place = go (channel_at channels place) (channel_at changed place) (doubts place) (minded.known place)
     where
       alive : (list : List Sleeper) → list ≢ [] → (it : Channel) → IsChannel script plain list (Some it) → is_alive plain.table it.pid ≡ true
       alive [] some it known = absurd (some refl)
@@ -570,7 +570,7 @@ module _ (script : Script) (plain : Plain) (told : List Sleeper) (channels chang
   doubted_minded = record {
     each = minded.each;
     apart = each_map (KnowsChannels script plain channels) (KnowsChannels script plain changed) told knows_still minded.apart;
-    channels = channels_still told;
+    known = channels_still told;
   }
 
   none_true : (n place : ℕ) → slice_get (replicate n false) place ≡ Some true → ⊥
@@ -585,7 +585,7 @@ module _ (script : Script) (plain : Plain) (told : List Sleeper) (channels chang
     apart =
         each_with (KnowsChannels script plain changed) told (lain pid blocks) (λ place. fresh place (channel_at changed place))
         (each_map (KnowsChannels script plain channels) (KnowsChannels script plain changed) told knows_still minded.apart);
-    channels = channels_still (with_sleeper told (lain pid blocks));
+    known = channels_still (with_sleeper told (lain pid blocks));
   }
     where
       fresh : (place : ℕ) (found : Option Channel) → IsApartAt script plain (lain pid blocks) place found

@@ -174,7 +174,7 @@ KnowsChannels script plain channels sleeper = (place : ℕ) → IsApartAt script
 pub record AreMinded (script : Script) (plain : Plain) (told : List Sleeper) (channels : List (Option Channel)) : Type 0 where
   pub each : AllByRecursion (IsTrulyTold script plain) told
   pub apart : AllByRecursion (KnowsChannels script plain channels) told
-  pub channels : (place : ℕ) → IsChannel script plain told (channel_at channels place)
+  pub known : (place : ℕ) → IsChannel script plain told (channel_at channels place)
 
 -- so it is in every world that the objects stand for
 abbrev pub AreTrulyTold : Script → Objects → List Sleeper → Type 0
