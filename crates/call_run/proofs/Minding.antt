@@ -62,6 +62,32 @@ minded_alone script plain told channels none truly = record {
   known = λ place. subst (IsChannel script plain told) (sym (none place)) tt;
 }
 
+-- ---- by pids
+
+-- where a channel has begun the pids are the same
+pub begun_same : (P : ℕ → Type 0) (channel : Option Channel) (pid : ℕ) (fd : ℤ) (place : ℕ) (old new : List Sleeper) → HasBegun channel pid fd place old new
+    → AllByRecursion (λ sleeper. P sleeper.pid) old → AllByRecursion (λ sleeper. P sleeper.pid) new
+begun_same P channel pid fd place old new (has_stood is) all = all
+begun_same P channel pid fd place old new is_anew all = mapped old all
+  where
+    mapped : (ts : List Sleeper) → AllByRecursion (λ sleeper. P sleeper.pid) ts → AllByRecursion (λ sleeper. P sleeper.pid) (map (begun place) ts)
+    mapped [] every = tt
+    mapped (t ∷ ts) every = (every.0, mapped ts every.1)
+
+-- and where those who are near were asked
+pub near_same : (P : ℕ → Type 0) (script : Script) (objects : Objects) (pid : ℕ) (fd : ℤ) (channel : ℕ) (near : Bool) (old new : List Sleeper)
+    → AreNear script objects pid fd channel old new near → AllByRecursion (λ sleeper. P sleeper.pid) old → AllByRecursion (λ sleeper. P sleeper.pid) new
+near_same P script objects pid fd channel near [] [] asked all = tt
+near_same P script objects pid fd channel near [] (one ∷ new) asked all = absurd asked
+near_same P script objects pid fd channel near (was ∷ old) [] asked all = absurd asked
+near_same P script objects pid fd channel near (was ∷ old) (one ∷ new) asked all =
+    (same asked.0.0 asked.0.1 all.0, near_same P script objects pid fd channel near old new asked.1 all.1)
+  where
+    same : (b : Bool) → IsNear script objects pid fd channel was one b → P was.pid → P one.pid
+    same false (is_known of told_apart) here = here
+    same false (is_learned of apart) here = here
+    same true (is_near of blocks apart blocked) here = here
+
 -- ---- what a process waits for has to do with what it had before
 
 -- Behind a turn a number is open on what it was, and so are all of a process, which makes the same call.
@@ -402,25 +428,6 @@ module _ (script : Script) (old new : World) (pid : ℕ) (fd : ℤ) (which : Cal
           all_looked (sleeper ∷ middle) (one ∷ after) begun asked P from =
               (from sleeper one (looked near sleeper one begun.0 asked.0), all_looked middle after begun.1 asked.1 P from)
 
-          -- the pids stay
-          pub near_pids : (P : ℕ → Type 0) (middle after : List Sleeper) → AreNear script objects pid fd place middle after near
-              → AllByRecursion (λ sleeper. P sleeper.pid) middle → AllByRecursion (λ sleeper. P sleeper.pid) after
-          near_pids P [] [] asked all = tt
-          near_pids P [] (one ∷ after) asked all = absurd asked
-          near_pids P (sleeper ∷ middle) [] asked all = absurd asked
-          near_pids P (sleeper ∷ middle) (one ∷ after) asked all =
-              (same asked.0.0 asked.0.1 all.0, near_pids P middle after asked.1 all.1)
-            where
-              same : (b : Bool) → IsNear script objects pid fd place sleeper one b → P sleeper.pid → P one.pid
-              same false (is_known of told_apart) here = here
-              same false (is_learned of apart) here = here
-              same true (is_near of blocks apart blocked) here = here
-
-          begun_pids : (P : ℕ → Type 0) (middle : List Sleeper) → HasBegun (channel_at channels place) pid fd place sleepers middle
-              → AllByRecursion (λ sleeper. P sleeper.pid) sleepers → AllByRecursion (λ sleeper. P sleeper.pid) middle
-          begun_pids P middle (has_stood is) all = all
-          begun_pids P middle is_anew all = map_all (λ sleeper. P sleeper.pid) (λ sleeper. P sleeper.pid) (begun place) sleepers (λ sleeper here. here) all
-
           -- a channel there
           abbrev opened : Option Channel
           opened = Some (record { pid = pid; fd = fd; all_apart = not near })
@@ -493,7 +500,7 @@ module _ (script : Script) (old new : World) (pid : ℕ) (fd : ℤ) (which : Cal
                   still all =
                       each_map (λ one. P one.pid) (λ one. is_apart script new.plain one.pid channel.pid channel.fd ≡ true) after
                       (λ one it. apart_same script one.pid channel.pid channel.fd old.plain new.plain stays.target (other_itself one.pid it.0 it.1) ∙ it.2)
-                      (near_pids P middle after asked (begun_pids P middle began (three all)))
+                      (near_same P script objects pid fd place near middle after asked (begun_same P (channel_at channels place) pid fd place sleepers middle began (three all)))
 
                   go : (ts : List Sleeper) → (channel.all_apart ≡ true → AllByRecursion (λ one. is_apart script new.plain one.pid channel.pid channel.fd ≡ true) ts)
                       → IsChannel script new.plain ts (Some channel)

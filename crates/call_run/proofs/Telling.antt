@@ -1,11 +1,12 @@
 -- The sleepers of whom something is told: where each stands among them, and what is told of whom when they change.
-use Rattle.std.proofs.Common.{◌≡◌, ◌≢◌, ℕ, zero, suc, ◌+◌, ◌-◌, ◌<◌, ◌≤◌, ◌==◌, ◌||◌, nat_lt, not, Bool, true, false, cond, if◌then◌else◌, List, [], ◌∷◌, ◌++◌, length, filter, Option, None, Some, slice_get, slice_set, slice_index_or, remove, refl, ap, sym, ◌∙◌, subst, arith, min}
+use Rattle.std.proofs.Common.{◌≡◌, ◌≢◌, ℕ, zero, suc, ◌+◌, ◌-◌, ◌<◌, ◌≤◌, ◌==◌, ◌||◌, nat_lt, not, Bool, true, false, cond, if◌then◌else◌, List, [], ◌∷◌, ◌++◌, length, filter, Option, None, Some, slice_get, slice_set, slice_index_or, remove, refl, ap, sym, ◌∙◌, subst, arith, min, map, ℤ}
 use Rattle.std.specs.Prelude.{insert}
 use Rattle.std.specs.List.{AllByRecursion, list_any}
 use borrow.Author.Tests.{eqb-true, eq-eqb, le-ltb, lt-ltb, ltb-false, ltb-true}
 use Rattle.posix_defs.specs.Minding.{HasNamed, is_among}
+use Rattle.call_run.specs.declared.sleepers.Channel.{Channel}
 use Rattle.call_run.specs.declared.sleepers.Sleeper.{Sleeper}
-use Rattle.call_run.specs.Sleepers.{AreRising, NamesMore, NamesOne, is_at, is_settled, is_so, place_in, stands_in, told_of, with_sleeper, without}
+use Rattle.call_run.specs.Sleepers.{AreRising, HasBegun, NamesMore, NamesOne, begun, has_stood, is_anew, is_at, is_settled, is_so, place_in, stands_in, told_of, with_sleeper, without}
 
 both : {X : Type 0} {b : Bool} → b ≡ true → b ≡ false → X
 both e f = cc
@@ -405,3 +406,12 @@ names_lain told new named more apart one who none =
         let own : who ≡ new.pid = sym (eqb-true new.pid who e) in
         blocks own ∙ sym (ap is_so (ap (told_of told) own ∙ apart))
     go false e blocks = refl
+
+-- where a channel has begun the same is told of all
+pub names_begun : (channel : Option Channel) (pid : ℕ) (fd : ℤ) (place : ℕ) (old new : List Sleeper) (named : List ℕ) → HasBegun channel pid fd place old new → NamesMore old named new named
+names_begun channel pid fd place old new named (has_stood is) who none = (none, refl)
+names_begun channel pid fd place old new named is_anew who none = (none, ap is_so (mapped old))
+  where
+    mapped : (ts : List Sleeper) → told_of (map (begun place) ts) who ≡ told_of ts who
+    mapped [] = refl
+    mapped (t ∷ ts) = ap (λ rest. if t.pid == who then Some t.blocks else rest) (mapped ts)
