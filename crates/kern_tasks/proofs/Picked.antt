@@ -131,23 +131,27 @@ places_with passes first (task ∷ tasks) pid phase same = go (task.pid == pid) 
 
 -- ---- by counts
 
+-- one, where a test holds
+abbrev pub one_where : Bool → ℕ
+one_where holds = cond holds 1 0
+
 -- one task more
-pub counted_one : (test : Task → Bool) (task : Task) (tasks : List Task) → count_by test (task ∷ tasks) ≡ cond (test task) 1 0 + count_by test tasks
-counted_one test task tasks = sum_by-cons (λ t. cond (test t) 1 0) task tasks
+pub counted_one : (test : Task → Bool) (task : Task) (tasks : List Task) → count_by test (task ∷ tasks) ≡ one_where (test task) + count_by test tasks
+counted_one test task tasks = sum_by-cons (λ t. one_where (test t)) task tasks
 
 -- so many are counted, and one place further
 pub counted_more : (test : Task → Bool) (tasks : List Task) (place count all : ℕ) (d : Task) → place < length tasks → test (get_or tasks place d) ≡ true
     → count + count_by test (drop place tasks) ≡ all → count + 1 + count_by test (drop (place + 1) tasks) ≡ all
 counted_more test tasks place count all d within passed so =
     let next = ap (count_by test) (next_task tasks place d within) ∙ counted_one test (get_or tasks place d) (drop (place + 1) tasks) in
-    let one : cond (test (get_or tasks place d)) 1 0 ≡ 1 = ap (λ b. cond b 1 0) passed in
+    let one : one_where (test (get_or tasks place d)) ≡ 1 = ap (λ b. one_where b) passed in
     omega (arith, next, one, so)
 
 pub counted_past : (test : Task → Bool) (tasks : List Task) (place count all : ℕ) (d : Task) → place < length tasks → test (get_or tasks place d) ≡ false
     → count + count_by test (drop place tasks) ≡ all → count + count_by test (drop (place + 1) tasks) ≡ all
 counted_past test tasks place count all d within failed so =
     let next = ap (count_by test) (next_task tasks place d within) ∙ counted_one test (get_or tasks place d) (drop (place + 1) tasks) in
-    let none : cond (test (get_or tasks place d)) 1 0 ≡ 0 = ap (λ b. cond b 1 0) failed in
+    let none : one_where (test (get_or tasks place d)) ≡ 0 = ap (λ b. one_where b) failed in
     omega (arith, next, none, so)
 
 -- no more pass than there are; and where all do it is as many
@@ -155,7 +159,7 @@ pub no_more : (test : Task → Bool) (tasks : List Task) → count_by test tasks
 no_more test [] = omega arith
 no_more test (task ∷ tasks) = subst (λ n. n ≤ length (task ∷ tasks)) (sym (counted_one test task tasks)) (go (test task) (no_more test tasks))
   where
-    go : (b : Bool) → count_by test tasks ≤ length tasks → cond b 1 0 + count_by test tasks ≤ length (task ∷ tasks)
+    go : (b : Bool) → count_by test tasks ≤ length tasks → one_where b + count_by test tasks ≤ length (task ∷ tasks)
     go true fewer = omega arith
     go false fewer = omega arith
 
@@ -164,7 +168,7 @@ as_many_as_all test [] e = refl
 as_many_as_all test (task ∷ tasks) e = counted_one test task tasks ∙ go (test task) e (as_many_as_all test tasks)
   where
     go : (b : Bool) → (b && list_all test tasks) ≡ true → (list_all test tasks ≡ true → count_by test tasks ≡ length tasks)
-        → cond b 1 0 + count_by test tasks ≡ length (task ∷ tasks)
+        → one_where b + count_by test tasks ≡ length (task ∷ tasks)
     go true f rest = let same : count_by test tasks ≡ length tasks = rest f in omega arith
     go false f rest = absurd (let e : false ≡ true = f in (cc))
 
@@ -180,10 +184,10 @@ not_as_many test tasks count is fewer = go (list_all test tasks) refl
 abbrev dozes : (ℕ → Bool) → Task → Bool
 dozes settled task = is_asleep task.phase && is_runnable settled task
 
-together : (settled : ℕ → Bool) (task : Task) → cond (is_asleep task.phase) 1 0 + cond (is_runnable settled task) 1 0 ≡ 1 + cond (dozes settled task) 1 0
+together : (settled : ℕ → Bool) (task : Task) → one_where (is_asleep task.phase) + one_where (is_runnable settled task) ≡ 1 + one_where (dozes settled task)
 together settled task = go (is_asleep task.phase) (settled task.pid)
   where
-    go : (a b : Bool) → cond a 1 0 + cond (not (a && b)) 1 0 ≡ 1 + cond (a && not (a && b)) 1 0
+    go : (a b : Bool) → one_where a + one_where (not (a && b)) ≡ 1 + one_where (a && not (a && b))
     go true true = refl
     go true false = refl
     go false b = refl
@@ -194,12 +198,12 @@ counted_twice settled [] = refl
 counted_twice settled (task ∷ tasks) =
     let asleep = counted_one (λ t. is_asleep t.phase) task tasks in
     let both = counted_one (dozes settled) task tasks in
-    let one : cond (is_asleep task.phase) 1 0 + cond (is_runnable settled task) 1 0 ≡ 1 + cond (dozes settled task) 1 0 = together settled task in
+    let one : one_where (is_asleep task.phase) + one_where (is_runnable settled task) ≡ 1 + one_where (dozes settled task) = together settled task in
     let rest : count_by (λ t. is_asleep t.phase) tasks + length (filter (is_runnable settled) tasks) ≡ length tasks + count_by (dozes settled) tasks = counted_twice settled tasks in
-    let more : length (filter (is_runnable settled) (task ∷ tasks)) ≡ cond (is_runnable settled task) 1 0 + length (filter (is_runnable settled) tasks) = picked (is_runnable settled task) in
+    let more : length (filter (is_runnable settled) (task ∷ tasks)) ≡ one_where (is_runnable settled task) + length (filter (is_runnable settled) tasks) = picked (is_runnable settled task) in
     omega arith
   where
-    picked : (b : Bool) → length (cond b (task ∷ filter (is_runnable settled) tasks) (filter (is_runnable settled) tasks)) ≡ cond b 1 0 + length (filter (is_runnable settled) tasks)
+    picked : (b : Bool) → length (cond b (task ∷ filter (is_runnable settled) tasks) (filter (is_runnable settled) tasks)) ≡ one_where b + length (filter (is_runnable settled) tasks)
     picked true = (let e : suc (length (filter (is_runnable settled) tasks)) ≡ 1 + length (filter (is_runnable settled) tasks) = omega arith in e)
     picked false = (let e : length (filter (is_runnable settled) tasks) ≡ 0 + length (filter (is_runnable settled) tasks) = omega arith in e)
 
@@ -209,7 +213,7 @@ none_counted settled (task ∷ tasks) e =
     let both = counted_one (dozes settled) task tasks in
     (one (dozes settled task) (omega arith), none_counted settled tasks (omega arith))
   where
-    one : (b : Bool) → cond b 1 0 ≡ 0 → b ≡ false
+    one : (b : Bool) → one_where b ≡ 0 → b ≡ false
     one true f = absurd (omega (arith, f))
     one false f = refl
 

@@ -152,22 +152,22 @@ goes_with (other ∷ places) place none = go (nat_lt other place) refl none (goe
     here : (same : Bool) → (other == place) ≡ same → (Some other ≡ Some place → ⊥)
         → ((if same then other ∷ places else place ∷ other ∷ places) ≡ insert (other ∷ places) 0 place)
         × ((if same then places else other ∷ places) ≡ other ∷ places)
-    here true is no = elim (eqb_tells other place) [ inl it ↦ absurd (no (ap Some it.1)) | inr it ↦ absurd (both is it.0) ]
-    here false is no = (refl, refl)
+    here true is apart = elim (eqb_tells other place) [ inl it ↦ absurd (apart (ap Some it.1)) | inr it ↦ absurd (both is it.0) ]
+    here false is apart = (refl, refl)
 
     go : (b : Bool) → nat_lt other place ≡ b → (slice_get (other ∷ places) (if b then below places place + 1 else 0) ≡ Some place → ⊥)
         → ((Stands places (below places place) place → ⊥) → (with_place places place true ≡ insert places (below places place) place) × (with_place places place false ≡ places))
         → ((if b then other ∷ with_place places place true else if other == place then other ∷ places else place ∷ other ∷ places)
         ≡ insert (other ∷ places) (if b then below places place + 1 else 0) place)
         × ((if b then other ∷ with_place places place false else if other == place then places else other ∷ places) ≡ other ∷ places)
-    go true is no more = let later = more (λ f. no (ap (slice_get (other ∷ places)) next ∙ f)) in (ap (λ rest. other ∷ rest) later.0 ∙ put, ap (λ rest. other ∷ rest) later.1)
+    go true is apart more = let later = more (λ f. apart (ap (slice_get (other ∷ places)) next ∙ f)) in (ap (λ rest. other ∷ rest) later.0 ∙ put, ap (λ rest. other ∷ rest) later.1)
       where
         next : below places place + 1 ≡ suc (below places place)
         next = omega arith
 
         put : other ∷ insert places (below places place) place ≡ insert (other ∷ places) (below places place + 1) place
         put = ap (λ n. insert (other ∷ places) n place) (sym next)
-    go false is no more = here (other == place) refl no
+    go false is apart more = here (other == place) refl apart
 
 -- ---- the test is made anew for one task
 

@@ -18,7 +18,7 @@ use Rattle.kern_tasks.specs.Room.{is_asleep}
 use Rattle.kern_laws.proofs.BuriedTasks.{length-born}
 use Rattle.kern_laws.proofs.Tasks.{each_append, each_map}
 use Rattle.kern_tasks.specs.Runnable.{ArePlaces, born_place, but_for, but_for_each, is_runnable, places_from, runnable_in, turned_test}
-use Rattle.kern_tasks.proofs.Picked.{counted_one, places_with}
+use Rattle.kern_tasks.proofs.Picked.{counted_one, one_where, places_with}
 use Rattle.kern_tasks.proofs.Runnables.{same_places}
 
 both : {X : Type 0} {b : Bool} → b ≡ true → b ≡ false → X
@@ -171,26 +171,26 @@ counted tasks = count_by (λ task. is_asleep task.phase) tasks
 
 -- where the task of a pid goes into another phase
 pub asleep_with : (tasks : List Task) (pid : ℕ) (old phase : Phase) → phase_in tasks pid ≡ old → Dead ≢ old
-    → count_by (λ task. is_asleep task.phase) (with_phase_in tasks pid phase) + cond (is_asleep old) 1 0
-    ≡ count_by (λ task. is_asleep task.phase) tasks + cond (is_asleep phase) 1 0
+    → count_by (λ task. is_asleep task.phase) (with_phase_in tasks pid phase) + one_where (is_asleep old)
+    ≡ count_by (λ task. is_asleep task.phase) tasks + one_where (is_asleep phase)
 asleep_with [] pid old phase is other = absurd (other is)
 asleep_with (task ∷ tasks) pid old phase is other = go (task.pid == pid) is (λ e. asleep_with tasks pid old phase e other)
   where
-    before : counted (task ∷ tasks) ≡ cond (is_asleep task.phase) 1 0 + counted tasks
+    before : counted (task ∷ tasks) ≡ one_where (is_asleep task.phase) + counted tasks
     before = counted_one (λ t. is_asleep t.phase) task tasks
 
     go : (b : Bool) → (if b then task.phase else phase_in tasks pid) ≡ old
-        → (phase_in tasks pid ≡ old → counted (with_phase_in tasks pid phase) + cond (is_asleep old) 1 0 ≡ counted tasks + cond (is_asleep phase) 1 0)
-        → counted (if b then record task { phase = phase } ∷ tasks else task ∷ with_phase_in tasks pid phase) + cond (is_asleep old) 1 0
-        ≡ counted (task ∷ tasks) + cond (is_asleep phase) 1 0
+        → (phase_in tasks pid ≡ old → counted (with_phase_in tasks pid phase) + one_where (is_asleep old) ≡ counted tasks + one_where (is_asleep phase))
+        → counted (if b then record task { phase = phase } ∷ tasks else task ∷ with_phase_in tasks pid phase) + one_where (is_asleep old)
+        ≡ counted (task ∷ tasks) + one_where (is_asleep phase)
     go true e later =
-        let after : counted (record task { phase = phase } ∷ tasks) ≡ cond (is_asleep phase) 1 0 + counted tasks = counted_one (λ t. is_asleep t.phase) (record task { phase = phase }) tasks in
-        let same : cond (is_asleep task.phase) 1 0 ≡ cond (is_asleep old) 1 0 = ap (λ p. cond (is_asleep p) 1 0) e in
+        let after : counted (record task { phase = phase } ∷ tasks) ≡ one_where (is_asleep phase) + counted tasks = counted_one (λ t. is_asleep t.phase) (record task { phase = phase }) tasks in
+        let same : one_where (is_asleep task.phase) ≡ one_where (is_asleep old) = ap (λ p. one_where (is_asleep p)) e in
         omega (arith, before)
     go false e later =
-        let after : counted (task ∷ with_phase_in tasks pid phase) ≡ cond (is_asleep task.phase) 1 0 + counted (with_phase_in tasks pid phase) =
+        let after : counted (task ∷ with_phase_in tasks pid phase) ≡ one_where (is_asleep task.phase) + counted (with_phase_in tasks pid phase) =
         counted_one (λ t. is_asleep t.phase) task (with_phase_in tasks pid phase) in
-        let rest : counted (with_phase_in tasks pid phase) + cond (is_asleep old) 1 0 ≡ counted tasks + cond (is_asleep phase) 1 0 = later e in
+        let rest : counted (with_phase_in tasks pid phase) + one_where (is_asleep old) ≡ counted tasks + one_where (is_asleep phase) = later e in
         omega (arith, before)
 
 -- as many, where the task was awake and is
@@ -198,9 +198,9 @@ pub still_asleep : (items placed : List Task) (pid : ℕ) (old phase : Phase) (a
     → phase_in items pid ≡ old → Dead ≢ old → is_asleep old ≡ false → is_asleep phase ≡ false → placed ≡ with_phase_in items pid phase
     → asleep ≡ count_by (λ task. is_asleep task.phase) placed
 still_asleep items placed pid old phase asleep is found there was stays placed_is =
-    let moved : counted (with_phase_in items pid phase) + cond (is_asleep old) 1 0 ≡ counted items + cond (is_asleep phase) 1 0 = asleep_with items pid old phase found there in
-    let none : cond (is_asleep old) 1 0 ≡ 0 = ap (λ b. cond b 1 0) was in
-    let no_more : cond (is_asleep phase) 1 0 ≡ 0 = ap (λ b. cond b 1 0) stays in
+    let moved : counted (with_phase_in items pid phase) + one_where (is_asleep old) ≡ counted items + one_where (is_asleep phase) = asleep_with items pid old phase found there in
+    let none : one_where (is_asleep old) ≡ 0 = ap (λ b. one_where b) was in
+    let no_more : one_where (is_asleep phase) ≡ 0 = ap (λ b. one_where b) stays in
     let now : counted placed ≡ counted (with_phase_in items pid phase) = ap counted placed_is in
     omega arith
 
@@ -209,9 +209,9 @@ pub woken_asleep : (items placed : List Task) (pid : ℕ) (old phase : Phase) (a
     → phase_in items pid ≡ old → Dead ≢ old → is_asleep old ≡ true → is_asleep phase ≡ false → placed ≡ with_phase_in items pid phase
     → asleep ≡ count_by (λ task. is_asleep task.phase) placed + 1
 woken_asleep items placed pid old phase asleep is found there was stays placed_is =
-    let moved : counted (with_phase_in items pid phase) + cond (is_asleep old) 1 0 ≡ counted items + cond (is_asleep phase) 1 0 = asleep_with items pid old phase found there in
-    let one : cond (is_asleep old) 1 0 ≡ 1 = ap (λ b. cond b 1 0) was in
-    let no_more : cond (is_asleep phase) 1 0 ≡ 0 = ap (λ b. cond b 1 0) stays in
+    let moved : counted (with_phase_in items pid phase) + one_where (is_asleep old) ≡ counted items + one_where (is_asleep phase) = asleep_with items pid old phase found there in
+    let one : one_where (is_asleep old) ≡ 1 = ap (λ b. one_where b) was in
+    let no_more : one_where (is_asleep phase) ≡ 0 = ap (λ b. one_where b) stays in
     let now : counted placed ≡ counted (with_phase_in items pid phase) = ap counted placed_is in
     omega arith
 
@@ -233,7 +233,7 @@ asleep_born [] pid (suc count) =
     let nothing : 0 + counted (born (pid + 1) count) ≡ 0 = omega arith in
     first ∙ nothing
 asleep_born (task ∷ tasks) pid count =
-    counted_one (λ t. is_asleep t.phase) task (tasks ++ born pid count) ∙ ap (λ n. cond (is_asleep task.phase) 1 0 + n) (asleep_born tasks pid count)
+    counted_one (λ t. is_asleep t.phase) task (tasks ++ born pid count) ∙ ap (λ n. one_where (is_asleep task.phase) + n) (asleep_born tasks pid count)
     ∙ sym (counted_one (λ t. is_asleep t.phase) task tasks)
 
 -- ---- all of it
@@ -328,10 +328,10 @@ module _ (old : ℕ → Bool) (pid before after : ℕ) (one : Bool) (phase : Pha
   pub turned_asleep : (sleeps : Bool) (count : ℕ) → is_asleep phase ≡ sleeps → Dead ≢ phase_in items pid → count ≡ count_by (λ task. is_asleep task.phase) items
       → count + (if sleeps then 1 else 0) ≡ count_by (λ task. is_asleep task.phase) all
   turned_asleep sleeps count asleep there is =
-      let moved : counted (with_phase_in items pid phase) + cond (is_asleep (phase_in items pid)) 1 0 ≡ counted items + cond (is_asleep phase) 1 0 =
+      let moved : counted (with_phase_in items pid phase) + one_where (is_asleep (phase_in items pid)) ≡ counted items + one_where (is_asleep phase) =
       asleep_with items pid (phase_in items pid) phase refl there in
-      let none : cond (is_asleep (phase_in items pid)) 1 0 ≡ 0 = ap (λ b. cond b 1 0) awake in
-      let one_more : cond (is_asleep phase) 1 0 ≡ (if sleeps then 1 else 0) = ap (λ b. cond b 1 0) asleep in
+      let none : one_where (is_asleep (phase_in items pid)) ≡ 0 = ap (λ b. one_where b) awake in
+      let one_more : one_where (is_asleep phase) ≡ one_where sleeps = ap one_where asleep in
       let all_counted : counted all ≡ counted (with_phase_in items pid phase) =
       ap counted all_is ∙ asleep_born placed (before + 1) (after - before) ∙ ap counted placed_is in
       omega arith
