@@ -1,5 +1,5 @@
 -- What a core keeps in mind of its tasks holds through an event, and what follows from it.
-use Rattle.std.proofs.Common.{◌≡◌, ℕ, zero, suc, ◌+◌, ◌-◌, ◌≤◌, ◌==◌, ◌&&◌, ◌||◌, max, not, Bool, true, false, cond, if◌then◌else◌, List, [], ◌∷◌, ◌++◌, Option, None, filter, refl, ap, sym, ◌∙◌, subst, arith}
+use Rattle.std.proofs.Common.{◌≡◌, ℕ, zero, suc, ◌+◌, ◌-◌, ◌≤◌, ◌==◌, ◌&&◌, ◌||◌, max, not, Bool, true, false, cond, if◌then◌else◌, List, [], ◌∷◌, ◌++◌, Option, None, Some, filter, refl, ap, sym, ◌∙◌, subst, arith}
 use Rattle.std.specs.List.{AllByRecursion, list_all, list_any}
 use Rattle.std.proofs.lemmas.Bool.{le-leb}
 use Rattle.kabi_types.specs.declared.scripts.Script.{Script}
@@ -182,12 +182,13 @@ all_go_there script plain settled room (task ∷ tasks) fits dozes at =
 pub all_awake_there : (settled : ℕ → Bool) (room : ℕ) (tasks : List Task) → list_all (λ task. has_event room task.phase) tasks ≡ true
     → AllByRecursion (λ task. is_runnable settled task ≡ true → has_event room task.phase ≡ true) tasks
 all_awake_there settled room [] e = tt
-all_awake_there settled room (task ∷ tasks) e = go (has_event room task.phase) refl e
+all_awake_there settled room (task ∷ tasks) e = go (has_event room task.phase) refl e (λ f. all_awake_there settled room tasks f)
   where
     go : (b : Bool) → has_event room task.phase ≡ b → (b && list_all (λ t. has_event room t.phase) tasks) ≡ true
+        → (list_all (λ t. has_event room t.phase) tasks ≡ true → AllByRecursion (λ t. is_runnable settled t ≡ true → has_event room t.phase ≡ true) tasks)
         → AllByRecursion (λ t. is_runnable settled t ≡ true → has_event room t.phase ≡ true) (task ∷ tasks)
-    go true has f = ((λ runs. has), all_awake_there settled room tasks f)
-    go false has f = absurd (let wrong : false ≡ true = f in (cc))
+    go true has f later = ((λ runs. has), later f)
+    go false has f later = absurd (let wrong : false ≡ true = f in (cc))
 
 -- a task that sleeps is of a process that is alive
 asleep_so : (p : Phase) → is_asleep p ≡ true → (asked : Asked) × (p ≡ Asleep asked)

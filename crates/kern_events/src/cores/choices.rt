@@ -58,7 +58,10 @@ impl<T: Turner + Drop> Core<T> {
         if !self.none_dozes() {
             return false;
         }
-        self.all_fit() || self.all_awake_go()
+        if self.all_fit() {
+            return true;
+        }
+        self.all_awake_go()
     }
 
     /// Whether each call that sleeps is one of which the store keeps in mind that it would block.

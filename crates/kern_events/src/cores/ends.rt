@@ -1,18 +1,20 @@
 //! When a run ends.
 
-ghost use Rattle.std.specs.Prelude.{◌≡◌, ◌==◌, ◌<◌, if◌then◌else◌, ℕ, length, Some, None, IsNone, slice_get};
+ghost use Rattle.std.specs.Prelude.{◌≡◌, ◌==◌, ◌<◌, if◌then◌else◌, ℕ, false, length, true, Some, None, IsNone, slice_get};
+ghost use Rattle.std.specs.List.{list_all};
 ghost use Rattle.std.specs.Option.{option_or};
 ghost use Rattle.kabi_types.specs.declared.entries.End.TheVariants.{Spent};
 ghost use Rattle.posix_defs.specs.declared.phases.Task.{Task as TaskOf};
 ghost use Rattle.posix_defs.specs.CoreState.{CoreState};
 ghost use Rattle.posix_defs.specs.SoundTasks.{IsSound};
 ghost use Rattle.posix_defs.specs.Ends.{all_asleep, end_of, starves_for, sleeps_on};
-ghost use Rattle.kern_tasks.specs.View.{IsAt, GoesOn};
+ghost use Rattle.kern_tasks.specs.Room.{is_asleep};
+ghost use Rattle.kern_tasks.specs.View.{Has, IsAt, GoesOn};
 
 use super::Core;
 use kabi_types::End;
 use kern_tasks::{is_alone, phase_of};
-use posix_defs::{Phase, Turner};
+use posix_defs::{Phase, Task, Turner};
 
 impl<T: Turner + Drop> Core<T> {
     /// The end that stands now, the first that holds; None where the run goes on, and then some event may be taken.
@@ -86,10 +88,17 @@ impl<T: Turner + Drop> Core<T> {
         ensures { (s : CoreState) → IsAt T.stands self.now s → IsSound (T.script self.now.store) s → result ≡ all_asleep (T.script self.now.store) s }
     {
         // How many sleep mostly tells it, which asks nothing of the store.
-        if (self.asleep as usize) < self.tasks.len() {
+        if self.some_awake() {
             return false;
         }
         self.all_block()
+    }
+
+    /// Whether some call doesn't sleep.
+    fn some_awake(&self) -> bool
+        ensures { result ≡ true → list_all (λ task. is_asleep task.phase) self.now.tasks ≡ false }
+    {
+        (self.asleep as usize) < self.tasks.len()
     }
 
     /// The same, where the store is asked of each that is runnable.
@@ -97,7 +106,7 @@ impl<T: Turner + Drop> Core<T> {
         ensures { (s : CoreState) → IsAt T.stands self.now s → IsSound (T.script self.now.store) s → result ≡ all_asleep (T.script self.now.store) s }
     {
         for place in &self.runnable {
-            if !self.sleeps_on(*place as usize) {
+            if !self.sleeps_at(*place as usize) {
                 return false;
             }
         }
@@ -105,12 +114,20 @@ impl<T: Turner + Drop> Core<T> {
     }
 
     /// Whether a process sleeps on a call that would still block: that of the task at this place.
-    fn sleeps_on(&self, place: usize) -> bool
+    fn sleeps_at(&self, place: usize) -> bool
         requires { place < length self.now.tasks }
         ensures { (s : CoreState) (task : TaskOf) → IsAt T.stands self.now s → IsSound (T.script self.now.store) s → slice_get self.now.tasks place ≡ Some task
             → result ≡ sleeps_on (T.script self.now.store) s task.pid task.phase }
     {
-        let task = self.tasks[place];
+        self.sleeps_on(self.tasks[place])
+    }
+
+    /// The same of a task.
+    fn sleeps_on(&self, task: Task) -> bool
+        requires { Has self.now.tasks task }
+        ensures { (s : CoreState) → IsAt T.stands self.now s → IsSound (T.script self.now.store) s
+            → result ≡ sleeps_on (T.script self.now.store) s task.pid task.phase }
+    {
         match task.phase {
             Phase::Asleep(_) => !self.goes_on(task),
             _ => false,

@@ -17,11 +17,11 @@ loop-place-init g c =
     record {
       items = same;
       rest = λ s at sound. sleep_runnable (g.T.Turner.script c.args.self.now.store) s (settled c.args.self.now.store)
-          (λ pid e alive. g.T.Turner.settled_block c.args.self.now.store s.world pid at.stands e alive) sound c.args.self.now.tasks at.tasks;
+          (λ pid e alive. g.met.T.Turner.settled_block c.args.self.now.store s.world pid at.stands e alive) sound c.args.self.now.tasks at.tasks;
     }
 
-pub sleeps_on-requires : goal.sleeps_on-requires
-sleeps_on-requires g c =
+pub sleeps_at-requires : goal.sleeps_at-requires
+sleeps_at-requires g c =
     let here = found_there (g.T.Turner.settled c.args.self.now.store) c.args.self.now.tasks _ c.loop-place.place-index 0 c.loop-place.invariant.items c.loop-place-test.true in
     here.within
 
@@ -31,13 +31,13 @@ loop-place-preserved g c =
     record {
       items = c.loop-place.invariant.items;
       rest = λ s at sound.
-          all_behind _ _ _ nobody _ here.within_picked (sym (c.sleeps_on.ensures s _ at sound here.there) ∙ c.if-not-sleeps_on.false) (c.loop-place.invariant.rest s at sound);
+          all_behind _ _ _ nobody _ here.within_picked (sym (c.sleeps_at.ensures s _ at sound here.there) ∙ c.if-not-sleeps_at.false) (c.loop-place.invariant.rest s at sound);
     }
 
-pub returns-then-not-sleeps_on : goal.returns-then-not-sleeps_on
-returns-then-not-sleeps_on g c = λ s at sound.
+pub returns-then-not-sleeps_at : goal.returns-then-not-sleeps_at
+returns-then-not-sleeps_at g c = λ s at sound.
     let here = found_there (g.T.Turner.settled c.args.self.now.store) c.args.self.now.tasks _ c.loop-place.place-index 0 c.loop-place.invariant.items c.loop-place-test.true in
-    not_all_here _ _ _ nobody _ here.within_picked (sym (c.sleeps_on.ensures s _ at sound here.there) ∙ c.if-not-sleeps_on.true) (c.loop-place.invariant.rest s at sound)
+    not_all_here _ _ _ nobody _ here.within_picked (sym (c.sleeps_at.ensures s _ at sound here.there) ∙ c.if-not-sleeps_at.true) (c.loop-place.invariant.rest s at sound)
 
 pub returns : goal.returns
 returns g c = λ s at sound.

@@ -20,7 +20,7 @@ loop-place-init g c =
       items = same;
       rest = λ s at sound. ap (λ events. filter asks_nothing (events ++ others_in script s))
           (events_runnable script s (settled c.args.self.now.store)
-          (λ pid e alive. g.T.Turner.settled_block c.args.self.now.store s.world pid at.stands e alive) sound c.args.self.now.tasks at.tasks);
+          (λ pid e alive. g.met.T.Turner.settled_block c.args.self.now.store s.world pid at.stands e alive) sound c.args.self.now.tasks at.tasks);
     }
 
 pub event_at-requires : goal.event_at-requires

@@ -33,7 +33,7 @@ nonzero_rem-chosen g c =
     let same : c.self.inside.runnable.items ≡ runnable_in settled c.args.self.now.tasks =
     c.self.invariant.placed ∙ ap (λ core. runnable_in (g.T.Turner.settled core.store) core.tasks) c.self.view_is in
     let go = all_go_in script here.state settled _ c.args.self.now.tasks here.is_at.charged c.requires.all in
-    let are = events_runnable script here.state settled (λ pid e alive. g.T.Turner.settled_block c.args.self.now.store here.state.world pid here.is_at.stands e alive)
+    let are = events_runnable script here.state settled (λ pid e alive. g.met.T.Turner.settled_block c.args.self.now.store here.state.world pid here.is_at.stands e alive)
     (is_sound here.runs) c.args.self.now.tasks here.is_at.tasks in
     let others = c.count_present.ensures.value ∙ ap length (c.requires.others here.state here.is_at) in
     let picked : length c.self.inside.runnable.items ≡ length (filter (is_runnable settled) c.args.self.now.tasks) =
@@ -59,7 +59,7 @@ returns-in-Some-clause-named g c = λ s at sound.
     c.as_slice.ensures.value ∙ c.self.invariant.placed ∙ ap (λ core. runnable_in (g.T.Turner.settled core.store) core.tasks) c.self.view_is in
     let here = is_there (is_runnable settled) c.args.self.now.tasks _ _ c.in-Some.place same (sym c.place_at.ensures ∙ c.in-Some.is) in
     let go = all_go_in script s settled _ c.args.self.now.tasks at.charged c.requires.all in
-    let are = events_runnable script s settled (λ pid e alive. g.T.Turner.settled_block c.args.self.now.store s.world pid at.stands e alive) sound c.args.self.now.tasks at.tasks in
+    let are = events_runnable script s settled (λ pid e alive. g.met.T.Turner.settled_block c.args.self.now.store s.world pid at.stands e alive) sound c.args.self.now.tasks at.tasks in
     let many : c.len-count.result ≡ length (filter (is_runnable settled) c.args.self.now.tasks) =
     c.len-count.ensures ∙ sym c.as_slice.ensures.len ∙ ap length same ∙ as_many_places (is_runnable settled) 0 c.args.self.now.tasks in
     let others = c.count_present.ensures.value ∙ ap length (c.requires.others s at) in
@@ -77,7 +77,7 @@ returns-in-None-clause-named g c = λ s at sound.
     c.as_slice.ensures.value ∙ c.self.invariant.placed ∙ ap (λ core. runnable_in (g.T.Turner.settled core.store) core.tasks) c.self.view_is in
     let none = none_picked (is_runnable settled) 0 c.args.self.now.tasks _ (ap (λ ps. slice_get ps (c.args.number % (c.len-count.result + c.count_present.result))) (sym same) ∙ sym c.place_at.ensures ∙ c.in-None.is) in
     let go = all_go_in script s settled _ c.args.self.now.tasks at.charged c.requires.all in
-    let are = events_runnable script s settled (λ pid e alive. g.T.Turner.settled_block c.args.self.now.store s.world pid at.stands e alive) sound c.args.self.now.tasks at.tasks in
+    let are = events_runnable script s settled (λ pid e alive. g.met.T.Turner.settled_block c.args.self.now.store s.world pid at.stands e alive) sound c.args.self.now.tasks at.tasks in
     let many : c.len-count.result ≡ length (filter (is_runnable settled) c.args.self.now.tasks) =
     c.len-count.ensures ∙ sym c.as_slice.ensures.len ∙ ap length same ∙ as_many_places (is_runnable settled) 0 c.args.self.now.tasks in
     let others = c.count_present.ensures.value ∙ ap length (c.requires.others s at) in

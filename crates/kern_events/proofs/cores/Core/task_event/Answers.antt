@@ -19,7 +19,7 @@ loop-place-init g c =
       passed = λ s at sound.
           subst (Passed _ s _ 0) (let none : 0 ≡ c.args.i - c.args.i = omega arith in none)
           (passed_none _ s _ (events_runnable (g.T.Turner.script c.args.self.now.store) s (settled c.args.self.now.store)
-          (λ pid e alive. g.T.Turner.settled_block c.args.self.now.store s.world pid at.stands e alive) sound c.args.self.now.tasks at.tasks));
+          (λ pid e alive. g.met.T.Turner.settled_block c.args.self.now.store s.world pid at.stands e alive) sound c.args.self.now.tasks at.tasks));
     }
 
 pub event_at-requires : goal.event_at-requires
@@ -39,7 +39,7 @@ returns-clause-found g c = λ s at sound.
     let more : c.loop-place.left ≤ c.args.i = c.loop-place.invariant.more in
     let left : c.args.i - (c.args.i - c.loop-place.left) ≡ c.loop-place.left = omega arith in
     ap (slice_get (others_in (g.T.Turner.script c.args.self.now.store) s)) (sym left)
-    ∙ other_at _ s _ _ _ c.args.i (all_found _ _ _ _ c.loop-place.invariant.items c.loop-place-test.false)
+    ∙ other_at _ s _ _ _ c.args.i (all_found (g.T.Turner.settled c.args.self.now.store) c.args.self.now.tasks _ _ c.loop-place.invariant.items c.loop-place-test.false)
     (let below : c.args.i - c.loop-place.left ≤ c.args.i = omega arith in below) (c.loop-place.invariant.passed s at sound)
 
 pub loop-place-preserved : goal.loop-place-preserved

@@ -42,7 +42,7 @@ returns-clause-few g c =
 
 pub returns-clause-counted : goal.returns-clause-counted
 returns-clause-counted g c = λ s at sound.
-    all_counted _ s _ _ _ _ (all_found _ _ _ _ c.loop-place.invariant.items c.loop-place-test.false) refl (c.loop-place.invariant.passed s at sound)
+    all_counted _ s _ _ _ _ (all_found (g.T.Turner.settled c.args.self.now.store) c.args.self.now.tasks _ _ c.loop-place.invariant.items c.loop-place-test.false) refl (c.loop-place.invariant.passed s at sound)
 
 pub loop-place-init : goal.loop-place-init
 loop-place-init g c =
@@ -53,7 +53,7 @@ loop-place-init g c =
       items = same;
       few = lit≤ tt;
       passed = λ s at sound. passed_none _ s _ (events_runnable (g.T.Turner.script c.args.self.now.store) s (settled c.args.self.now.store)
-          (λ pid e alive. g.T.Turner.settled_block c.args.self.now.store s.world pid at.stands e alive) sound c.args.self.now.tasks at.tasks);
+          (λ pid e alive. g.met.T.Turner.settled_block c.args.self.now.store s.world pid at.stands e alive) sound c.args.self.now.tasks at.tasks);
     }
 
 pub event_at-requires : goal.event_at-requires

@@ -1,4 +1,4 @@
-use Rattle.std.proofs.Common.{Bool, true, false, ◌≡◌, ◌<◌, ◌≤◌, ◌+◌, ◌-◌, ◌++◌, ◌∷◌, [], max, length, vec_capacity, refl, sym, subst, ap, ◌∙◌, arith}
+use Rattle.std.proofs.Common.{Bool, true, false, nat_lt, ◌≡◌, ◌<◌, ◌≤◌, ◌+◌, ◌-◌, ◌++◌, ◌∷◌, [], max, length, vec_capacity, refl, sym, subst, ap, ◌∙◌, arith}
 use Rattle.kabi_types.specs.declared.entries.Event.TheVariants.{Turn}
 use Rattle.std.specs.List.{count_by}
 use borrow.Author.Tests.{ltb-false, ltb-true}
@@ -105,7 +105,7 @@ overflow_add-self g c =
     ap (λ ts. phase_in ts c.args.pid) (sym c.as_slice.ensures.value) ∙ sym c.phase_of.ensures ∙ c.in-Admitted.is in
     let asked = same_asked _ _ c.args.pid may.enabled.asked c.in-Admitted.asked Admitted (λ x y e. (cc)) may.is_at.tasks may.enabled.is found in
     let live : c.live.result ≡ live_of here.world = c.live.ensures.bytes here.world here.stands in
-    let paid = is_paid g.T.Turner.stands _ _ _ _ _ may.state c.args.pid c.live.result call c.in-Admitted.asked c.self.invariant.kept may.is_at sound may.enabled asked call
+    let paid = is_paid g.T.Turner.stands _ _ _ _ _ may.state c.args.pid c.live.result call c.in-Admitted.asked c.self.invariant.kept may.is_at sound may.enabled asked refl
     (subst (λ n. n ≤ live_of may.state.world + bound call) (sym live) here.live) in
     let fits : c.live.result + 2176 + (c.self.inside.reserved - c.in-Admitted.asked.bound) ≤ (g.T.Turner.script c.self.inside.store).heap = paid.after in
     let same : c.self.inside.heap ≡ (g.T.Turner.script c.self.inside.store).heap = c.self.invariant.kept.same_heap in
@@ -123,7 +123,7 @@ overflow_add-self-2 g c =
     ap (λ ts. phase_in ts c.args.pid) (sym c.as_slice.ensures.value) ∙ sym c.phase_of.ensures ∙ c.in-Admitted.is in
     let asked = same_asked _ _ c.args.pid may.enabled.asked c.in-Admitted.asked Admitted (λ x y e. (cc)) may.is_at.tasks may.enabled.is found in
     let live : c.live.result ≡ live_of here.world = c.live.ensures.bytes here.world here.stands in
-    let paid = is_paid g.T.Turner.stands _ _ _ _ _ may.state c.args.pid c.live.result call c.in-Admitted.asked c.self.invariant.kept may.is_at sound may.enabled asked call
+    let paid = is_paid g.T.Turner.stands _ _ _ _ _ may.state c.args.pid c.live.result call c.in-Admitted.asked c.self.invariant.kept may.is_at sound may.enabled asked refl
     (subst (λ n. n ≤ live_of may.state.world + bound call) (sym live) here.live) in
     let fits : c.live.result + 2176 + (c.self.inside.reserved - c.in-Admitted.asked.bound) ≤ (g.T.Turner.script c.self.inside.store).heap = paid.after in
     let same : c.self.inside.heap ≡ (g.T.Turner.script c.self.inside.store).heap = c.self.invariant.kept.same_heap in
@@ -171,7 +171,7 @@ sort_turned-requires-clause-rising g c =
     let rises = rising_then stands script _ _ (Turn c.args.pid) _ may
     (turns stands script _ may.state c.args.pid c.in-Admitted.asked call _ here.world c.turn_next-turned.result (entry_of c.args.pid c.in-Admitted.asked.kind c.turn_next-turned.result) _ (live_of here.world) [] 0
     may.is_at sound may.enabled asked refl refl here.stands here.turned then_so refl) in
-    subst (AreRising 0) (sym c.as_slice-2.ensures.value) rises
+    subst (AreRising 0) (sym c.as_slice-tasks.ensures.value) rises
 
 pub sort_turned-requires-clause-few : goal.sort_turned-requires-clause-few
 sort_turned-requires-clause-few g c =
@@ -195,9 +195,9 @@ sort_turned-requires-clause-few g c =
     let made : c.last_pid-last.result ≤ c.last_pid-before.result + 1 = omega arith in
     let less : length c.bury_ended.new.tasks.items ≤ length c.self.inside.tasks.items =
     few_kept here.world.plain c.args.pid c.phase_after-phase.result c.self.inside.tasks.items _ _ c.set_phase.ensures.items buried_so in
-    let many : length c.as_slice-2.result.now ≡ length c.add_born.new.tasks.items = ap length c.as_slice-2.ensures.value in
+    let many : length c.as_slice-tasks.result.now ≡ length c.add_born.new.tasks.items = ap length c.as_slice-tasks.ensures.value in
     let few : length c.add_born.new.tasks.items ≤ length c.self.inside.tasks.items + 1 = few_then _ _ _ _ _ c.add_born.ensures.items made less in
-    let fit = places_fit stands script _ _ _ _ _ may.state (length c.as_slice-2.result.now) c.self.invariant.kept may.no_end c.self.invariant.places (omega arith) in
+    let fit = places_fit stands script _ _ _ _ _ may.state (length c.as_slice-tasks.result.now) c.self.invariant.kept may.no_end c.self.invariant.places (omega arith) in
     fit.few
 
 pub sort_turned-requires-clause-room : goal.sort_turned-requires-clause-room
@@ -222,14 +222,14 @@ sort_turned-requires-clause-room g c =
     let made : c.last_pid-last.result ≤ c.last_pid-before.result + 1 = omega arith in
     let less : length c.bury_ended.new.tasks.items ≤ length c.self.inside.tasks.items =
     few_kept here.world.plain c.args.pid c.phase_after-phase.result c.self.inside.tasks.items _ _ c.set_phase.ensures.items buried_so in
-    let many : length c.as_slice-2.result.now ≡ length c.add_born.new.tasks.items = ap length c.as_slice-2.ensures.value in
+    let many : length c.as_slice-tasks.result.now ≡ length c.add_born.new.tasks.items = ap length c.as_slice-tasks.ensures.value in
     let few : length c.add_born.new.tasks.items ≤ length c.self.inside.tasks.items + 1 = few_then _ _ _ _ _ c.add_born.ensures.items made less in
-    let fit = places_fit stands script _ _ _ _ _ may.state (length c.as_slice-2.result.now) c.self.invariant.kept may.no_end c.self.invariant.places (omega arith) in
+    let fit = places_fit stands script _ _ _ _ _ may.state (length c.as_slice-tasks.result.now) c.self.invariant.kept may.no_end c.self.invariant.places (omega arith) in
     fit.room
 
 pub sort_turned-requires-clause-born : goal.sort_turned-requires-clause-born
 sort_turned-requires-clause-born g c = λ e.
-    subst (λ tasks. 0 < length tasks) (sym c.as_slice-2.ensures.value) (some_born _ _ _ _ c.add_born.ensures.items (ltb-true _ _ e))
+    subst (λ tasks. 0 < length tasks) (sym c.as_slice-tasks.ensures.value) (some_born _ _ _ _ c.add_born.ensures.items (ltb-true _ _ e))
 
 pub sort_turned-requires-clause-places : goal.sort_turned-requires-clause-places
 sort_turned-requires-clause-places g c =
@@ -251,16 +251,16 @@ sort_turned-requires-clause-places g c =
     let before : c.last_pid-before.result ≡ last_pid may.state.world.plain = c.last_pid-before.ensures may.state.world may.is_at.stands in
     let after : c.last_pid-last.result ≡ last_pid here.world.plain = c.last_pid-last.ensures here.world here.stands in
     let made : c.last_pid-last.result ≤ c.last_pid-before.result + 1 = omega arith in
-    let was_born : WasBorn c.last_pid-before.result c.last_pid-last.result c.born.value =
+    let was_born : WasBorn c.last_pid-before.result c.last_pid-last.result (nat_lt c.last_pid-before.result c.last_pid-last.result) =
     record { some = λ e. (let more : c.last_pid-before.result < c.last_pid-last.result = ltb-true _ _ e in omega arith); none = λ e. ltb-false _ _ e } in
     let fits = found_fits script may.state.world.plain may.state.tasks c.args.pid (Admitted may.enabled.asked) sound.each may.enabled.is (λ e. (cc)) in
     let own : c.args.pid ≤ c.last_pid-before.result = (let h : c.args.pid ≤ last_pid may.state.world.plain = fits.made in omega arith) in
     let rising = rising_now stands script _ c.self.invariant.kept.has_run in
     let awake : is_asleep (phase_in c.self.inside.tasks.items c.args.pid) ≡ false = ap is_asleep found in
-    let all_so = λ (e : c.may_end-ends.result ≡ false). c.as_slice-2.ensures.value ∙ c.add_born.ensures.items
+    let all_so = λ (e : c.may_end-ends.result ≡ false). c.as_slice-tasks.ensures.value ∙ c.add_born.ensures.items
     ∙ ap (λ kept. kept ++ born (c.last_pid-before.result + 1) (c.last_pid-last.result - c.last_pid-before.result)) (buried_so ∙ calm_so e) in
     λ e. are_places (g.T.Turner.settled c.self.inside.store) c.args.pid c.last_pid-before.result c.last_pid-last.result _ c.phase_after-phase.result c.self.inside.tasks.items c.set_phase.new.tasks.items
-    c.as_slice-2.result.now c.self.inside.runnable.items rising own awake c.set_phase.ensures.items (all_so e) was_born c.self.invariant.placed
+    c.as_slice-tasks.result.now c.self.inside.runnable.items rising own awake c.set_phase.ensures.items (all_so e) was_born c.self.invariant.placed
 
 pub sort_turned-requires-clause-asleep : goal.sort_turned-requires-clause-asleep
 sort_turned-requires-clause-asleep g c =
@@ -291,13 +291,13 @@ invariant_of-self g c =
     let made : c.last_pid-last.result ≤ c.last_pid-before.result + 1 = omega arith in
     let less : length c.bury_ended.new.tasks.items ≤ length c.self.inside.tasks.items =
     few_kept here.world.plain c.args.pid c.phase_after-phase.result c.self.inside.tasks.items _ _ c.set_phase.ensures.items buried_so in
-    let was_born : WasBorn c.last_pid-before.result c.last_pid-last.result c.born.value =
+    let was_born : WasBorn c.last_pid-before.result c.last_pid-last.result (nat_lt c.last_pid-before.result c.last_pid-last.result) =
     record { some = λ e. (let more : c.last_pid-before.result < c.last_pid-last.result = ltb-true _ _ e in omega arith); none = λ e. ltb-false _ _ e } in
     let fits = found_fits script may.state.world.plain may.state.tasks c.args.pid (Admitted may.enabled.asked) sound.each may.enabled.is (λ e. (cc)) in
     let own : c.args.pid ≤ c.last_pid-before.result = (let h : c.args.pid ≤ last_pid may.state.world.plain = fits.made in omega arith) in
     let rising = rising_now stands script _ c.self.invariant.kept.has_run in
     let awake : is_asleep (phase_in c.self.inside.tasks.items c.args.pid) ≡ false = ap is_asleep found in
-    let all_so = λ (e : c.may_end-ends.result ≡ false). c.as_slice-2.ensures.value ∙ c.add_born.ensures.items
+    let all_so = λ (e : c.may_end-ends.result ≡ false). c.as_slice-tasks.ensures.value ∙ c.add_born.ensures.items
     ∙ ap (λ kept. kept ++ born (c.last_pid-before.result + 1) (c.last_pid-last.result - c.last_pid-before.result)) (buried_so ∙ calm_so e) in
     let sleeps_so : is_asleep c.phase_after-phase.result ≡ c.leaves_asleep-sleeps.result =
     ap is_asleep phased ∙ asleep_after _ c.turn_next-turned.result ∙ sym c.leaves_asleep-sleeps.ensures in
@@ -315,20 +315,20 @@ invariant_of-self g c =
           (few_then _ _ _ _ _ c.add_born.ensures.items made less) c.turn_next-turned.ensures.script;
       placed =
           either_way c.may_end-ends.result
-          (λ e. (c.sort_turned.ensures.anew e).0 ∙ ap (runnable_in (g.T.Turner.settled c.turn_next-turned.new.store)) c.as_slice-2.ensures.value)
+          (λ e. (c.sort_turned.ensures.anew e).0 ∙ ap (runnable_in (g.T.Turner.settled c.turn_next-turned.new.store)) c.as_slice-tasks.ensures.value)
           (λ e. turned_runnable (g.T.Turner.settled c.self.inside.store) c.args.pid c.last_pid-before.result c.last_pid-last.result _ c.phase_after-phase.result c.self.inside.tasks.items c.set_phase.new.tasks.items
-          c.as_slice-2.result.now c.self.inside.runnable.items rising own awake c.set_phase.ensures.items (all_so e) was_born c.self.invariant.placed
+          c.as_slice-tasks.result.now c.self.inside.runnable.items rising own awake c.set_phase.ensures.items (all_so e) was_born c.self.invariant.placed
           (g.T.Turner.settled c.turn_next-turned.new.store) (g.T.Turner.stirred c.turn_next-turned.new.store) c.leaves_asleep-sleeps.result _ c.turn_next-turned.ensures.named sleeps_so (c.sort_turned.ensures.items e)
-          ∙ ap (runnable_in (g.T.Turner.settled c.turn_next-turned.new.store)) c.as_slice-2.ensures.value);
+          ∙ ap (runnable_in (g.T.Turner.settled c.turn_next-turned.new.store)) c.as_slice-tasks.ensures.value);
       places = let room : c.self.inside.steps + 2 ≤ vec_capacity c.self.inside.runnable = c.self.invariant.places in omega (arith, c.sort_turned.ensures.room);
       counted =
           either_way c.may_end-ends.result
-          (λ e. (c.sort_turned.ensures.anew e).1 ∙ ap (count_by (λ task. is_asleep task.phase)) c.as_slice-2.ensures.value)
+          (λ e. (c.sort_turned.ensures.anew e).1 ∙ ap (count_by (λ task. is_asleep task.phase)) c.as_slice-tasks.ensures.value)
           (λ e. c.sort_turned.ensures.asleep e
           ∙ turned_asleep (g.T.Turner.settled c.self.inside.store) c.args.pid c.last_pid-before.result c.last_pid-last.result _ c.phase_after-phase.result c.self.inside.tasks.items c.set_phase.new.tasks.items
-          c.as_slice-2.result.now c.self.inside.runnable.items rising own awake c.set_phase.ensures.items (all_so e) was_born c.self.invariant.placed
+          c.as_slice-tasks.result.now c.self.inside.runnable.items rising own awake c.set_phase.ensures.items (all_so e) was_born c.self.invariant.placed
           c.leaves_asleep-sleeps.result _ sleeps_so (λ d. dead_not _ (d ∙ found)) c.self.invariant.counted
-          ∙ ap (count_by (λ task. is_asleep task.phase)) c.as_slice-2.ensures.value);
+          ∙ ap (count_by (λ task. is_asleep task.phase)) c.as_slice-tasks.ensures.value);
       waiting =
           waits_after _ may.state.world.plain here.world.plain _ _ c.args.pid c.phase_after-phase.result (c.phase_after-phase.ensures.waits _)
           turned_so c.self.invariant.waiting;

@@ -33,7 +33,7 @@ invariant_of-self g c =
     let may = subst (λ core. MayTake g.T.Turner.stands (g.T.Turner.script core.store) core (Wake c.args.pid)) (sym c.self.view_is) c.requires in
     let found : phase_in c.self.inside.tasks.items c.args.pid ≡ Asleep c.in-Asleep.asked =
     ap (λ ts. phase_in ts c.args.pid) (sym c.as_slice.ensures.value) ∙ sym c.phase_of.ensures ∙ c.in-Asleep.is in
-    let unsettled = ready_unsettled g.T.Turner.stands g.T.Turner.settled g.T.Turner.script g.T.Turner.settled_block c.self.inside.store may.state c.args.pid (is_sound may.runs) may.is_at.stands may.enabled in
+    let unsettled = ready_unsettled g.T.Turner.stands g.T.Turner.settled g.T.Turner.script g.met.T.Turner.settled_block c.self.inside.store may.state c.args.pid (is_sound may.runs) may.is_at.stands may.enabled in
     let fewer : c.self.inside.asleep ≡ count_by (λ task. is_asleep task.phase) c.set_phase.new.tasks.items + 1 =
     woken_asleep _ _ c.args.pid (Asleep c.in-Asleep.asked) (Waiting c.in-Asleep.asked) _ c.self.invariant.counted found (λ e. (cc)) refl refl c.set_phase.ensures.items in
     record {
