@@ -270,7 +270,7 @@ each_with P (sleeper ∷ told) new here all = go (nat_lt sleeper.pid new.pid) (e
 pub told_with : (told : List Sleeper) (new : Sleeper) (who : ℕ) → told_of told new.pid ≡ None
     → told_of (with_sleeper told new) who ≡ (if new.pid == who then Some new.blocks else told_of told who)
 told_with [] new who none = refl
-told_with (sleeper ∷ told) new who none = go (nat_lt sleeper.pid new.pid) (of (sleeper.pid == new.pid) refl none)
+told_with (sleeper ∷ told) new who none = go (nat_lt sleeper.pid new.pid) (of (sleeper.pid == new.pid) refl none) (λ apart. told_with told new who apart)
   where
     of : (b : Bool) → (sleeper.pid == new.pid) ≡ b → (if b then Some sleeper.blocks else told_of told new.pid) ≡ None
         → (sleeper.pid ≡ new.pid → ⊥) × (told_of told new.pid ≡ None)
@@ -285,11 +285,12 @@ told_with (sleeper ∷ told) new who none = go (nat_lt sleeper.pid new.pid) (of 
     swapped false false e f other = refl
 
     go : (b : Bool) → (sleeper.pid ≡ new.pid → ⊥) × (told_of told new.pid ≡ None)
+        → (told_of told new.pid ≡ None → told_of (with_sleeper told new) who ≡ (if new.pid == who then Some new.blocks else told_of told who))
         → told_of (if b then sleeper ∷ with_sleeper told new else new ∷ sleeper ∷ told) who ≡ (if new.pid == who then Some new.blocks else told_of (sleeper ∷ told) who)
-    go true other =
-        ap (λ rest. if sleeper.pid == who then Some sleeper.blocks else rest) (told_with told new who other.1)
+    go true other later =
+        ap (λ rest. if sleeper.pid == who then Some sleeper.blocks else rest) (later other.1)
         ∙ swapped (sleeper.pid == who) (new.pid == who) refl refl other.0
-    go false other = refl
+    go false other later = refl
 
 -- ---- one is asked again
 
