@@ -8,7 +8,7 @@ ghost use Rattle.posix_defs.specs.Ends.{end_of};
 ghost use Rattle.posix_defs.specs.Choice.{evicts_in, asks_nothing, default_of, enabled_in, default_in, named_by, others_in};
 ghost use Rattle.kern_tasks.specs.View.{IsAt, CanTake, GoesOn, MayTake};
 ghost use Rattle.kern_tasks.specs.Others.{present};
-ghost use Rattle.kern_events.specs.Sleepers.{HaveEvents, NoneDozes};
+ghost use Rattle.kern_events.specs.Sleepers.{HaveEvents};
 
 use super::Core;
 use kabi_types::Event;
@@ -55,20 +55,14 @@ impl<T: Turner + Drop> Core<T> {
     fn all_go(&self) -> bool
         ensures { result ≡ true → HaveEvents (T.settled self.now.store) (T.script self.now.store).heap self.now.charged self.now.tasks }
     {
-        if !self.none_dozes() {
+        // Of each call that sleeps the store keeps in mind that it would block.
+        if self.asleep as usize + self.runnable.len() != self.tasks.len() {
             return false;
         }
         if self.all_fit() {
             return true;
         }
         self.all_awake_go()
-    }
-
-    /// Whether each call that sleeps is one of which the store keeps in mind that it would block.
-    fn none_dozes(&self) -> bool
-        ensures { result ≡ true → NoneDozes (T.settled self.now.store) self.now.tasks }
-    {
-        self.asleep as usize + self.runnable.len() == self.tasks.len()
     }
 
     /// Whether no call sleeps, and each task has an event, though some wait for more than there is room for.

@@ -1,4 +1,4 @@
-use Rattle.std.proofs.Common.{◌≡◌, ◌+◌, ◌≤◌, length, refl, sym, ap, ◌∙◌, subst, arith, lit≤}
+use Rattle.std.proofs.Common.{◌≡◌, ◌+◌, ◌<◌, ◌≤◌, length, refl, sym, ap, ◌∙◌, subst, arith, lit≤}
 use Rattle.std.specs.Option.{option_to_list}
 use Rattle.kern_tasks.specs.Runnable.{runnable_in}
 use Rattle.kern_tasks.proofs.NextRun.{few_tasks}
@@ -31,6 +31,15 @@ loop-place-preserved g c =
             subst (Passed _ s _ _) many (passed_more _ s _ _ _ c.event_at.result nobody here.within_picked (c.event_at.ensures s _ at sound here.there) (c.loop-place.invariant.passed s at sound));
       }
     ]
+
+pub overflow_add-count : goal.overflow_add-count
+overflow_add-count g c =
+    let tasks : length c.self.inside.tasks.items ≤ 100001 = few_tasks g.T.Turner.stands _ _ _ _ _ c.self.invariant.kept in
+    let places : length c.self.inside.runnable.items ≤ length c.self.inside.tasks.items = few_places _ _ _ c.self.invariant.placed in
+    let same : length c.deref-place-items.result.now ≡ length c.self.inside.runnable.items = ap length c.deref-place-items.ensures.value in
+    let few : c.loop-place.count ≤ c.loop-place.place-index = c.loop-place.invariant.few in
+    let here : c.loop-place.place-index < length c.deref-place-items.result.now = c.loop-place-test.true in
+    omega arith
 
 pub returns-clause-few : goal.returns-clause-few
 returns-clause-few g c =

@@ -1,4 +1,4 @@
-use Rattle.std.proofs.Common.{Bool, true, false, nat_lt, ◌≡◌, ◌<◌, ◌≤◌, ◌+◌, ◌-◌, ◌++◌, ◌∷◌, [], max, length, vec_capacity, refl, sym, subst, ap, ◌∙◌, arith}
+use Rattle.std.proofs.Common.{Bool, true, false, Some, nat_lt, ◌≡◌, ◌<◌, ◌≤◌, ◌+◌, ◌-◌, ◌++◌, ◌∷◌, [], max, length, vec_capacity, refl, sym, subst, ap, ◌∙◌, arith}
 use Rattle.kabi_types.specs.declared.entries.Event.TheVariants.{Turn}
 use Rattle.std.specs.List.{count_by}
 use borrow.Author.Tests.{ltb-false, ltb-true}
@@ -15,7 +15,7 @@ use Rattle.kern_tasks.specs.Room.{is_asleep}
 use Rattle.kern_tasks.specs.Runnable.{runnable_in}
 use Rattle.kern_tasks.specs.View.{MayTake}
 use Rattle.kern_tasks.proofs.HeapBounds.{little_slack}
-use Rattle.kern_tasks.proofs.NextRun.{few_tasks, has_room, has_task_room, held_back, kept_next, places_fit, reserved_charged, same_asked, takes_all, turns, rising_now, within_heap}
+use Rattle.kern_tasks.proofs.NextRun.{few_tasks, has_room, has_task_room, held_back, kept_next, places_fit, reserved_charged, said, same_asked, takes_all, turns, rising_now, within_heap}
 use Rattle.kern_tasks.proofs.Picked.{no_more}
 use Rattle.kern_tasks.proofs.Sorting.{WasBorn, are_places, asleep_after, some_born, turned_asleep, turned_runnable}
 use Rattle.kern_tasks.proofs.TurnLeads.{asked_still, few_kept, few_then, is_paid, is_there, led, rising_then, tasks_then}
@@ -168,7 +168,9 @@ sort_turned-requires-clause-rising g c =
     let after : c.last_pid-last.result ≡ last_pid here.world.plain = c.last_pid-last.ensures here.world here.stands in
     let made : c.last_pid-last.result ≤ c.last_pid-before.result + 1 = omega arith in
     let then_so = tasks_then _ _ may.state.world.plain here.world.plain c.args.pid _ _ _ _ _ _ _ _ c.turn_next-turned.ensures.script phased c.set_phase.ensures.items buried_so before after c.add_born.ensures.items in
-    let rises = rising_then stands script _ _ (Turn c.args.pid) _ may
+    let noted = said (Turn c.args.pid) c.in-Admitted.asked (Some (entry_of c.args.pid c.in-Admitted.asked.kind c.turn_next-turned.result))
+    (live_of here.world + 2176 + (c.self.inside.reserved - c.in-Admitted.asked.bound)) in
+    let rises = rising_then stands script _ _ (Turn c.args.pid) noted may
     (turns stands script _ may.state c.args.pid c.in-Admitted.asked call _ here.world c.turn_next-turned.result (entry_of c.args.pid c.in-Admitted.asked.kind c.turn_next-turned.result) _ (live_of here.world) [] 0
     may.is_at sound may.enabled asked refl refl here.stands here.turned then_so refl) in
     subst (AreRising 0) (sym c.as_slice-tasks.ensures.value) rises
