@@ -2,6 +2,7 @@ pub mod DiskSpelling
 pub mod FormattedDisk
 pub mod FreeBlocks
 pub mod OneNode
+pub mod Pointing
 pub mod BlockWritten
 pub mod DirectoryEntries
 pub mod FreeNodes
