@@ -1,5 +1,5 @@
 -- The blocks that a node gives up are those that its size no longer needs: first those of pointers, then those of bytes.
-use Rattle.std.proofs.Common.{◌≡◌, ℕ, ◌+◌, ◌-◌, ◌*◌, ◌<◌, ◌≤◌, inl, inr, List, get_or, ap, ◌∙◌, arith}
+use Rattle.std.proofs.Common.{◌≡◌, ℕ, ◌+◌, ◌-◌, ◌*◌, ◌<◌, ◌≤◌, inl, inr, List, get_or, refl, sym, ap, ◌∙◌, arith}
 use Rattle.std.proofs.lemmas.Bool.{cases_lt}
 use Rattle.kabi_types.specs.declared.inodes.Inode.{Inode}
 use Rattle.posix_defs.specs.DiskFormat.{data_blocks, pointer_blocks}
@@ -21,6 +21,16 @@ pub record Forgetting : Type 0 where
 
 abbrev pub IsGivenUp : Forgetting → ℕ → Type 0
 IsGivenUp f k = (place : Place) × HasPlace f.old.size place × ¬ (HasPlace f.size place) × (get_or f.dropped k 0 ≡ named_at f.before f.old place)
+
+-- one block that goes, and two
+pub one_each : (blocks : List ℕ) (named : ℕ → ℕ) (from many k : ℕ) → many ≡ 1 → get_or blocks 0 0 ≡ named from → k < many → get_or blocks k 0 ≡ named (from + k)
+one_each blocks named from many k is first lt = let none : k ≡ 0 = omega (arith, is, lt) in ap (λ (n : ℕ). get_or blocks n 0) none ∙ first ∙ ap named (omega (arith, none))
+
+pub two_each : (blocks : List ℕ) (named : ℕ → ℕ) (from many k : ℕ) → many ≡ 2 → get_or blocks 0 0 ≡ named from → get_or blocks 1 0 ≡ named (from + 1) → k < many → get_or blocks k 0 ≡ named (from + k)
+two_each blocks named from many k is first second lt = elim (cases_lt k 1) [
+  | inl one ↦ one_each blocks named from 1 k refl first one
+  | inr past ↦ let last : k ≡ 1 = omega (arith, is, lt, past) in ap (λ (n : ℕ). get_or blocks n 0) last ∙ second ∙ ap (λ (n : ℕ). named (from + n)) (sym last)
+]
 
 -- a number below a difference, and one behind the first
 below_sum : (k n m : ℕ) → k < n - m → m + k < n

@@ -9,7 +9,7 @@ use Rattle.posix_defs.specs.NodeChange.{Names, Replaces, Resizes}
 use Rattle.disk_laws.proofs.FreeBlocks.{named_is_for_files, direct_at, behind_at, leads_behind, has_run, has_way, run_needed, same_run}
 use Rattle.disk_laws.proofs.OneNode.{named_is_marked, this_has, changes_node, free_after}
 use Rattle.disk_laws.proofs.Pointing.{pointers_are, unneeded}
-use Rattle.blk_map.specs.Named.{IsInHand, MayHaveSize, pointer_to}
+use Rattle.blk_map.specs.Named.{IsInHand, MayHaveSize, TakesNone, pointer_to}
 use Rattle.blk_map.specs.Pointing.{Repoints, SameBeside, WritesDouble}
 use Rattle.blk_map.proofs.Blocks.{in_table, same_table}
 use Rattle.blk_map.proofs.Counted.{pointers_more}
@@ -370,3 +370,7 @@ gives v =
       );
       free = free_after v.number v.before v.old v.after (left v) v.sound change;
     }
+
+-- what is marked in the map that was written was in use
+pub gives_take_none : (v : Giving) → TakesNone v.before v.after
+gives_take_none v block is = v.map_only block (sym (bit_now v block) ∙ is)

@@ -11,6 +11,7 @@ use Rattle.disk_laws.proofs.Pointing.{pointers_are}
 use Rattle.disk_laws.proofs.OneNode.{named_is_marked, this_has, changes_node, free_after}
 use Rattle.blk_map.specs.Growing.{GrowsBut}
 use Rattle.blk_map.specs.Named.{MayHaveSize}
+use Rattle.blk_map.proofs.Blocks.{free_is_for_files}
 use Rattle.blk_map.proofs.Inodes.{Points, is_inode}
 use Rattle.blk_map.proofs.Counted.{given, pointers_more}
 
@@ -176,16 +177,10 @@ named_once g i j at_i at_j same = elim (where_from g i at_i) [
   ]
 ]
 
-free_is_for_files : (g : Growth) (block : ℕ) → IsFreeBlock g.before block → IsForFiles (length g.before) block
-free_is_for_files g block free = elim (cases_lt (table_end (length g.before)) block) [
-  | inl above ↦ (above, free.0)
-  | inr low ↦ absurd (free.1 ((g.sound.map block free.0).1 (inl low)))
-]
-
 is_for_files : (g : Growth) (place : Place) → HasPlace g.size place → IsForFiles (length g.before) (named_at g.after g.new place)
 is_for_files g place within = elim (where_from g place within) [
   | inl a ↦ subst (IsForFiles (length g.before)) (sym a.same) (named_is_for_files g.before g.sound g.number g.old place g.had a.within)
-  | inr a ↦ subst (IsForFiles (length g.before)) (sym a.same) (free_is_for_files g (get_or g.taken (key g place) 0) (g.free (key g place) a.within))
+  | inr a ↦ subst (IsForFiles (length g.before)) (sym a.same) (free_is_for_files g.before g.sound (get_or g.taken (key g place) 0) (g.free (key g place) a.within))
 ]
 
 points : (g : Growth) → Points (length g.before) g.size g.new

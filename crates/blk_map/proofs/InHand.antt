@@ -4,6 +4,7 @@ use Rattle.std.proofs.lemmas.Bool.{cases_lt}
 use Rattle.std.proofs.lemmas.List.{get_or-set_same, get_or-set_other}
 use Rattle.posix_defs.specs.SoundDisk.{run_of}
 use Rattle.blk_map.specs.Named.{IsInHand, pointer_to}
+use Rattle.blk_map.specs.Runs.{run_end, run_first}
 use Rattle.blk_map.proofs.Inodes.{pointer_direct, pointer_behind}
 
 pub first_set : (direct behind : List ℕ) (index block : ℕ) → index < 10 → index < length direct → pointer_to (set direct index block) behind index ≡ block
@@ -40,3 +41,15 @@ in_hand_still from count k index within lt (inr is) = inr (is ∙ sym (same_run_
 
 pub in_hand_of : (from count j k : ℕ) → from + count ≤ 10 + 256 * (run_of from + 1) → j < count → k < count → IsInHand (run_of (from + k)) (from + j)
 in_hand_of from count j k within lt also = inr (same_run_still from count j within lt ∙ sym (same_run_still from count k within also))
+
+-- the blocks of a run, the first ten among those of the first
+pub run_here : (run index : ℕ) → run_first run ≤ index → index < run_end run → run_of index ≡ run
+run_here run index past within = omega (arith, past, within)
+
+pub in_hand_here : (run here index : ℕ) → run_of here ≡ run → IsInHand run index → IsInHand (run_of here) index
+in_hand_here run here index is (inl first) = inl first
+in_hand_here run here index is (inr same) = inr (same ∙ sym is)
+
+-- with a node's last block those that go are in hand
+pub in_hand_last : (run held left index : ℕ) → run ≡ run_of (held - 1) → run_first run ≤ left → left ≤ index → index < held → IsInHand run index
+in_hand_last run held left index is past le lt = inr (run_here run index (omega (arith, past, le)) (omega (arith, is, lt)))

@@ -13,3 +13,4 @@ pub mod SameBlocks
 pub mod Steps
 pub mod Taking
 pub mod Taken
+pub mod Ways

@@ -1,11 +1,13 @@
 -- The blocks of pointers of a node that gets another size within a run: what is named, and what is named no more.
-use Rattle.std.proofs.Common.{◌≡◌, ◌≢◌, ℕ, zero, suc, ◌+◌, ◌-◌, ◌*◌, ◌<◌, ◌≤◌, ◌⊎◌, inl, inr, List, [], length, get_or, refl, sym, ap, ◌∙◌, arith}
+use Rattle.std.proofs.Common.{◌≡◌, ◌≢◌, ℕ, zero, suc, ◌+◌, ◌-◌, ◌*◌, ◌<◌, ◌≤◌, ◌⊎◌, inl, inr, List, [], length, get_or, refl, sym, ap, subst, ◌∙◌, arith}
 use Rattle.std.proofs.lemmas.Bool.{cases_lt, cases_eq}
 use Rattle.kabi_types.specs.declared.inodes.Inode.{Inode}
-use Rattle.posix_defs.specs.DiskFormat.{block_size, data_blocks, pointers_beside, pointer_blocks, leads_to}
-use Rattle.posix_defs.specs.SoundDisk.{block_bytes, HasInode, pointer_at, pointer_block, block_of_run, Sound}
+use Rattle.posix_defs.specs.DiskFormat.{block_size, data_blocks, pointers_beside, pointer_blocks, leads_to, IsForFiles}
+use Rattle.posix_defs.specs.SoundDisk.{block_bytes, HasInode, pointer_at, pointer_block, block_of_run, Pointers, Sound, IsFreeBlock}
+use Rattle.disk_laws.proofs.FreeBlocks.{named_is_for_files}
 use Rattle.disk_laws.proofs.Pointing.{unneeded}
-use Rattle.blk_map.specs.Pointing.{Repoints}
+use Rattle.blk_map.specs.Pointing.{Repoints, WritesDouble}
+use Rattle.blk_map.proofs.Blocks.{free_is_for_files}
 use Rattle.blk_map.proofs.Inodes.{none_needed}
 
 -- a node of a sound disk
@@ -33,7 +35,33 @@ no_double h few = none_needed (length h.disk) h.old.double (266 * block_size) h.
 no_pointer : (h : Had) (at : ℕ) → 266 < had_blocks h → at < 256 → had_blocks h ≤ leads_to 1 at → pointer_at (block_bytes h.disk h.old.double) at ≡ 0
 no_pointer h at far lt past = unneeded h.disk h.sound h.number h.old 1 at h.has (omega (arith, far)) lt past
 
+-- the double block, or no block, is on the disk
+pub double_on_disk : (h : Had) → h.old.double < length h.disk
+double_on_disk h = elim (cases_lt 266 (had_blocks h)) [
+  | inl far ↦ (named_is_for_files h.disk h.sound h.number h.old (Pointers 1) h.has (omega (arith, far))).1
+  | inr near ↦ omega (arith, no_double h near, h.sound.size.0)
+]
+
 -- ---- growth
+
+-- the blocks of pointers that the node has then are for files
+pub pointer_files : (h : Had) (more : List ℕ) (after : List (List ℕ)) (new : Inode) → Repoints h.disk h.old h.size more after new → length more ≡ pointer_blocks h.size - pointer_blocks h.old.size
+    → ((k : ℕ) → k < length more → IsFreeBlock h.disk (get_or more k 0)) → (block : ℕ) → block < pointer_blocks h.size → IsForFiles (length h.disk) (pointer_block after new block)
+pointer_files h more after new names many free block has = elim (cases_lt block (pointer_blocks h.old.size)) [
+  | inl was ↦ subst (IsForFiles (length h.disk)) (sym (names.kept block was has)) (named_is_for_files h.disk h.sound h.number h.old (Pointers block) h.has was)
+  | inr past ↦
+      let at : ℕ = block - pointer_blocks h.old.size in
+      let within : at < length more = among block (pointer_blocks h.old.size) (pointer_blocks h.size) (length more) many past has in
+      subst (IsForFiles (length h.disk)) (sym (names.added block past has)) (free_is_for_files h.disk h.sound (get_or more at 0) (free at within))
+]
+  where
+    among : (block old size all : ℕ) → all ≡ size - old → old ≤ block → block < size → block - old < all
+    among block old size all is past has = omega arith
+
+-- and the map is as it was
+pub map_stays : (h : Had) (more : List ℕ) (after : List (List ℕ)) (new : Inode) → Repoints h.disk h.old h.size more after new → length more ≡ pointer_blocks h.size - pointer_blocks h.old.size
+    → ((k : ℕ) → k < length more → IsFreeBlock h.disk (get_or more k 0)) → WritesDouble h.disk h.size after new → block_bytes after 0 ≡ block_bytes h.disk 0
+map_stays h more after new names many free others = others 0 (λ far e. let files = pointer_files h more after new names many free 1 (omega (arith, far)) in omega (arith, e, files.0))
 
 -- within the near ones the inode names one block, or none
 pub near_named : (h : Had) (more : List ℕ) (after : List (List ℕ)) (new : Inode) → h.old.size ≤ h.size → new_blocks h ≤ 266 → length more ≡ pointer_blocks h.size - pointer_blocks h.old.size
@@ -103,6 +131,16 @@ run_named h run more after new was grows within many indirect double this others
     rest : (at : ℕ) → 266 < new_blocks h → at < 256 → new_blocks h ≤ leads_to 1 at → pointer_at (block_bytes after new.double) at ≡ 0
     rest at large lt past = there at ∙ others at lt (λ e. omega (arith, e, past, was, grows)) ∙ no_pointer h at (omega (arith, was)) lt (omega (arith, past, grows))
 
+-- the same, as the run is counted
+pub run_named_at : (h : Had) (run : ℕ) (more : List ℕ) (after : List (List ℕ)) (new : Inode) → 1 < run → had_blocks h ≡ 10 + 256 * run → had_blocks h < new_blocks h → new_blocks h ≤ 10 + 256 * (run + 1) → length more ≡ 1
+    → new.indirect ≡ h.old.indirect → new.double ≡ h.old.double → pointer_at (block_bytes after h.old.double) (run - 1) ≡ get_or more 0 0
+    → ((at : ℕ) → at < 256 → at ≢ run - 1 → pointer_at (block_bytes after h.old.double) at ≡ pointer_at (block_bytes h.disk h.old.double) at) → Repoints h.disk h.old h.size more after new
+run_named_at h zero more after new far was grows within many indirect double this others = absurd (omega (arith, far))
+run_named_at h (suc zero) more after new far was grows within many indirect double this others = absurd (omega (arith, far))
+run_named_at h (suc (suc run)) more after new far was grows within many indirect double this others =
+    let at : suc (suc run) - 1 ≡ suc run = omega arith in
+    run_named h run more after new was grows within many indirect double (ap (pointer_at (block_bytes after h.old.double)) (sym at) ∙ this) (λ place lt apart. others place lt (λ e. apart (e ∙ at)))
+
 -- ---- shrinking
 
 -- where the node keeps the block of the run, or never had it, nothing is forgotten
@@ -171,3 +209,12 @@ run_forgotten h run after new shrinks left within indirect double this others =
       | inl e ↦ there at ∙ ap (λ (n : ℕ). pointer_at (block_bytes after h.old.double) n) e ∙ this
       | inr apart ↦ there at ∙ others at lt apart ∙ no_pointer h at (omega (arith, left, shrinks)) lt (omega (arith, past, left, within, apart))
     ]
+
+pub run_forgotten_at : (h : Had) (run : ℕ) (after : List (List ℕ)) (new : Inode) → 1 < run → h.size ≤ h.old.size → new_blocks h ≡ 10 + 256 * run → had_blocks h ≤ 10 + 256 * (run + 1) → new.indirect ≡ h.old.indirect → new.double ≡ h.old.double
+    → pointer_at (block_bytes after h.old.double) (run - 1) ≡ 0 → ((at : ℕ) → at < 256 → at ≢ run - 1 → pointer_at (block_bytes after h.old.double) at ≡ pointer_at (block_bytes h.disk h.old.double) at)
+    → Repoints h.disk h.old h.size [] after new
+run_forgotten_at h zero after new far shrinks left within indirect double this others = absurd (omega (arith, far))
+run_forgotten_at h (suc zero) after new far shrinks left within indirect double this others = absurd (omega (arith, far))
+run_forgotten_at h (suc (suc run)) after new far shrinks left within indirect double this others =
+    let at : suc (suc run) - 1 ≡ suc run = omega arith in
+    run_forgotten h run after new shrinks left within indirect double (ap (pointer_at (block_bytes after h.old.double)) (sym at) ∙ this) (λ place lt apart. others place lt (λ e. apart (e ∙ at)))

@@ -1,15 +1,22 @@
 -- A node that gets another size in several steps.
-use Rattle.std.proofs.Common.{◌≡◌, ℕ, ◌+◌, ◌<◌, ◌≤◌, ◌⊎◌, inl, inr, List, refl, sym, ap, subst, ◌∙◌, arith}
+use Rattle.std.proofs.Common.{◌≡◌, ℕ, ◌+◌, ◌-◌, ◌*◌, ◌/◌, ◌%◌, ◌<◌, ◌≤◌, min, ◌⊎◌, inl, inr, List, Result, Ok, Err, OnOk, IfErr, IsOk, Some, length, refl, sym, ap, subst, ◌∙◌, arith}
+use Rattle.std.specs.Prelude.{◌↔◌, slice_get}
 use Rattle.std.proofs.lemmas.Bool.{cases_lt}
 use Rattle.kabi_types.specs.declared.inodes.Inode.{Inode}
-use Rattle.posix_defs.specs.DiskFormat.{data_blocks, blocks_of}
-use Rattle.posix_defs.specs.SoundDisk.{block_bytes, HasInode, Sound}
+use Rattle.kabi_types.specs.declared.errnos.Errno.{Errno}
+use Rattle.kabi_types.specs.declared.errnos.Errno.TheVariants.{ENOSPC}
+use Rattle.posix_defs.specs.DiskFormat.{block_size, data_blocks, blocks_of}
+use Rattle.posix_defs.specs.SoundDisk.{block_bytes, free_in_map, HasInode, Sound, run_of}
 use Rattle.posix_defs.specs.DiskContents.{data_block}
 use Rattle.posix_defs.specs.DiskTree.{ChangesNode}
 use Rattle.posix_defs.specs.NodeChange.{Resizes}
+use Rattle.blk_map.specs.Found.{free_below}
 use Rattle.blk_map.specs.Growing.{GrowsBut}
-use Rattle.blk_map.specs.Named.{FreesNone}
+use Rattle.blk_map.specs.Named.{FreesNone, MayHaveSize}
+use Rattle.blk_map.specs.Runs.{run_end, run_first}
 use Rattle.blk_map.proofs.AndBack.{changes_follow}
+use Rattle.blk_map.proofs.Counted.{blocks_more}
+use Rattle.blk_map.proofs.Finding.{free_read}
 use Rattle.blk_map.proofs.Taken.{lowest_then_lowest}
 
 -- at first nothing is other
@@ -72,3 +79,59 @@ grows_follow from to number mid size first second third old between new le more 
 
 pub frees_none_then : (first second third : List (List ℕ)) → FreesNone first second → FreesNone second third → FreesNone first third
 frees_none_then first second third one two block is = two block (one block is)
+
+-- ---- the sizes between
+
+-- growing stops at the end of a run, or at the size that is wanted
+pub next_in_run : (now wanted blocks in_run next : ℕ) → blocks ≡ data_blocks now → in_run ≡ block_size * run_end (run_of blocks) → next ≡ min in_run wanted → now < wanted
+    → (now < next) × (next ≤ wanted) × (data_blocks next ≤ run_end (run_of (data_blocks now)))
+next_in_run now wanted blocks in_run next held is stops lt = (
+  omega (arith, held, is, stops, lt),
+  omega (arith, stops),
+  subst (λ (n : ℕ). data_blocks next ≤ run_end (run_of n)) held (omega (arith, is, stops)),
+)
+
+-- shrinking stops where a run begins
+pub floor_below : (now floor : ℕ) → floor ≡ block_size * run_first (run_of (data_blocks now - 1)) → 0 < floor → floor < now
+floor_below now floor is some = omega (arith, is, some)
+
+pub floor_within : (now floor size : ℕ) → floor ≡ block_size * run_first (run_of (data_blocks now - 1)) → floor ≤ size → run_first (run_of (data_blocks now - 1)) ≤ data_blocks size
+floor_within now floor size is le = units (run_first (run_of (data_blocks now - 1))) floor size is le
+  where
+    units : (many floor size : ℕ) → floor ≡ 1024 * many → floor ≤ size → many ≤ (size + 1023) / 1024
+    units many floor size is le = omega (arith, is, le)
+
+-- a directory keeps whole entries
+pub whole_entries : (kind kind_now wanted units next : ℕ) → kind_now ≡ kind → MayHaveSize kind wanted → next ≡ min (block_size * units) wanted → MayHaveSize kind_now next
+whole_entries kind kind_now wanted units next same (inl file) is = inl (same ∙ file)
+whole_entries kind kind_now wanted units next same (inr directory) is = inr (same ∙ directory.0, omega (arith, directory.1, is))
+
+pub whole_blocks : (kind kind_now wanted units : ℕ) → kind_now ≡ kind → MayHaveSize kind wanted → MayHaveSize kind_now (block_size * units)
+whole_blocks kind kind_now wanted units same (inl file) = inl (same ∙ file)
+whole_blocks kind kind_now wanted units same (inr directory) = inr (same ∙ directory.0, omega arith)
+
+-- ---- what is free
+
+-- of what was free at first so many are left as are wanted still
+room_left : (old now next wanted free_then free_now : ℕ) → free_now + now ≡ free_then + old → wanted - old ≤ free_then → old ≤ wanted → next ≤ wanted → next - now ≤ free_now
+room_left old now next wanted free_then free_now is enough le most = omega (arith, is, enough, le, most)
+
+pub enough_left : (before between now : List (List ℕ)) (map : List ℕ) (blocks need found old mid next size : ℕ) → between ≡ before → slice_get before 0 ≡ Some map → blocks ≡ length between
+    → need ≡ blocks_of size - blocks_of old → found ≡ min need (free_below map blocks) → need ≤ found → old ≤ size → free_in_map now + blocks_of mid ≡ free_in_map between + blocks_of old → next ≤ size
+    → blocks_of next - blocks_of mid ≤ free_in_map now
+enough_left before between now map blocks need found old mid next size kept read count wanted is enough le left most =
+    room_left (blocks_of old) (blocks_of mid) (blocks_of next) (blocks_of size) (free_in_map between) (free_in_map now) left (
+    all_wanted (blocks_of size - blocks_of old) need found (free_below map blocks) (free_in_map before) (free_in_map between) wanted is enough (free_read before between map blocks kept read count) (ap free_in_map kept)
+    ) (blocks_more old size le) (blocks_more next size most)
+  where
+    all_wanted : (wanted need found free first then : ℕ) → need ≡ wanted → found ≡ min need free → need ≤ found → free ≡ first → then ≡ first → wanted ≤ then
+    all_wanted wanted need found free first then same is enough here there = omega (arith, same, is, enough, here, there)
+
+-- where enough is free there is no error
+pub is_grown : (answer : Result (Unit {0}) Errno) (Rest : Type 0) (free wanted : ℕ) → IfErr answer (λ fault. (fault ≡ ENOSPC) × Rest) → ((answer ≡ Err ENOSPC) ↔ (free < wanted)) → wanted ≤ free → IsOk answer
+is_grown (Ok done) Rest free wanted err full enough = refl
+is_grown (Err fault) Rest free wanted err full enough = let is : fault ≡ ENOSPC = err.0 in absurd (omega (arith, full.0 (ap Err is), enough))
+
+pub grown : (answer : Result (Unit {0}) Errno) (Fact Rest : Type 0) (free wanted : ℕ) → OnOk answer Fact → IfErr answer (λ fault. (fault ≡ ENOSPC) × Rest) → ((answer ≡ Err ENOSPC) ↔ (free < wanted)) → wanted ≤ free → Fact
+grown (Ok done) Fact Rest free wanted ok err full enough = ok
+grown (Err fault) Fact Rest free wanted ok err full enough = let is : fault ≡ ENOSPC = err.0 in absurd (omega (arith, full.0 (ap Err is), enough))

@@ -10,11 +10,11 @@ use Rattle.disk_laws.proofs.FreeBlocks.{named_is_for_files, direct_at, behind_at
 use Rattle.disk_laws.proofs.OneNode.{named_is_marked}
 use Rattle.disk_laws.proofs.Pointing.{unneeded}
 use Rattle.blk_map.specs.Growing.{GrowsBut}
-use Rattle.blk_map.specs.Named.{IsInHand, MayHaveSize, pointer_to}
+use Rattle.blk_map.specs.Named.{FreesNone, IsInHand, MayHaveSize, pointer_to}
 use Rattle.blk_map.specs.Pointing.{Repoints, SameBeside, WritesDouble}
 use Rattle.blk_map.proofs.Inodes.{pointer_direct, pointer_behind, HasPointersOf, names_in_hand, none_needed}
 use Rattle.blk_map.proofs.Counted.{given, pointers_more}
-use Rattle.blk_map.proofs.Blocks.{in_table, same_table}
+use Rattle.blk_map.proofs.Blocks.{in_table, same_table, free_is_for_files}
 use Rattle.blk_map.proofs.Growth.{Growth, grows, front_within, back_within, key_of, keys_same}
 use Rattle.blk_map.proofs.Coming.{double_has_none, come_with_run}
 
@@ -99,14 +99,8 @@ pointer_then t p = pointer_block t.pointed t.half p
 
 -- ---- what is for files
 
-free_files : (t : Taking) (block : ℕ) → IsFreeBlock t.before block → IsForFiles (length t.before) block
-free_files t block free = elim (cases_lt (table_end (length t.before)) block) [
-  | inl above ↦ (above, free.0)
-  | inr low ↦ absurd (free.1 ((t.sound.map block free.0).1 (inl low)))
-]
-
 taken_files : (t : Taking) (k : ℕ) → k < length t.taken → IsForFiles (length t.before) (get_or t.taken k 0)
-taken_files t k lt = free_files t (get_or t.taken k 0) (t.free k lt)
+taken_files t k lt = free_is_for_files t.before t.sound (get_or t.taken k 0) (t.free k lt)
 
 many_given : (t : Taking) → length t.taken ≡ more_blocks t + (pointer_blocks t.size - pointer_blocks t.old.size)
 many_given t = t.many ∙ given t.old.size t.size t.more
@@ -420,3 +414,7 @@ growth t =
 pub taken_grows : (t : Taking) → GrowsBut t.from t.to t.number t.before t.old t.size t.after (now t)
 unfolding growth
 taken_grows t = grows (growth t)
+
+-- what was in use is marked in the map that was written
+pub taken_frees_none : (t : Taking) → FreesNone t.before t.after
+taken_frees_none t block is = bit_now t block ∙ t.map_stays block is

@@ -159,7 +159,7 @@ fn take_blocks<B: Blocks>(
     requires sound { Sound (B.blocks b.old) }
     requires node { HasNode (B.blocks b.old) number inode.old }
     requires kind { MayHaveSize inode.old.kind size }
-    requires size { inode.old.size ≤ size }
+    requires size { data_blocks inode.old.size < data_blocks size }
     requires most { data_blocks size ≤ most_blocks }
     requires run { data_blocks size ≤ run_end (run_of (data_blocks inode.old.size)) }
     requires map { map.old ≡ block_bytes (B.blocks b.old) 0 }

@@ -117,7 +117,9 @@ pub fn forget_pointers<B: Blocks>(
         count: 0,
     };
     let first = run_start(run);
-    if data_count(size) > first || data_count(inode.size) <= first {
+    let left = data_count(size);
+    let had = data_count(inode.size);
+    if left > first || had <= first {
         return dropped;
     }
     if run == 1 {
