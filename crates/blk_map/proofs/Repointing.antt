@@ -25,6 +25,13 @@ had_blocks h = data_blocks h.old.size
 abbrev new_blocks : Had → ℕ
 new_blocks h = data_blocks h.size
 
+-- the same inode with another block of pointers, and with another double block
+abbrev pub with_indirect : Inode → ℕ → Inode
+with_indirect inode block = record { kind = inode.kind; nlink = inode.nlink; size = inode.size; direct = inode.direct; indirect = block; double = inode.double }
+
+abbrev pub with_double : Inode → ℕ → Inode
+with_double inode block = record { kind = inode.kind; nlink = inode.nlink; size = inode.size; direct = inode.direct; indirect = inode.indirect; double = block }
+
 no_indirect : (h : Had) → had_blocks h ≤ 10 → h.old.indirect ≡ 0
 no_indirect h few = none_needed (length h.disk) h.old.indirect (10 * block_size) h.old.size (omega (arith, few)) h.has.valid.pointers.indirect
 
@@ -72,9 +79,11 @@ near_named h more after new grows near many double same named =
     kept : (block : ℕ) → block < pointer_blocks h.old.size → block < pointer_blocks h.size → pointer_block after new block ≡ pointer_block h.disk h.old block
     kept zero was is = same (omega (arith, was, grows, near, many))
     kept (suc block) was is = absurd (omega (arith, is, near))
+
     added : (block : ℕ) → pointer_blocks h.old.size ≤ block → block < pointer_blocks h.size → pointer_block after new block ≡ get_or more (block - pointer_blocks h.old.size) 0
     added zero past is = let none : 0 - pointer_blocks h.old.size ≡ 0 = omega arith in named (omega (arith, past, is, many)) ∙ ap (λ (n : ℕ). get_or more n 0) (sym none)
     added (suc block) past is = absurd (omega (arith, is, near))
+
     no_new : new_blocks h ≤ 10 → new.indirect ≡ 0
     no_new few = same (omega (arith, few, many)) ∙ no_indirect h (omega (arith, few, grows))
 
@@ -100,11 +109,13 @@ double_named h more after new was far within many indirect double first others =
     kept : (block : ℕ) → block < pointer_blocks h.old.size → block < pointer_blocks h.size → pointer_block after new block ≡ pointer_block h.disk h.old block
     kept zero lt is = indirect
     kept (suc block) lt is = absurd (omega (arith, lt, was))
+
     added : (block : ℕ) → pointer_blocks h.old.size ≤ block → block < pointer_blocks h.size → pointer_block after new block ≡ get_or more (block - pointer_blocks h.old.size) 0
     added zero past is = absurd (omega (arith, past, was))
     added (suc zero) past is = let none : 1 - pointer_blocks h.old.size ≡ 0 = omega (arith, was) in double ∙ ap (λ (n : ℕ). get_or more n 0) (sym none)
     added (suc (suc zero)) past is = let one : 2 - pointer_blocks h.old.size ≡ 1 = omega (arith, was) in first ∙ ap (λ (n : ℕ). get_or more n 0) (sym one)
     added (suc (suc (suc block))) past is = absurd (omega (arith, is, within))
+
     rest : (at : ℕ) → 266 < new_blocks h → at < 256 → new_blocks h ≤ leads_to 1 at → pointer_at (block_bytes after new.double) at ≡ 0
     rest at large lt past = others at (omega (arith, past, far)) lt
 
@@ -117,10 +128,12 @@ run_named h run more after new was grows within many indirect double this others
   where
     there : (at : ℕ) → pointer_at (block_bytes after new.double) at ≡ pointer_at (block_bytes after h.old.double) at
     there at = ap (λ (n : ℕ). pointer_at (block_bytes after n) at) double
+
     kept : (block : ℕ) → block < pointer_blocks h.old.size → block < pointer_blocks h.size → pointer_block after new block ≡ pointer_block h.disk h.old block
     kept zero lt is = indirect
     kept (suc zero) lt is = double
     kept (suc (suc block)) lt is = there block ∙ others block (omega (arith, lt, was, h.has.valid.kind.size)) (λ e. omega (arith, e, lt, was))
+
     added : (block : ℕ) → pointer_blocks h.old.size ≤ block → block < pointer_blocks h.size → pointer_block after new block ≡ get_or more (block - pointer_blocks h.old.size) 0
     added zero past is = absurd (omega (arith, past, was))
     added (suc zero) past is = absurd (omega (arith, past, was))
@@ -128,6 +141,7 @@ run_named h run more after new was grows within many indirect double this others
         let at : block ≡ suc run = omega (arith, past, is, was, grows, within) in
         let none : suc (suc block) - pointer_blocks h.old.size ≡ 0 = omega (arith, past, is, was, grows, within) in
         there block ∙ ap (λ (n : ℕ). pointer_at (block_bytes after h.old.double) n) at ∙ this ∙ ap (λ (n : ℕ). get_or more n 0) (sym none)
+
     rest : (at : ℕ) → 266 < new_blocks h → at < 256 → new_blocks h ≤ leads_to 1 at → pointer_at (block_bytes after new.double) at ≡ 0
     rest at large lt past = there at ∙ others at lt (λ e. omega (arith, e, past, was, grows)) ∙ no_pointer h at (omega (arith, was)) lt (omega (arith, past, grows))
 
@@ -149,10 +163,13 @@ none_forgotten h run shrinks within why =
     record {
       kept = λ block was is. refl;
       added = λ block past is. absurd (none_more block (pointer_blocks h.size) (pointer_blocks h.old.size) is past (fewer h shrinks));
-      none = (λ few. elim why [ inl large ↦ absurd (omega (arith, few, large)) | inr small ↦ no_indirect h small.1 ], λ near. elim why [
-        | inl large ↦ no_double h (in_first run large within near)
-        | inr small ↦ no_double h (omega (arith, small.1))
-      ]);
+      none = (
+        λ few. elim why [ inl large ↦ absurd (omega (arith, few, large)) | inr small ↦ no_indirect h small.1 ],
+        λ near. elim why [
+          | inl large ↦ no_double h (in_first run large within near)
+          | inr small ↦ no_double h (omega (arith, small.1))
+        ],
+      );
       rest = λ at far lt past. elim why [
         | inl large ↦ no_pointer h at (omega (arith, far, shrinks)) lt (omega (arith, large, within, past))
         | inr small ↦ absurd (omega (arith, far, shrinks, small.1))
@@ -161,8 +178,10 @@ none_forgotten h run shrinks within why =
   where
     none_more : (block new old : ℕ) → block < new → old ≤ block → new ≤ old → ⊥
     none_more block new old is past le = omega (arith, is, past, le)
+
     fewer : (h : Had) → h.size ≤ h.old.size → pointer_blocks h.size ≤ pointer_blocks h.old.size
     fewer h shrinks = omega (arith, shrinks)
+
     in_first : (run : ℕ) → 10 + 256 * run < new_blocks h → had_blocks h ≤ 10 + 256 * (run + 1) → new_blocks h ≤ 266 → had_blocks h ≤ 266
     in_first zero large within near = omega (arith, within)
     in_first (suc run) large within near = absurd (omega (arith, large, near))
@@ -200,10 +219,12 @@ run_forgotten h run after new shrinks left within indirect double this others =
   where
     there : (at : ℕ) → pointer_at (block_bytes after new.double) at ≡ pointer_at (block_bytes after h.old.double) at
     there at = ap (λ (n : ℕ). pointer_at (block_bytes after n) at) double
+
     kept : (block : ℕ) → block < pointer_blocks h.old.size → block < pointer_blocks h.size → pointer_block after new block ≡ pointer_block h.disk h.old block
     kept zero lt is = indirect
     kept (suc zero) lt is = double
     kept (suc (suc block)) lt is = there block ∙ others block (omega (arith, lt, within, h.has.valid.kind.size)) (λ e. omega (arith, e, is, left))
+
     rest : (at : ℕ) → 266 < new_blocks h → at < 256 → new_blocks h ≤ leads_to 1 at → pointer_at (block_bytes after new.double) at ≡ 0
     rest at large lt past = elim (cases_eq at (suc run)) [
       | inl e ↦ there at ∙ ap (λ (n : ℕ). pointer_at (block_bytes after h.old.double) n) e ∙ this

@@ -159,8 +159,8 @@ returns g c =
       grows = taken_grows taking;
       frees_none = taken_frees_none taking;
       follows = then c.args.b.now c.name_pointers-pointers.new.b c.settle.new.b c.name_pointers-pointers.ensures.follows (
-      then c.name_pointers-pointers.new.b c.set.new.self c.settle.new.b c.set.ensures.follows (
-      then c.set.new.self c.behind_of.new.b c.settle.new.b c.behind_of.ensures.follows (
-      then c.behind_of.new.b c.zero_range.new.b c.settle.new.b c.zero_range.ensures.follows (
-      then c.zero_range.new.b c.zero_range-2.new.b c.settle.new.b c.zero_range-2.ensures.follows c.settle.ensures.follows))));
+          then c.name_pointers-pointers.new.b c.set.new.self c.settle.new.b c.set.ensures.follows (
+          then c.set.new.self c.behind_of.new.b c.settle.new.b c.behind_of.ensures.follows (
+          then c.behind_of.new.b c.zero_range.new.b c.settle.new.b c.zero_range.ensures.follows (
+          then c.zero_range.new.b c.zero_range-2.new.b c.settle.new.b c.zero_range-2.ensures.follows c.settle.ensures.follows))));
     }

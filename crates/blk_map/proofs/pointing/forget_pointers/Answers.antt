@@ -3,19 +3,19 @@ use Rattle.posix_defs.specs.DiskFormat.{data_blocks, pointer_blocks}
 use Rattle.posix_defs.specs.SoundDisk.{block_bytes, block_of_run, pointer_at, pointer_block, run_of}
 use Rattle.blk_map.proofs.Counted.{last_run_few, none_gone, one_gone, two_gone}
 use Rattle.blk_map.proofs.Forgetting.{one_each, two_each}
-use Rattle.blk_map.proofs.Repointing.{Had, double_on_disk, none_forgotten, near_forgotten, double_forgotten, run_forgotten_at}
+use Rattle.blk_map.proofs.Repointing.{Had, double_on_disk, none_forgotten, near_forgotten, double_forgotten, run_forgotten_at, with_double, with_indirect}
 use Rattle.blk_map.proofs.pointing.forget_pointers.Goals as goal
 
 -- ---- the node keeps the block of the run, or had none
 
-pub returns-then-data_count-first-clause-names : goal.returns-then-data_count-first-clause-names
-returns-then-data_count-first-clause-names g c =
+pub returns-then-left-first-clause-names : goal.returns-then-left-first-clause-names
+returns-then-left-first-clause-names g c =
     let h : Had = record { disk = g.B.Blocks.blocks c.args.b.now; number = c.args.number; old = c.args.inode.now; size = c.args.size; sound = c.requires.sound; has = c.requires.node.0 } in
     let why : (10 + 256 * c.args.run < data_blocks c.args.size) ⊎ (data_blocks h.old.size ≤ 10 + 256 * c.args.run) = ? in
     none_forgotten h c.args.run c.requires.shrinks (omega (arith, c.requires.run)) (elim why [ inl kept ↦ inl kept | inr few ↦ inr (last_run_few c.args.run (data_blocks h.old.size) c.requires.run few) ])
 
-pub returns-then-data_count-first-clause-many : goal.returns-then-data_count-first-clause-many
-returns-then-data_count-first-clause-many g c =
+pub returns-then-left-first-clause-many : goal.returns-then-left-first-clause-many
+returns-then-left-first-clause-many g c =
     let why : (10 + 256 * c.args.run < data_blocks c.args.size) ⊎ (data_blocks c.args.inode.now.size ≤ 10 + 256 * c.args.run) = ? in
     omega (arith, none_gone c.args.run (data_blocks c.args.inode.now.size) (data_blocks c.args.size) c.requires.run (omega (arith, c.requires.shrinks)) why)
 
@@ -25,7 +25,7 @@ pub returns-then-run-eq1-clause-names : goal.returns-then-run-eq1-clause-names
 returns-then-run-eq1-clause-names g c =
     let h : Had = record { disk = g.B.Blocks.blocks c.args.b.now; number = c.args.number; old = c.args.inode.now; size = c.args.size; sound = c.requires.sound; has = c.requires.node.0 } in
     let left : data_blocks h.size ≡ 266 = omega (arith, c.requires.within) in
-    double_forgotten h h.disk (record h.old { double = 0 }) c.requires.shrinks left refl refl
+    double_forgotten h h.disk (with_double h.old 0) c.requires.shrinks left refl refl
 
 pub returns-then-run-eq1-clause-many : goal.returns-then-run-eq1-clause-many
 returns-then-run-eq1-clause-many g c =
@@ -51,7 +51,7 @@ returns-then-run-eq1-clause-each g c = λ k lt.
 pub returns-then-run-eq0-clause-names : goal.returns-then-run-eq0-clause-names
 returns-then-run-eq0-clause-names g c =
     let h : Had = record { disk = g.B.Blocks.blocks c.args.b.now; number = c.args.number; old = c.args.inode.now; size = c.args.size; sound = c.requires.sound; has = c.requires.node.0 } in
-    near_forgotten h h.disk (record h.old { indirect = 0 }) c.requires.shrinks (omega arith) (omega (arith, c.requires.run)) refl refl
+    near_forgotten h h.disk (with_indirect h.old 0) c.requires.shrinks (omega arith) (omega (arith, c.requires.run)) refl refl
 
 pub returns-then-run-eq0-clause-many : goal.returns-then-run-eq0-clause-many
 returns-then-run-eq0-clause-many g c =

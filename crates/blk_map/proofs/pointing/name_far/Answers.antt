@@ -4,7 +4,7 @@ use Rattle.posix_defs.specs.DiskFormat.{data_blocks, pointer_blocks}
 use Rattle.posix_defs.specs.SoundDisk.{block_bytes, block_of_run, pointer_at, pointer_block}
 use Rattle.blk_map.specs.Pointing.{Repoints}
 use Rattle.blk_map.proofs.Counted.{named_one, named_two}
-use Rattle.blk_map.proofs.Repointing.{Had, double_on_disk, far_same, double_named, run_named_at}
+use Rattle.blk_map.proofs.Repointing.{Had, double_on_disk, far_same, double_named, run_named_at, with_double}
 use Rattle.blk_map.proofs.Ways.{further_run}
 use Rattle.blk_map.proofs.pointing.name_far.Goals as goal
 
@@ -12,12 +12,12 @@ pub pointers_at-requires-clause-double : goal.pointers_at-requires-clause-double
 pointers_at-requires-clause-double g c = λ pos.
     double_on_disk (record { disk = g.B.Blocks.blocks c.args.b.now; number = c.args.number; old = c.args.inode.now; size = c.args.size; sound = c.requires.sound; has = c.requires.node.0 })
 
-pub returns-then-more-clause-has : goal.returns-then-more-clause-has
-returns-then-more-clause-has g c = λ large.
+pub returns-then-is_empty-clause-has : goal.returns-then-is_empty-clause-has
+returns-then-is_empty-clause-has g c = λ large.
     c.pointers_at.ensures.value ∙ ap (λ (disk : List (List ℕ)). pointer_block disk c.args.inode.now (block_of_run c.args.run)) (sym c.pointers_at.ensures.kept)
 
-pub returns-then-more-clause-names : goal.returns-then-more-clause-names
-returns-then-more-clause-names g c =
+pub returns-then-is_empty-clause-names : goal.returns-then-is_empty-clause-names
+returns-then-is_empty-clause-names g c =
     let h : Had = record { disk = g.B.Blocks.blocks c.args.b.now; number = c.args.number; old = c.args.inode.now; size = c.args.size; sound = c.requires.sound; has = c.requires.node.0 } in
     let far : 266 ≤ data_blocks h.old.size = omega (arith, c.requires.run, c.requires.few.0) in
     subst (λ (disk : List (List ℕ)). Repoints h.disk h.old h.size c.args.more.now disk h.old) (sym c.pointers_at.ensures.kept) (far_same h c.args.more.now c.requires.grows far (omega (arith, c.requires.many)))
@@ -45,7 +45,7 @@ returns-clause-has g c = λ large.
     ap (λ (disk : List (List ℕ)). block_bytes disk (get_or more 0 0)) c.set.ensures.after ∙ get_or-set_same {A = List ℕ} before (get_or more 0 0) c.block_naming.result _ (c.requires.free 0 (omega arith)).0 in
     let one : c.args.run ≡ 1 = omega arith in
     sym c.block_naming.ensures.first ∙ ap (λ (bytes : List ℕ). pointer_at bytes 0) (sym here)
-    ∙ ap (λ (run : ℕ). pointer_block (g.B.Blocks.blocks c.set.new.self) (record c.args.inode.now { double = get_or more 0 0 }) (block_of_run run)) (sym one)
+    ∙ ap (λ (run : ℕ). pointer_block (g.B.Blocks.blocks c.set.new.self) (with_double c.args.inode.now (get_or more 0 0)) (block_of_run run)) (sym one)
 
 pub returns-clause-names : goal.returns-clause-names
 returns-clause-names g c =
@@ -58,7 +58,7 @@ returns-clause-names g c =
     ap (λ (disk : List (List ℕ)). block_bytes disk (get_or more 0 0)) c.set.ensures.after ∙ get_or-set_same {A = List ℕ} h.disk (get_or more 0 0) c.block_naming.result _ (c.requires.free 0 (omega arith)).0 in
     let first : pointer_at (block_bytes after (get_or more 0 0)) 0 ≡ get_or more 1 0 =
     ap (λ (bytes : List ℕ). pointer_at bytes 0) here ∙ c.block_naming.ensures.first ∙ ap (λ (n : ℕ). get_or more (n - 1) 0) at.2 in
-    double_named h more after (record h.old { double = get_or more 0 0 }) at.0 at.1 (omega (arith, c.requires.within, one)) at.2 refl refl first (
+    double_named h more after (with_double h.old (get_or more 0 0)) at.0 at.1 (omega (arith, c.requires.within, one)) at.2 refl refl first (
     λ place pos within.
     ap (λ (bytes : List ℕ). pointer_at bytes place) here ∙ c.block_naming.ensures.rest place pos within
     )

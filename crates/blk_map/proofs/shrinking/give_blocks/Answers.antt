@@ -68,7 +68,13 @@ forget_all-requires g c =
     }
 
 pub unmark_all-requires-clause-few : goal.unmark_all-requires-clause-few
-unmark_all-requires-clause-few g c = omega (arith, c.forget_all.ensures.many, (forget_all-requires g c).room)
+unmark_all-requires-clause-few g c =
+    let old = c.args.inode.now in
+    let run : ℕ = c.run_of-run.result in
+    let run_is : run ≡ run_of (data_blocks old.size - 1) = c.run_of-run.ensures ∙ ap (λ (n : ℕ). run_of (n - 1)) c.data_count-had.ensures in
+    let first : run_first run ≤ data_blocks c.args.size = subst (λ (r : ℕ). run_first r ≤ data_blocks c.args.size) (sym run_is) c.requires.run in
+    let go = few_go run (data_blocks old.size) (data_blocks c.args.size) run_is first (omega (arith, c.requires.size)) in
+    omega (arith, go, c.forget_all.ensures.many, c.forget_pointers-dropped.ensures.many, c.data_count-had.ensures, c.data_count-left.ensures)
 
 pub unmark_all-requires-clause-within : goal.unmark_all-requires-clause-within
 unmark_all-requires-clause-within g c = λ k lt.
@@ -216,8 +222,8 @@ returns g c =
       resizes = gives giving;
       takes_none = gives_take_none giving;
       follows = then c.args.b.now c.pointers_at-pointers.new.b c.settle.new.b c.pointers_at-pointers.ensures.follows (
-      then c.pointers_at-pointers.new.b c.behind_of.new.b c.settle.new.b c.behind_of.ensures.follows (
-      then c.behind_of.new.b c.forget_pointers-dropped.new.b c.settle.new.b c.forget_pointers-dropped.ensures.follows (
-      then c.forget_pointers-dropped.new.b c.get-map.new.self c.settle.new.b c.get-map.ensures.follows (
-      then c.get-map.new.self c.set.new.self c.settle.new.b c.set.ensures.follows c.settle.ensures.follows))));
+          then c.pointers_at-pointers.new.b c.behind_of.new.b c.settle.new.b c.behind_of.ensures.follows (
+          then c.behind_of.new.b c.forget_pointers-dropped.new.b c.settle.new.b c.forget_pointers-dropped.ensures.follows (
+          then c.forget_pointers-dropped.new.b c.get-map.new.self c.settle.new.b c.get-map.ensures.follows (
+          then c.get-map.new.self c.set.new.self c.settle.new.b c.set.ensures.follows c.settle.ensures.follows))));
     }
