@@ -1,6 +1,6 @@
 -- How many blocks a node is given that grows.
-use Rattle.std.proofs.Common.{◌≡◌, ℕ, zero, suc, ◌+◌, ◌-◌, ◌*◌, ◌/◌, ◌<◌, ◌≤◌, ◌≢◌, ◌⊎◌, inl, inr, refl, sym, ap, ◌∙◌, arith}
-use Rattle.std.proofs.lemmas.Bool.{cases_lt}
+use Rattle.std.proofs.Common.{◌≡◌, ℕ, zero, suc, ◌+◌, ◌-◌, ◌*◌, ◌/◌, ◌<◌, ◌≤◌, ◌≢◌, Bool, true, false, eqb, ◌⊎◌, inl, inr, refl, sym, ap, ◌∙◌, arith}
+use Rattle.std.proofs.lemmas.Bool.{cases_eq, cases_lt, eq-eqb, eqb-true, false≢true}
 use Rattle.posix_defs.specs.DiskFormat.{data_blocks, pointers_beside, pointer_blocks, blocks_of}
 use Rattle.posix_defs.specs.SoundDisk.{block_of_run, run_of}
 use Rattle.blk_map.specs.Runs.{run_first}
@@ -66,9 +66,15 @@ named_two n m many is le within count some = (omega arith, omega arith, omega ar
 pub named_one : (run n m many : ℕ) → 1 < run → run ≡ (n - 10) / 256 → n ≤ m → m ≤ 10 + 256 * (run + 1) → many ≡ pointers_beside m - pointers_beside n → 0 < many → (n ≡ 10 + 256 * run) × (n < m) × (many ≡ 1)
 named_one run n m many far is le within count some = (omega arith, omega arith, omega arith)
 
--- and within the first
-pub named_first : (n m many : ℕ) → n ≤ m → m ≤ 266 → many ≡ pointers_beside m - pointers_beside n → many ≤ 1
-named_first n m many le within count = omega arith
+-- what was told of a list that is empty, and of one that isn't
+pub none_there : (many : ℕ) (empty : Bool) → empty ≡ eqb many 0 → empty ≡ true → many ≡ 0
+none_there many empty is e = eqb-true many 0 (sym is ∙ e)
+
+pub some_there : (many : ℕ) (empty : Bool) → empty ≡ eqb many 0 → empty ≡ false → 0 < many
+some_there many empty is e = elim (cases_eq many 0) [
+  | inl none ↦ absurd (false≢true (sym e ∙ is ∙ eq-eqb many 0 none))
+  | inr other ↦ omega (arith, other)
+]
 
 -- ---- blocks of pointers that go with the last run
 

@@ -38,4 +38,4 @@ asked_way {Thing} asked disk inode zero block before between after first is last
     (after, subst (λ (x : Thing). asked x inode.indirect after) first (subst (λ (n : ℕ). asked between n after) is last), refl)
 asked_way {Thing} asked disk inode (suc run) block before between after first is last =
     let double : AskedInTurn asked before (inode.double ∷ []) between = subst (λ (l : List ℕ). AskedInTurn asked before l between) (further_asks (suc run) inode.double (omega arith)) first in
-    (double.0, double.1, after, subst (λ (n : ℕ). asked double.0 n after) is (subst (λ (x : Thing). asked x block after) double.2 last), refl)
+    (double.0, double.1, (after, subst (λ (n : ℕ). asked double.0 n after) is (subst (λ (x : Thing). asked x block after) double.2 last), refl))

@@ -1,6 +1,6 @@
 //! The pointers of a node in hand: those of its inode, and those of one run.
 
-ghost use Rattle.std.specs.Prelude.{◌≡◌, ◌≢◌, ℕ, ◌+◌, ◌-◌, ◌%◌, ◌<◌, ◌≤◌, ◌⊎◌, length, slice_index};
+ghost use Rattle.std.specs.Prelude.{◌≡◌, ◌≢◌, ℕ, ◌+◌, ◌-◌, ◌%◌, ◌^◌, ◌<◌, ◌≤◌, ◌⊎◌, length, slice_index};
 ghost use Rattle.posix_defs.specs.DiskFormat.{block_pointers, direct_pointers};
 ghost use Rattle.posix_defs.specs.SoundDisk.{block_bytes, pointer_at, run_of};
 ghost use Rattle.blk_map.specs.Named.{IsInHand, pointer_to};
@@ -69,6 +69,7 @@ pub fn name_all(
     count: usize,
 )
     requires many { count ≤ length blocks.now }
+    requires low { from < 2 ^ 32 }
     requires within { from + count ≤ run_end (run_of from) }
     ensures these { (k : ℕ) → k < count → pointer_to direct.new behind.new (from + k) ≡ slice_index blocks.now k }
     ensures others { (index : ℕ) → IsInHand (run_of from) index → (index < from) ⊎ (from + count ≤ index) → pointer_to direct.new behind.new index ≡ pointer_to direct.old behind.old index }

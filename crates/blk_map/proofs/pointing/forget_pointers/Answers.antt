@@ -11,12 +11,14 @@ use Rattle.blk_map.proofs.pointing.forget_pointers.Goals as goal
 pub returns-then-left-first-clause-names : goal.returns-then-left-first-clause-names
 returns-then-left-first-clause-names g c =
     let h : Had = record { disk = g.B.Blocks.blocks c.args.b.now; number = c.args.number; old = c.args.inode.now; size = c.args.size; sound = c.requires.sound; has = c.requires.node.0 } in
-    let why : (10 + 256 * c.args.run < data_blocks c.args.size) ⊎ (data_blocks h.old.size ≤ 10 + 256 * c.args.run) = ? in
+    let why : (10 + 256 * c.args.run < data_blocks c.args.size) ⊎ (data_blocks h.old.size ≤ 10 + 256 * c.args.run) =
+    elim c.then-left-first.either [ inl kept ↦ inl (omega (arith, kept, c.data_count-left.ensures, c.run_start-first.ensures)) | inr few ↦ inr (omega (arith, few.1, c.data_count-had.ensures, c.run_start-first.ensures)) ] in
     none_forgotten h c.args.run c.requires.shrinks (omega (arith, c.requires.run)) (elim why [ inl kept ↦ inl kept | inr few ↦ inr (last_run_few c.args.run (data_blocks h.old.size) c.requires.run few) ])
 
 pub returns-then-left-first-clause-many : goal.returns-then-left-first-clause-many
 returns-then-left-first-clause-many g c =
-    let why : (10 + 256 * c.args.run < data_blocks c.args.size) ⊎ (data_blocks c.args.inode.now.size ≤ 10 + 256 * c.args.run) = ? in
+    let why : (10 + 256 * c.args.run < data_blocks c.args.size) ⊎ (data_blocks c.args.inode.now.size ≤ 10 + 256 * c.args.run) =
+    elim c.then-left-first.either [ inl kept ↦ inl (omega (arith, kept, c.data_count-left.ensures, c.run_start-first.ensures)) | inr few ↦ inr (omega (arith, few.1, c.data_count-had.ensures, c.run_start-first.ensures)) ] in
     omega (arith, none_gone c.args.run (data_blocks c.args.inode.now.size) (data_blocks c.args.size) c.requires.run (omega (arith, c.requires.shrinks)) why)
 
 -- ---- the double block goes
@@ -31,18 +33,18 @@ pub returns-then-run-eq1-clause-many : goal.returns-then-run-eq1-clause-many
 returns-then-run-eq1-clause-many g c =
     let left : data_blocks c.args.size ≡ 266 = omega (arith, c.requires.within) in
     let gone = two_gone (data_blocks c.args.inode.now.size) (data_blocks c.args.size) (omega (arith, c.requires.run)) left (omega arith) in
-    omega (arith, gone.0, c.push.ensures.count, c.push-2.ensures.count)
+    omega (arith, gone.0, c.push.ensures.count, c.push-then-run-eq1.ensures.count)
 
 pub returns-then-run-eq1-clause-each : goal.returns-then-run-eq1-clause-each
 returns-then-run-eq1-clause-each g c = λ k lt.
     let disk : List (List ℕ) = g.B.Blocks.blocks c.args.b.now in
     let old = c.args.inode.now in
-    let blocks : List ℕ = c.push-2.new.self.blocks in
+    let blocks : List ℕ = c.push-then-run-eq1.new.self.blocks in
     let left : data_blocks c.args.size ≡ 266 = omega (arith, c.requires.within) in
     let gone = two_gone (data_blocks old.size) (data_blocks c.args.size) (omega (arith, c.requires.run)) left (omega arith) in
-    let first : get_or blocks 0 0 ≡ old.double = c.push-2.ensures.kept 0 (omega (arith, c.push.ensures.count)) ∙ c.push.ensures.here in
+    let first : get_or blocks 0 0 ≡ old.double = c.push-then-run-eq1.ensures.kept 0 (omega (arith, c.push.ensures.count)) ∙ c.push.ensures.here in
     let one : c.push.new.self.count ≡ 1 = omega (arith, c.push.ensures.count) in
-    let second : get_or blocks 1 0 ≡ pointer_block disk old (block_of_run c.args.run) = ap (λ (n : ℕ). get_or blocks n 0) (sym one) ∙ c.push-2.ensures.here ∙ c.requires.pointers (omega arith) in
+    let second : get_or blocks 1 0 ≡ pointer_block disk old (block_of_run c.args.run) = ap (λ (n : ℕ). get_or blocks n 0) (sym one) ∙ c.push-then-run-eq1.ensures.here ∙ c.requires.pointers (omega arith) in
     two_each blocks (pointer_block disk old) (pointer_blocks c.args.size) (pointer_blocks old.size - pointer_blocks c.args.size) k gone.0 (first ∙ ap (pointer_block disk old) (sym gone.1))
     (second ∙ ap (λ (run : ℕ). pointer_block disk old (block_of_run run)) (omega arith) ∙ ap (λ (n : ℕ). pointer_block disk old (n + 1)) (sym gone.1)) lt
 
@@ -56,15 +58,15 @@ returns-then-run-eq0-clause-names g c =
 pub returns-then-run-eq0-clause-many : goal.returns-then-run-eq0-clause-many
 returns-then-run-eq0-clause-many g c =
     let gone = one_gone c.args.run (data_blocks c.args.inode.now.size) (data_blocks c.args.size) c.requires.run (omega arith) (omega arith) c.requires.within (omega arith) in
-    omega (arith, gone.0, c.push-3.ensures.count)
+    omega (arith, gone.0, c.push-2.ensures.count)
 
 pub returns-then-run-eq0-clause-each : goal.returns-then-run-eq0-clause-each
 returns-then-run-eq0-clause-each g c = λ k lt.
     let disk : List (List ℕ) = g.B.Blocks.blocks c.args.b.now in
     let old = c.args.inode.now in
     let gone = one_gone c.args.run (data_blocks old.size) (data_blocks c.args.size) c.requires.run (omega arith) (omega arith) c.requires.within (omega arith) in
-    let first : get_or c.push-3.new.self.blocks 0 0 ≡ pointer_block disk old (pointer_blocks c.args.size) = c.push-3.ensures.here ∙ c.requires.pointers (omega arith) ∙ ap (pointer_block disk old) (sym gone.1) in
-    one_each c.push-3.new.self.blocks (pointer_block disk old) (pointer_blocks c.args.size) (pointer_blocks old.size - pointer_blocks c.args.size) k gone.0 first lt
+    let first : get_or c.push-2.new.self.blocks 0 0 ≡ pointer_block disk old (pointer_blocks c.args.size) = c.push-2.ensures.here ∙ c.requires.pointers (omega arith) ∙ ap (pointer_block disk old) (sym gone.1) in
+    one_each c.push-2.new.self.blocks (pointer_block disk old) (pointer_blocks c.args.size) (pointer_blocks old.size - pointer_blocks c.args.size) k gone.0 first lt
 
 -- ---- the double block names a block less
 
@@ -80,15 +82,15 @@ returns-clause-names g c =
 pub returns-clause-many : goal.returns-clause-many
 returns-clause-many g c =
     let gone = one_gone c.args.run (data_blocks c.args.inode.now.size) (data_blocks c.args.size) c.requires.run (omega arith) (omega arith) c.requires.within (omega arith) in
-    omega (arith, gone.0, c.push-3.ensures.count)
+    omega (arith, gone.0, c.push-2.ensures.count)
 
 pub returns-clause-each : goal.returns-clause-each
 returns-clause-each g c = λ k lt.
     let disk : List (List ℕ) = g.B.Blocks.blocks c.args.b.now in
     let old = c.args.inode.now in
     let gone = one_gone c.args.run (data_blocks old.size) (data_blocks c.args.size) c.requires.run (omega arith) (omega arith) c.requires.within (omega arith) in
-    let first : get_or c.push-3.new.self.blocks 0 0 ≡ pointer_block disk old (pointer_blocks c.args.size) = c.push-3.ensures.here ∙ c.requires.pointers (omega arith) ∙ ap (pointer_block disk old) (sym gone.1) in
-    one_each c.push-3.new.self.blocks (pointer_block disk old) (pointer_blocks c.args.size) (pointer_blocks old.size - pointer_blocks c.args.size) k gone.0 first lt
+    let first : get_or c.push-2.new.self.blocks 0 0 ≡ pointer_block disk old (pointer_blocks c.args.size) = c.push-2.ensures.here ∙ c.requires.pointers (omega arith) ∙ ap (pointer_block disk old) (sym gone.1) in
+    one_each c.push-2.new.self.blocks (pointer_block disk old) (pointer_blocks c.args.size) (pointer_blocks old.size - pointer_blocks c.args.size) k gone.0 first lt
 
 pub returns-clause-others : goal.returns-clause-others
 returns-clause-others g c = λ block other. c.set_pointer.ensures.others block (other (omega (arith, c.requires.within)))
