@@ -244,6 +244,12 @@ run_none v at lt past =
     ap (λ (n : ℕ). get_or v.behind_now n 0) (sym there) ∙ sym (pointer_behind v.direct_now v.behind_now index low)
     ∙ none_at v index (inr here) past (λ le. pointer_behind v.half.direct v.behind index low ∙ ap (λ (n : ℕ). get_or v.behind n 0) there ∙ hand_none v at lt le)
 
+first_run : (at run : ℕ) → at < 256 → run_of (10 + at) ≡ run → 0 ≡ run
+first_run at run lt here = omega (arith, lt, here)
+
+further_run : (block at run : ℕ) → at < 256 → run_of (10 + 256 * (block + 1) + at) ≡ run → suc block ≡ run
+further_run block at run lt here = omega (arith, lt, here)
+
 behind_none : (v : Giving) (block at : ℕ) → block < pointer_blocks v.size → at < 256 → left_blocks v ≤ leads_to block at → pointer_at (block_bytes v.after (pointer_block v.after (left v) block)) at ≡ 0
 behind_none v block at has lt past = elim (cases_eq block (block_of_run v.run)) [
   | inl is ↦
@@ -282,12 +288,6 @@ behind_none v block at has lt past = elim (cases_eq block (block_of_run v.run)) 
       ]
       | inr le ↦ le
     ]
-
-    first_run : (at run : ℕ) → at < 256 → run_of (10 + at) ≡ run → 0 ≡ run
-    first_run at run lt here = omega (arith, lt, here)
-
-    further_run : (block at run : ℕ) → at < 256 → run_of (10 + 256 * (block + 1) + at) ≡ run → suc block ≡ run
-    further_run block at run lt here = omega (arith, lt, here)
 
 points : (v : Giving) → Points (length v.before) v.size (left v)
 points v =

@@ -4,7 +4,7 @@ use Rattle.kabi_types.specs.declared.inodes.Inode.{Inode}
 use Rattle.posix_defs.specs.DiskFormat.{block_size, table_end, data_blocks, pointers_beside, pointer_blocks, leads_to, IsForFiles, inode_bytes, most_blocks}
 use Rattle.posix_defs.specs.SoundDisk.{block_bytes, table_block, table_bytes, HasInode, pointer_at, Place, Data, Pointers, HasPlace, named_at, bit_of, IsMarked, Sound, pointer_block}
 use Rattle.posix_defs.specs.NodeChange.{Names, Replaces, Resizes}
-use Rattle.disk_laws.proofs.FreeBlocks.{named_is_for_files, names_stay, same_names}
+use Rattle.disk_laws.proofs.FreeBlocks.{named_is_for_files, direct_at, names_stay, same_names}
 use Rattle.disk_laws.proofs.Pointing.{pointers_are, unneeded}
 use Rattle.disk_laws.proofs.OneNode.{named_is_marked, this_has, changes_node, free_after}
 use Rattle.blk_map.specs.Growing.{GrowsBut}

@@ -1,10 +1,10 @@
-use Rattle.std.proofs.Common.{◌≡◌, ◌≢◌, ℕ, ◌+◌, ◌-◌, ◌*◌, ◌<◌, ◌≤◌, ◌⊎◌, inl, inr, List, length, get_or, drop, length-drop, sym, ap, subst, ◌∙◌, arith}
+use Rattle.std.proofs.Common.{◌≡◌, ◌≢◌, ℕ, ◌+◌, ◌-◌, ◌*◌, ◌<◌, ◌≤◌, ◌⊎◌, inl, inr, List, length, get_or, take, drop, length-drop, sym, ap, subst, ◌∙◌, arith}
 use Rattle.posix_defs.specs.DiskFormat.{data_blocks, pointer_blocks, IsForFiles}
 use Rattle.posix_defs.specs.SoundDisk.{pointer_at, bit_of, block_bytes, block_of_run, pointer_block, run_of, IsFreeBlock}
 use Rattle.blk_map.specs.Named.{IsInHand, pointer_to}
 use Rattle.blk_map.specs.Pointing.{Repoints}
 use Rattle.std.proofs.lemmas.Bool.{cases_lt}
-use Rattle.std.proofs.lemmas.List.{get_or-drop, get_or-replicate, length-set}
+use Rattle.std.proofs.lemmas.List.{get_or-drop, get_or-replicate, length-set, take_all}
 use Rattle.disk_laws.proofs.FreeBlocks.{has_run}
 use Rattle.blk_map.proofs.Counted.{given, given_least, run_few}
 use Rattle.blk_map.proofs.Repointing.{Had, pointer_files}
@@ -25,7 +25,9 @@ pub name_pointers-pointers-requires-clause-free : goal.name_pointers-pointers-re
 name_pointers-pointers-requires-clause-free g c = λ k lt.
     let taken : List ℕ = c.args.blocks.now in
     let more : ℕ = c.data_count.result - c.data_count-data.result in
-    subst (IsFreeBlock (g.B.Blocks.blocks c.args.b.now)) (sym (get_or-drop more taken k 0)) (c.requires.free (more + k) (omega (arith, lt, length-drop more taken)))
+    let rest : take (length taken - more) (drop more taken) ≡ drop more taken = take_all (length taken - more) (drop more taken) (omega (arith, length-drop more taken)) in
+    let free : IsFreeBlock (g.B.Blocks.blocks c.args.b.now) (get_or (drop more taken) k 0) = subst (IsFreeBlock (g.B.Blocks.blocks c.args.b.now)) (sym (get_or-drop more taken k 0)) (c.requires.free (more + k) (omega (arith, lt, ap length rest, length-drop more taken))) in
+    subst (λ (xs : List ℕ). IsFreeBlock (g.B.Blocks.blocks c.args.b.now) (get_or xs k 0)) (sym rest) free
 
 pub behind_of-requires-clause-few : goal.behind_of-requires-clause-few
 behind_of-requires-clause-few g c =
@@ -43,7 +45,10 @@ behind_of-requires-clause-within g c = λ large.
     let free : (k : ℕ) → k < length (drop more taken) → IsFreeBlock before (get_or (drop more taken) k 0) = λ k lt.
     subst (IsFreeBlock before) (sym (get_or-drop more taken k 0)) (c.requires.free (more + k) (omega (arith, lt, length-drop more taken)))
     in
-    let files = pointer_files h (drop more taken) (g.B.Blocks.blocks c.name_pointers-pointers.new.b) c.name_pointers-pointers.new.inode c.name_pointers-pointers.ensures.names many free (block_of_run c.run_of-run.result) (has_run c.args.size c.run_of-run.result here) in
+    let rest : take (length taken - more) (drop more taken) ≡ drop more taken = take_all (length taken - more) (drop more taken) (omega (arith, length-drop more taken)) in
+    let named : Repoints before c.args.inode.now c.args.size (drop more taken) (g.B.Blocks.blocks c.name_pointers-pointers.new.b) c.name_pointers-pointers.new.inode =
+    subst (λ (xs : List ℕ). Repoints before c.args.inode.now c.args.size xs (g.B.Blocks.blocks c.name_pointers-pointers.new.b) c.name_pointers-pointers.new.inode) rest c.name_pointers-pointers.ensures.names in
+    let files = pointer_files h (drop more taken) (g.B.Blocks.blocks c.name_pointers-pointers.new.b) c.name_pointers-pointers.new.inode named many free (block_of_run c.run_of-run.result) (has_run c.args.size c.run_of-run.result here) in
     let long : length (g.B.Blocks.blocks c.set.new.self) ≡ length before = ap length c.set.ensures.after ∙ length-set (g.B.Blocks.blocks c.name_pointers-pointers.new.b) 0 c.mark_all.new.map ∙ c.name_pointers-pointers.ensures.count in
     omega (arith, files.1, long, c.name_pointers-pointers.ensures.has here)
 
@@ -65,7 +70,10 @@ settle-requires-clause-within g c = λ large.
     let free : (k : ℕ) → k < length (drop more taken) → IsFreeBlock before (get_or (drop more taken) k 0) = λ k lt.
     subst (IsFreeBlock before) (sym (get_or-drop more taken k 0)) (c.requires.free (more + k) (omega (arith, lt, length-drop more taken)))
     in
-    let files = pointer_files h (drop more taken) (g.B.Blocks.blocks c.name_pointers-pointers.new.b) c.name_pointers-pointers.new.inode c.name_pointers-pointers.ensures.names many free (block_of_run c.run_of-run.result) (has_run c.args.size c.run_of-run.result large) in
+    let rest : take (length taken - more) (drop more taken) ≡ drop more taken = take_all (length taken - more) (drop more taken) (omega (arith, length-drop more taken)) in
+    let named : Repoints before c.args.inode.now c.args.size (drop more taken) (g.B.Blocks.blocks c.name_pointers-pointers.new.b) c.name_pointers-pointers.new.inode =
+    subst (λ (xs : List ℕ). Repoints before c.args.inode.now c.args.size xs (g.B.Blocks.blocks c.name_pointers-pointers.new.b) c.name_pointers-pointers.new.inode) rest c.name_pointers-pointers.ensures.names in
+    let files = pointer_files h (drop more taken) (g.B.Blocks.blocks c.name_pointers-pointers.new.b) c.name_pointers-pointers.new.inode named many free (block_of_run c.run_of-run.result) (has_run c.args.size c.run_of-run.result large) in
     let here : IsForFiles (length before) c.name_pointers-pointers.result = subst (IsForFiles (length before)) (sym (c.name_pointers-pointers.ensures.has large)) files in
     let long : length (g.B.Blocks.blocks c.zero_range-2.new.b) ≡ length before =
     c.zero_range-2.ensures.count ∙ c.zero_range.ensures.count ∙ ap length (c.behind_of.ensures.kept ∙ c.set.ensures.after) ∙ length-set (g.B.Blocks.blocks c.name_pointers-pointers.new.b) 0 c.mark_all.new.map ∙ c.name_pointers-pointers.ensures.count in
@@ -86,6 +94,10 @@ returns g c =
     let more_is : c.data_count.result - c.data_count-data.result ≡ more = omega (arith, c.data_count.ensures, had_is) in
     let run_is : run ≡ run_of had = c.run_of-run.ensures ∙ ap run_of had_is in
     let least = given_least old.size c.args.size (omega (arith, c.requires.size)) in
+    let from_more : ℕ = c.data_count.result - c.data_count-data.result in
+    let rest : take (length taken - from_more) (drop from_more taken) ≡ drop from_more taken = take_all (length taken - from_more) (drop from_more taken) (omega (arith, length-drop from_more taken)) in
+    let named : Repoints before old c.args.size (drop from_more taken) (g.B.Blocks.blocks c.name_pointers-pointers.new.b) c.name_pointers-pointers.new.inode =
+    subst (λ (xs : List ℕ). Repoints before old c.args.size xs (g.B.Blocks.blocks c.name_pointers-pointers.new.b) c.name_pointers-pointers.new.inode) rest c.name_pointers-pointers.ensures.names in
     let taking : Taking = record {
       number = c.args.number;
       before = before;
@@ -117,7 +129,7 @@ returns g c =
       apart = c.requires.apart;
       lowest = c.requires.lowest;
       has = c.name_pointers-pointers.ensures.has;
-      names = subst (λ (n : ℕ). Repoints before old c.args.size (drop n taken) (g.B.Blocks.blocks c.name_pointers-pointers.new.b) c.name_pointers-pointers.new.inode) more_is c.name_pointers-pointers.ensures.names;
+      names = subst (λ (n : ℕ). Repoints before old c.args.size (drop n taken) (g.B.Blocks.blocks c.name_pointers-pointers.new.b) c.name_pointers-pointers.new.inode) more_is named;
       same = c.name_pointers-pointers.ensures.same;
       pointed_count = c.name_pointers-pointers.ensures.count;
       pointed_others = c.name_pointers-pointers.ensures.others;

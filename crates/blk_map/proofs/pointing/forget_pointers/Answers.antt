@@ -42,11 +42,12 @@ returns-then-run-eq1-clause-each g c = λ k lt.
     let blocks : List ℕ = c.push-then-run-eq1.new.self.blocks in
     let left : data_blocks c.args.size ≡ 266 = omega (arith, c.requires.within) in
     let gone = two_gone (data_blocks old.size) (data_blocks c.args.size) (omega (arith, c.requires.run)) left (omega arith) in
+    let run_is : c.args.run ≡ 1 = omega arith in
     let first : get_or blocks 0 0 ≡ old.double = c.push-then-run-eq1.ensures.kept 0 (omega (arith, c.push.ensures.count)) ∙ c.push.ensures.here in
     let one : c.push.new.self.count ≡ 1 = omega (arith, c.push.ensures.count) in
     let second : get_or blocks 1 0 ≡ pointer_block disk old (block_of_run c.args.run) = ap (λ (n : ℕ). get_or blocks n 0) (sym one) ∙ c.push-then-run-eq1.ensures.here ∙ c.requires.pointers (omega arith) in
     two_each blocks (pointer_block disk old) (pointer_blocks c.args.size) (pointer_blocks old.size - pointer_blocks c.args.size) k gone.0 (first ∙ ap (pointer_block disk old) (sym gone.1))
-    (second ∙ ap (λ (run : ℕ). pointer_block disk old (block_of_run run)) (omega arith) ∙ ap (λ (n : ℕ). pointer_block disk old (n + 1)) (sym gone.1)) lt
+    (second ∙ ap (λ (run : ℕ). pointer_block disk old (block_of_run run)) run_is ∙ ap (λ (n : ℕ). pointer_block disk old (n + 1)) (sym gone.1)) lt
 
 -- ---- the inode's own block of pointers goes
 

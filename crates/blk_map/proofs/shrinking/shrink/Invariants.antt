@@ -6,8 +6,8 @@ use Rattle.blk_map.specs.Named.{TakesNone}
 use Rattle.blk_map.specs.Runs.{run_first}
 use Rattle.blk_map.proofs.shrinking.shrink.Given as goal
 
-abbrev pub invariant-loop-size : goal.invariant-loop-size
-invariant-loop-size g l = record {
+abbrev pub invariant-loop-floor : goal.invariant-loop-floor
+invariant-loop-floor g l = record {
   resizes : Resizes l.number (g.B.Blocks.blocks l.initial.b) l.initial.inode l.inode.size (g.B.Blocks.blocks l.b) l.inode;
   takes_none : TakesNone (g.B.Blocks.blocks l.initial.b) (g.B.Blocks.blocks l.b);
   range : (l.size ≤ l.inode.size) × (l.inode.size ≤ l.initial.inode.size);
@@ -15,5 +15,5 @@ invariant-loop-size g l = record {
   follows : g.B.Blocks.follows l.initial.b l.b;
 }
 
-abbrev pub decreases-loop-size : goal.decreases-loop-size
-decreases-loop-size g l = l.inode.size
+abbrev pub decreases-loop-floor : goal.decreases-loop-floor
+decreases-loop-floor g l = l.inode.size
