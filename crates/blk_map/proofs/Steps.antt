@@ -128,10 +128,10 @@ enough_left before between now map blocks need found old mid next size kept read
     all_wanted wanted need found free first then same is enough here there = omega (arith, same, is, enough, here, there)
 
 -- where enough is free there is no error
-pub is_grown : (answer : Result (Unit {0}) Errno) (Rest : Type 0) (free wanted : ℕ) → IfErr answer (λ fault. (fault ≡ ENOSPC) × Rest) → ((answer ≡ Err ENOSPC) ↔ (free < wanted)) → wanted ≤ free → IsOk answer
-is_grown (Ok done) Rest free wanted err full enough = refl
-is_grown (Err fault) Rest free wanted err full enough = let is : fault ≡ ENOSPC = err.0 in absurd (omega (arith, full.0 (ap Err is), enough))
+pub is_grown : (answer : Result (Unit {0}) Errno) (One Other : Type 0) (free wanted : ℕ) → IfErr answer (λ fault. (fault ≡ ENOSPC) × One × Other) → ((answer ≡ Err ENOSPC) ↔ (free < wanted)) → wanted ≤ free → IsOk answer
+is_grown (Ok done) One Other free wanted err full enough = refl
+is_grown (Err fault) One Other free wanted err full enough = let is : fault ≡ ENOSPC = err.0 in absurd (omega (arith, full.0 (ap Err is), enough))
 
-pub grown : (answer : Result (Unit {0}) Errno) (Fact Rest : Type 0) (free wanted : ℕ) → OnOk answer Fact → IfErr answer (λ fault. (fault ≡ ENOSPC) × Rest) → ((answer ≡ Err ENOSPC) ↔ (free < wanted)) → wanted ≤ free → Fact
-grown (Ok done) Fact Rest free wanted ok err full enough = ok
-grown (Err fault) Fact Rest free wanted ok err full enough = let is : fault ≡ ENOSPC = err.0 in absurd (omega (arith, full.0 (ap Err is), enough))
+pub grown : (answer : Result (Unit {0}) Errno) (Fact One Other : Type 0) (free wanted : ℕ) → OnOk answer Fact → IfErr answer (λ fault. (fault ≡ ENOSPC) × One × Other) → ((answer ≡ Err ENOSPC) ↔ (free < wanted)) → wanted ≤ free → Fact
+grown (Ok done) Fact One Other free wanted ok err full enough = ok
+grown (Err fault) Fact One Other free wanted ok err full enough = let is : fault ≡ ENOSPC = err.0 in absurd (omega (arith, full.0 (ap Err is), enough))

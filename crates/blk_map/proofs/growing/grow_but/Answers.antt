@@ -5,9 +5,9 @@ use Rattle.posix_defs.specs.DiskFormat.{data_blocks, most_blocks}
 use Rattle.blk_map.proofs.growing.grow_but.Goals as goal
 
 -- where there is no room for it the answer isn't that it is too big
-not_big : (answer : Result (Unit {0}) Errno) (Fact : Type 0) → IfErr answer (λ fault. (fault ≡ ENOSPC) × Fact) → answer ≢ Err EFBIG
-not_big (Ok done) Fact err = λ e. absurd cc
-not_big (Err fault) Fact err = λ e. let full : fault ≡ ENOSPC = err.0 in absurd cc
+not_big : (answer : Result (Unit {0}) Errno) (One Other : Type 0) → IfErr answer (λ fault. (fault ≡ ENOSPC) × One × Other) → answer ≢ Err EFBIG
+not_big (Ok done) One Other err = λ e. absurd cc
+not_big (Err fault) One Other err = λ e. let full : fault ≡ ENOSPC = err.0 in absurd cc
 
 within_run : (n size run_size : ℕ) → run_size ≡ 1024 * (10 + 256 * ((n - 10) / 256 + 1)) → size ≤ run_size → (size + 1023) / 1024 ≤ 10 + 256 * ((n - 10) / 256 + 1)
 within_run n size run_size is le = omega (arith, is, le)

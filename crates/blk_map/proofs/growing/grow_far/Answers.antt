@@ -54,7 +54,7 @@ unwrap-requires g c =
     let need : c.block_count.result - c.block_count-2.result ≡ blocks_of c.args.size - blocks_of c.args.inode.now.size = ap (λ (n : ℕ). n - c.block_count-2.result) c.block_count.ensures ∙ ap (λ (n : ℕ). blocks_of c.args.size - n) c.block_count-2.ensures in
     let enough = enough_left (g.B.Blocks.blocks c.args.b.now) (g.B.Blocks.blocks c.get-map.new.self) (g.B.Blocks.blocks c.loop-inode.b) c.get-map.result c.count.result (c.block_count.result - c.block_count-2.result) c.free_up_to.result c.args.inode.now.size c.loop-inode.inode.size
     c.min-next.result c.args.size c.get-map.ensures.kept c.get-map.ensures.value c.count.ensures need c.free_up_to.ensures c.if-free_up_to-need.false c.requires.size c.loop-inode.invariant.grows.resizes.free next.1 in
-    is_grown c.grow_in_run.result ((g.B.Blocks.blocks c.grow_in_run.new.b ≡ g.B.Blocks.blocks c.loop-inode.b) × (c.grow_in_run.new.inode ≡ c.loop-inode.inode)) _ _ c.grow_in_run.ensures.err c.grow_in_run.ensures.full enough
+    is_grown c.grow_in_run.result (g.B.Blocks.blocks c.grow_in_run.new.b ≡ g.B.Blocks.blocks c.loop-inode.b) (c.grow_in_run.new.inode ≡ c.loop-inode.inode) _ _ c.grow_in_run.ensures.err c.grow_in_run.ensures.full enough
 
 pub loop-inode-preserved : goal.loop-inode-preserved
 loop-inode-preserved g c =
@@ -67,7 +67,7 @@ loop-inode-preserved g c =
     let need : c.block_count.result - c.block_count-2.result ≡ blocks_of c.args.size - blocks_of c.args.inode.now.size = ap (λ (n : ℕ). n - c.block_count-2.result) c.block_count.ensures ∙ ap (λ (n : ℕ). blocks_of c.args.size - n) c.block_count-2.ensures in
     let enough = enough_left (g.B.Blocks.blocks c.args.b.now) base between c.get-map.result c.count.result (c.block_count.result - c.block_count-2.result) c.free_up_to.result c.args.inode.now.size c.loop-inode.inode.size
     c.min-next.result c.args.size c.get-map.ensures.kept c.get-map.ensures.value c.count.ensures need c.free_up_to.ensures c.if-free_up_to-need.false c.requires.size inv.grows.resizes.free next.1 in
-    let step : GrowsBut c.args.from c.args.to c.args.number between c.loop-inode.inode c.min-next.result after new = grown c.grow_in_run.result _ ((g.B.Blocks.blocks c.grow_in_run.new.b ≡ g.B.Blocks.blocks c.loop-inode.b) × (c.grow_in_run.new.inode ≡ c.loop-inode.inode)) _ _ c.grow_in_run.ensures.ok c.grow_in_run.ensures.err c.grow_in_run.ensures.full enough in
+    let step : GrowsBut c.args.from c.args.to c.args.number between c.loop-inode.inode c.min-next.result after new = grown c.grow_in_run.result _ (g.B.Blocks.blocks c.grow_in_run.new.b ≡ g.B.Blocks.blocks c.loop-inode.b) (c.grow_in_run.new.inode ≡ c.loop-inode.inode) _ _ c.grow_in_run.ensures.ok c.grow_in_run.ensures.err c.grow_in_run.ensures.full enough in
     let all = grows_follow c.args.from c.args.to c.args.number c.loop-inode.inode.size c.min-next.result base between after c.args.inode.now c.loop-inode.inode new inv.range.0 (omega (arith, next.0)) inv.grows c.grow_in_run.ensures.frees_none step in
     let size : new.size ≡ c.min-next.result = step.resizes.fields.2 in
     record {
@@ -83,7 +83,7 @@ loop-inode-smaller g c =
     let need : c.block_count.result - c.block_count-2.result ≡ blocks_of c.args.size - blocks_of c.args.inode.now.size = ap (λ (n : ℕ). n - c.block_count-2.result) c.block_count.ensures ∙ ap (λ (n : ℕ). blocks_of c.args.size - n) c.block_count-2.ensures in
     let enough = enough_left (g.B.Blocks.blocks c.args.b.now) (g.B.Blocks.blocks c.get-map.new.self) (g.B.Blocks.blocks c.loop-inode.b) c.get-map.result c.count.result (c.block_count.result - c.block_count-2.result) c.free_up_to.result c.args.inode.now.size c.loop-inode.inode.size
     c.min-next.result c.args.size c.get-map.ensures.kept c.get-map.ensures.value c.count.ensures need c.free_up_to.ensures c.if-free_up_to-need.false c.requires.size c.loop-inode.invariant.grows.resizes.free next.1 in
-    let step : GrowsBut c.args.from c.args.to c.args.number (g.B.Blocks.blocks c.loop-inode.b) c.loop-inode.inode c.min-next.result (g.B.Blocks.blocks c.grow_in_run.new.b) c.grow_in_run.new.inode = grown c.grow_in_run.result _ ((g.B.Blocks.blocks c.grow_in_run.new.b ≡ g.B.Blocks.blocks c.loop-inode.b) × (c.grow_in_run.new.inode ≡ c.loop-inode.inode)) _ _ c.grow_in_run.ensures.ok c.grow_in_run.ensures.err c.grow_in_run.ensures.full enough in
+    let step : GrowsBut c.args.from c.args.to c.args.number (g.B.Blocks.blocks c.loop-inode.b) c.loop-inode.inode c.min-next.result (g.B.Blocks.blocks c.grow_in_run.new.b) c.grow_in_run.new.inode = grown c.grow_in_run.result _ (g.B.Blocks.blocks c.grow_in_run.new.b ≡ g.B.Blocks.blocks c.loop-inode.b) (c.grow_in_run.new.inode ≡ c.loop-inode.inode) _ _ c.grow_in_run.ensures.ok c.grow_in_run.ensures.err c.grow_in_run.ensures.full enough in
     omega (arith, step.resizes.fields.2, next.0, next.1)
 
 -- ---- all of it

@@ -36,8 +36,8 @@ shrink_in_run-requires g c =
       run = floor_within c.loop-floor.inode.size floor floor inv.floor (omega arith);
     }
 
-pub size_below_run-requires : goal.size_below_run-requires
-size_below_run-requires g c = omega (arith, c.shrink_in_run.ensures.resizes.has.valid.kind.size, c.data_count-2.ensures)
+pub size_below_run-floor-requires-in-loop-floor : goal.size_below_run-floor-requires-in-loop-floor
+size_below_run-floor-requires-in-loop-floor g c = omega (arith, c.shrink_in_run.ensures.resizes.has.valid.kind.size, c.data_count-in-loop-floor.ensures)
 
 pub loop-floor-preserved : goal.loop-floor-preserved
 loop-floor-preserved g c =
@@ -55,7 +55,7 @@ loop-floor-preserved g c =
       resizes = subst (λ (n : ℕ). Resizes c.args.number base c.args.inode.now n after new) (sym size) all;
       takes_none = none_then_none base between after inv.takes_none c.shrink_in_run.ensures.takes_none;
       range = (omega (arith, size, c.loop-floor-test.true), omega (arith, size, below, inv.range.1));
-      floor = c.size_below_run.ensures ∙ ap (λ (n : ℕ). block_size * run_first (run_of (n - 1))) c.data_count-2.ensures;
+      floor = c.size_below_run-floor-in-loop-floor.ensures ∙ ap (λ (n : ℕ). block_size * run_first (run_of (n - 1))) c.data_count-in-loop-floor.ensures;
       follows = g.met.B.Blocks.follows_trans c.args.b.now c.loop-floor.b c.shrink_in_run.new.b inv.follows c.shrink_in_run.ensures.follows;
     }
 
@@ -64,8 +64,8 @@ loop-floor-smaller g c =
     let inv = c.loop-floor.invariant in
     omega (arith, c.shrink_in_run.ensures.resizes.fields.2, floor_below c.loop-floor.inode.size c.loop-floor.floor inv.floor (omega (arith, c.loop-floor-test.true)))
 
-pub shrink_in_run-2-requires : goal.shrink_in_run-2-requires
-shrink_in_run-2-requires g c =
+pub shrink_in_run-requires-2 : goal.shrink_in_run-requires-2
+shrink_in_run-requires-2 g c =
     let inv = c.loop-floor.invariant in
     let a = inv.resizes in
     record {
