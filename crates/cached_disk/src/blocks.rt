@@ -3,11 +3,16 @@ ghost use Rattle.std.specs.Prelude.{◌≡◌, ℕ, ◌<◌, ◌≤◌, length, 
 ghost use Rattle.kheap_slabs.specs.Objects.{InUse};
 ghost use Rattle.kheap_slabs.specs.Paid.{TakesNothing};
 ghost use Rattle.block_cache.specs.Blocks.{block_slot, KeepsBlocks, TrueToDisk};
+ghost use Rattle.kabi_types.specs.declared.inodes.DirEntry.{DirEntry};
+ghost use Rattle.posix_defs.specs.SoundDisk.{block_bytes};
+ghost use Rattle.memfs_dir.specs.Slots.{Spells, entries_in_block};
+ghost use Rattle.memfs_dir.specs.Looking.{FoundIn};
 ghost use Rattle.cached_disk.specs.Lent.{parts, AreLent, GoesOn, Asked, HasBytes};
 
 use block_cache::BlockCache;
 use disk_layout::RamDisk;
 use kheap_slabs::{KHeap, Purse};
+use memfs_dir::{FoundEntry, LookedBlocks, look_in};
 use posix_defs::Blocks;
 
 /// The blocks of a disk behind a cache, made of what a call lends.
@@ -65,6 +70,14 @@ impl Blocks for CachedBlocks<'_> {
     }
 }
 
+impl LookedBlocks for CachedBlocks<'_> {
+    fn look(&mut self, block: u32, count: u32, name: &[u8]) -> Option<FoundEntry> {
+        look_cached(
+            self.heap, self.purse, self.cache, self.disk, block, count, name,
+        )
+    }
+}
+
 /// A block's bytes: as they are cached, else as they are read, and then they are cached.
 #[inline(always)]
 fn fetch(
@@ -86,6 +99,33 @@ fn fetch(
 {
     let slot = cached(heap, purse, cache, disk, number);
     heap.get_block(slot).bytes
+}
+
+/// A look through a block of a directory where it lies in the heap.
+fn look_cached(
+    heap: &mut KHeap,
+    purse: &mut Purse,
+    cache: &mut BlockCache,
+    disk: &mut RamDisk,
+    number: u32,
+    count: u32,
+    name: &[u8],
+) -> Option<FoundEntry>
+    requires lent { AreLent heap.old purse.old cache.old disk.old }
+    requires number { number < length disk.old.blocks }
+    requires count { count ≤ entries_in_block }
+    requires spelled { (slot : ℕ) → slot < count → (entry : DirEntry)
+        × Spells (block_bytes disk.old.blocks number) slot entry }
+    ensures value { FoundIn (block_bytes disk.old.blocks number) count name.now result }
+    ensures kept { disk.new.blocks ≡ disk.old.blocks }
+    ensures asked { Asked (parts heap.old purse.old cache.old disk.old) number
+        (parts heap.new purse.new cache.new disk.new) }
+    ensures goes_on { GoesOn (parts heap.old purse.old cache.old disk.old)
+        (parts heap.new purse.new cache.new disk.new) }
+    ensures lent { AreLent heap.new purse.new cache.new disk.new }
+{
+    let slot = cached(heap, purse, cache, disk, number);
+    look_in(&heap.get_block(slot).bytes, count, name)
 }
 
 /// The key in the heap of a block's Block, which was read and filled where it wasn't cached.

@@ -6,11 +6,11 @@ ghost use Rattle.posix_defs.specs.DiskTree.{StandsFor};
 ghost use Rattle.posix_defs.specs.Tree.{Tree, found, is_directory, parent_at};
 
 use kabi_types::Inode;
-use memfs_dir::{dir_look, dir_node};
+use memfs_dir::{LookedBlocks, dir_look, dir_node};
 use posix_defs::Blocks;
 
 /// The node under a name of a directory, other than `.` and `..`; None exactly where the name isn't there.
-pub fn node_named<B: Blocks>(b: &mut B, dir: &Inode, name: &[u8]) -> Option<u32>
+pub fn node_named<B: LookedBlocks>(b: &mut B, dir: &Inode, name: &[u8]) -> Option<u32>
     requires stands { (tree : Tree) × (number : ℕ) × StandsFor (B.blocks b.old) tree
         × (is_directory tree number ≡ true) × HasNode (B.blocks b.old) number dir.now }
     requires name { (name.now ≢ own_name) × (name.now ≢ parent_name) }

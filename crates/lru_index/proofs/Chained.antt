@@ -5,11 +5,11 @@ use Rattle.std.specs.List.{IsDistinct}
 use Rattle.std.specs.Map.{keys_of, lookup, remove_entry}
 use Rattle.std.specs.Cmp.{nat_eq_equiv}
 use Rattle.std.proofs.lemmas.Map.{lookup-remove_entry}
-use Rattle.lru_index.specs.Chain.{IsChain, link_at, item_at, first_item, link_of, with_warmer, with_colder, end_after, first_or, last_or, AreLinked}
+use Rattle.lru_index.specs.Chain.{IsChain, link_at, item_at, first_item, last_item, link_of, with_warmer, with_colder, end_after, first_or, last_or, AreLinked}
 use Rattle.lru_index.specs.Order.{warmer, first_key}
 use Rattle.lru_index.specs.declared.chain.Link.{Link}
 use Rattle.lru_index.specs.declared.chain.Chain.{Chain}
-use Rattle.lru_index.proofs.Links.{IsChanged, linked_put, linked_removed, link_back, still_none, cold_end, warm_end, first_or-append, last_or-append, found_with, slots, nexts, items_first, items_next, first_is}
+use Rattle.lru_index.proofs.Links.{IsChanged, linked_put, linked_removed, link_back, still_none, cold_end, warm_end, first_or-append, last_or-append, found_with, slots, nexts, items_first, items_last, items_next, first_is}
 use Rattle.lru_index.proofs.Pairs.{distinct_removed, distinct_put, found_put}
 
 -- a table with nothing at any place, and no ends
@@ -51,6 +51,9 @@ module _ {T : Type 0} where
   -- the coldest item, and the first that is warmer than one
   pub chain_coldest : (chain : Chain T) (ps : List (ℕ × T)) → IsChain chain ps → option_and_then (item_at chain.links.items) chain.coldest ≡ first_item ps
   chain_coldest chain ps h = ap (option_and_then (item_at chain.links.items)) (h.coldest ∙ first_is ps) ∙ items_first chain.links.items None ps h.linked
+
+  pub chain_warmest : (chain : Chain T) (ps : List (ℕ × T)) → IsChain chain ps → option_and_then (item_at chain.links.items) chain.warmest ≡ last_item None ps
+  chain_warmest chain ps h = ap (option_and_then (item_at chain.links.items)) h.warmest ∙ items_last chain.links.items None None ps h.linked
 
   pub chain_warmer : (chain : Chain T) (ps : List (ℕ × T)) → IsChain chain ps → (q : ℕ) → option_and_then (item_at chain.links.items) (option_and_then (λ u. u.warmer) (link_at chain.links.items q)) ≡ first_item (warmer (nat_eq q) ps)
   chain_warmer chain ps h q = ap (option_and_then (item_at chain.links.items)) (chain_next chain ps h q) ∙ items_next chain.links.items None ps q h.linked

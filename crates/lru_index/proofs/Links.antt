@@ -6,7 +6,7 @@ use Rattle.std.specs.Map.{keys_of, lookup, remove_entry}
 use Rattle.std.specs.Cmp.{nat_eq_equiv}
 use Rattle.std.proofs.lemmas.Map.Keys.{IsDistinct-head, IsDistinct-tail}
 use Rattle.lru_index.specs.Order.{warmer, first_key}
-use Rattle.lru_index.specs.Chain.{link_at, item_at, first_item, link_of, with_warmer, with_colder, hits, end_after, first_or, last_or, AreLinked}
+use Rattle.lru_index.specs.Chain.{link_at, item_at, first_item, last_item, link_of, with_warmer, with_colder, hits, end_after, first_or, last_or, AreLinked}
 use Rattle.lru_index.specs.declared.chain.Link.{Link}
 use Rattle.lru_index.proofs.Sides.{IsWith, with_right}
 
@@ -183,6 +183,15 @@ module _ {T : Type 0} where
 
   pub items_first : (links : List (Option (Link T))) (c : Option ℕ) (ps : List (ℕ × T)) → AreLinked (link_at links) c ps None → option_and_then (item_at links) (first_key ps) ≡ first_item ps
   items_first links c ps l = ap (option_and_then (item_at links)) (sym (first_is ps)) ∙ item_first links c ps l
+
+  -- the item at the last place
+  item_last : (links : List (Option (Link T))) (c e : Option ℕ) (p : ℕ × T) (ps : List (ℕ × T)) → AreLinked (link_at links) c (p ∷ ps) e → option_and_then (item_at links) (last_or (Some p.0) ps) ≡ last_item (Some p.1) ps
+  item_last links c e p [] l = ap (option_map (λ u. u.item)) l.0
+  item_last links c e p (q ∷ ps) l = item_last links (Some p.0) e q ps l.1
+
+  pub items_last : (links : List (Option (Link T))) (c e : Option ℕ) (ps : List (ℕ × T)) → AreLinked (link_at links) c ps e → option_and_then (item_at links) (last_or None ps) ≡ last_item None ps
+  items_last links c e [] l = refl
+  items_last links c e (p ∷ ps) l = item_last links c e p ps l
 
   -- the item at the first place that is warmer
   pub items_next : (links : List (Option (Link T))) (c : Option ℕ) (ps : List (ℕ × T)) (q : ℕ) → AreLinked (link_at links) c ps None → option_and_then (item_at links) (first_key (warmer (nat_eq q) ps)) ≡ first_item (warmer (nat_eq q) ps)

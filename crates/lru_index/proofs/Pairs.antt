@@ -65,6 +65,29 @@ module _ {K V : Type 0} {eq : K → K → Bool} (laws : IsEquivalence eq) where
     | false ↦ λ t. rw t (λ h. put_back same ps k s h)
   ]) refl
 
+  last_key : (P : K → Type 0) (front : List (K × V)) (k : K) (s : V) → AllByRecursion P (keys_of (front ++ (k, s) ∷ [])) → P k
+  last_key P [] k s a = a.0
+  last_key P (p ∷ front) k s a = last_key P front k s a.1
+
+  -- the key of the last pair is apart from that of the first
+  last_apart : (p : K × V) (front : List (K × V)) (k : K) (s : V) → IsDistinct eq (keys_of (p ∷ (front ++ (k, s) ∷ []))) → eq k p.0 ≡ false
+  last_apart p front k s d = laws.symm k p.0 ∙ last_key (λ y. eq p.0 y ≡ false) front k s (IsDistinct-head eq p.0 (keys_of (front ++ (k, s) ∷ [])) d)
+
+  -- the last pair is found by its key
+  pub last_found : (front : List (K × V)) (k : K) (s : V) → IsDistinct eq (keys_of (front ++ (k, s) ∷ [])) → lookup (eq k) (front ++ (k, s) ∷ []) ≡ Some s
+  last_found [] k s d = rw (laws.refl k) refl
+  last_found (p ∷ front) k s d = rw (last_apart p front k s d) (last_found front k s (IsDistinct-tail eq p.0 (keys_of (front ++ (k, s) ∷ [])) d))
+
+  last_removed : (front : List (K × V)) (k : K) (s : V) → IsDistinct eq (keys_of (front ++ (k, s) ∷ [])) → remove_entry (eq k) (front ++ (k, s) ∷ []) ≡ front
+  last_removed [] k s d = rw (laws.refl k) refl
+  last_removed (p ∷ front) k s d = rw (last_apart p front k s d) (ap (λ l. p ∷ l) (last_removed front k s (IsDistinct-tail eq p.0 (keys_of (front ++ (k, s) ∷ [])) d)))
+
+  -- the warmest pair stays where it is
+  pub last_touched : (same : (a b : K) → eq a b ≡ true → a ≡ b) (front : List (K × V)) (k : K) (s : V) → IsDistinct eq (keys_of (front ++ (k, s) ∷ [])) → touched (eq k) (front ++ (k, s) ∷ []) ≡ front ++ (k, s) ∷ []
+  last_touched same front k s d =
+      ap (λ o. remove_entry (eq k) (front ++ (k, s) ∷ []) ++ option_to_list o) (put_back same (front ++ (k, s) ∷ []) k s (last_found front k s d))
+      ∙ ap (λ l. l ++ (k, s) ∷ []) (last_removed front k s d)
+
   -- what is found, and that keys are distinct, is as before after a pair became the warmest
   pub touched_found : (same : (a b : K) → eq a b ≡ true → a ≡ b) (ps : List (K × V)) (k : K) (s : V) → IsDistinct eq (keys_of ps) → lookup (eq k) ps ≡ Some s → (q : K) → lookup (eq q) (touched (eq k) ps) ≡ lookup (eq q) ps
   touched_found same ps k s d found q =

@@ -1,19 +1,32 @@
 -- Pairs that stand at places, and how a test of keys and a test of places pick the same one.
-use Rattle.std.proofs.Common.{◌≡◌, ℕ, suc, Bool, true, false, cond, List, [], ◌∷◌, ◌++◌, length, Option, Some, None, IsSome, is_some, nat_eq, refl, sym, ap, ◌∙◌, subst}
+use Rattle.std.proofs.Common.{◌≡◌, ℕ, suc, Bool, true, false, cond, List, [], ◌∷◌, ◌++◌, length, Option, Some, None, IsSome, IfSome, is_some, nat_eq, refl, sym, ap, ◌∙◌, subst}
 use Rattle.std.specs.Option.{option_map, option_to_list}
 use Rattle.std.specs.List.{IsDistinct, AllByRecursion}
 use Rattle.std.specs.Map.{keys_of, lookup, lookup_entry, remove_entry}
 use Rattle.std.specs.Cmp.{IsEquivalence, nat_eq_equiv}
 use Rattle.std.proofs.lemmas.Map.Keys.{IsDistinct-head, IsDistinct-tail}
 use Rattle.lru_index.specs.Index.{pairs_in, places_in}
-use Rattle.lru_index.specs.Chain.{first_item}
-use Rattle.lru_index.specs.Order.{touched, warmer, first_key}
+use Rattle.lru_index.specs.Chain.{first_item, last_item}
+use Rattle.lru_index.specs.Order.{IsWarmest, touched, warmer, first_key}
 
 none_of : {A : Type 0} (o : Option A) → is_some o ≡ false → o ≡ None
 none_of None e = refl
 none_of (Some x) e = cc
 
 module _ {K : Type 0} where
+  last_of : (p : ℕ × (K × ℕ)) (items : List (ℕ × (K × ℕ))) (pair : K × ℕ) → last_item (Some p.1) items ≡ Some pair → (front : List (K × ℕ)) × (p.1 ∷ pairs_in items ≡ front ++ pair ∷ [])
+  last_of p [] pair e = let same : p.1 ≡ pair = cc in ([], ap (λ (x : K × ℕ). x ∷ []) same)
+  last_of p (q ∷ items) pair e = let rest = last_of q items pair e in (p.1 ∷ rest.0, ap (λ (l : List (K × ℕ)). p.1 ∷ l) rest.1)
+
+  last_pair : (items : List (ℕ × (K × ℕ))) (pair : K × ℕ) → last_item None items ≡ Some pair → (front : List (K × ℕ)) × (pairs_in items ≡ front ++ pair ∷ [])
+  last_pair [] pair e = absurd (let both : None ≡ Some pair = e in cc)
+  last_pair (p ∷ items) pair e = last_of p items pair e
+
+  -- the key of the last item is the warmest
+  pub warmest_in : (items : List (ℕ × (K × ℕ))) (key : K) (answer : Option ℕ) (pair : Option (K × ℕ)) → pair ≡ last_item None items → IfSome answer (λ slot. pair ≡ Some (key, slot)) → IfSome answer (λ slot. IsWarmest (pairs_in items) key slot)
+  warmest_in items key None pair is has = tt
+  warmest_in items key (Some slot) pair is has = let at = last_pair items (key, slot) (sym is ∙ has) in record { front = at.0; is = at.1 }
+
   pub length_pairs : (items : List (ℕ × (K × ℕ))) → length (pairs_in items) ≡ length items
   length_pairs [] = refl
   length_pairs (x ∷ xs) = ap suc (length_pairs xs)

@@ -39,6 +39,11 @@ module _ {T : Type 0} where
   first_item [] = None
   first_item (p ∷ ps) = Some p.1
 
+  -- the last of items, or what comes before them
+  abbrev pub last_item : Option T → List (ℕ × T) → Option T
+  last_item before [] = before
+  last_item before (p ∷ ps) = last_item (Some p.1) ps
+
   -- the first place of items, or what comes after them
   abbrev pub first_or : Option ℕ → List (ℕ × T) → Option ℕ
   first_or after [] = after

@@ -1,5 +1,5 @@
 -- What contracts see of an index: its pairs of a key and a slot, the coldest first, and how many it has room for.
-use Rattle.std.specs.Prelude.{ℕ, ◌≤◌, Bool, cond, List, [], ◌∷◌, ◌++◌, length, Option, Some, None}
+use Rattle.std.specs.Prelude.{ℕ, ◌≡◌, ◌≤◌, Bool, cond, List, [], ◌∷◌, ◌++◌, length, Option, Some, None}
 use Rattle.std.specs.Option.{option_map_or, option_to_list}
 use Rattle.std.specs.List.{IsDistinct}
 use Rattle.std.specs.Map.{keys_of, lookup_entry, remove_entry}
@@ -16,6 +16,11 @@ module _ {K : Type 0} where
   pub record IsOrder (eq : K → K → Bool) (o : Order K) : Type 0 where
     pub distinct : IsDistinct eq (keys_of o.pairs)
     pub within : length o.pairs ≤ o.capacity
+
+  -- a key with its slot stands last
+  pub record IsWarmest (pairs : List (K × ℕ)) (key : K) (slot : ℕ) : Type 0 where
+    pub front : List (K × ℕ)
+    pub is : pairs ≡ front ++ (key, slot) ∷ []
 
 module _ {K V : Type 0} where
   -- the pair whose key passes stands last, and the others as before

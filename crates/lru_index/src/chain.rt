@@ -5,7 +5,7 @@
 ghost use Rattle.std.specs.Prelude.{◌≡◌, ℕ, ◌+◌, ◌<◌, ◌≤◌, List, [], ◌∷◌, ◌++◌, None, Some, Option, IfOk, IsSome, cond, length, nat_eq, slice_set, vec_len, vec_capacity};
 ghost use Rattle.std.specs.Option.{option_map, option_and_then};
 ghost use Rattle.std.specs.Map.{lookup, remove_entry};
-ghost use Rattle.lru_index.specs.Chain.{IsChain, link_at, item_at, first_item, hits, end_after, with_warmer, with_colder};
+ghost use Rattle.lru_index.specs.Chain.{IsChain, link_at, item_at, first_item, last_item, hits, end_after, with_warmer, with_colder};
 ghost use Rattle.lru_index.specs.Order.{touched, warmer};
 
 use kabi_types::Memory;
@@ -76,6 +76,13 @@ impl<T: Copy> Chain<T> {
         ensures { (items : List (ℕ × T)) → IsChain self.now items → result ≡ first_item items }
     {
         self.item_of(self.coldest)
+    }
+
+    /// The warmest item.
+    pub fn warmest(&self) -> Option<T>
+        ensures { (items : List (ℕ × T)) → IsChain self.now items → result ≡ last_item None items }
+    {
+        self.item_of(self.warmest)
     }
 
     /// The item that was used just after that of a place, if there is one.

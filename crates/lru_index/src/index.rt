@@ -6,7 +6,7 @@ ghost use Rattle.std.specs.Option.{ForSome, option_map};
 ghost use Rattle.std.specs.Map.{lookup, remove_entry};
 ghost use Rattle.lru_index.specs.Chain.{items_of};
 ghost use Rattle.lru_index.specs.Index.{IsIndex, HasPlace};
-ghost use Rattle.lru_index.specs.Order.{order, IsOrder, touched, coldest_of};
+ghost use Rattle.lru_index.specs.Order.{order, IsOrder, IsWarmest, touched, coldest_of};
 
 use crate::Key;
 use crate::buckets::Buckets;
@@ -83,15 +83,48 @@ impl<K: Key> Index<K> {
         ensures slot { result ≡ lookup (K.eq key) self.now.pairs }
         ensures valid { IsOrder K.eq self.now }
     {
+        match self.warmest_slot(&key) {
+            Some(slot) => Some(slot),
+            None => self.sought(key),
+        }
+    }
+
+    // The same of any key: its bucket is gone through.
+    fn sought(&self, key: K) -> Option<u32>
+        ensures slot { result ≡ lookup (K.eq key) self.now.pairs }
+        ensures valid { IsOrder K.eq self.now }
+    {
         match self.places.get(&key) {
             Some(place) => slot_in(self.chain.item(place)),
             None => None,
         }
     }
 
+    // The slot of a key that is the warmest, as one that was just used is, without a look into its bucket.
+    fn warmest_slot(&self, key: &K) -> Option<u32>
+        ensures warmest { IfSome result (λ slot. IsWarmest self.now.pairs key.now slot) }
+        ensures valid { IsOrder K.eq self.now }
+    {
+        slot_for(self.chain.warmest(), key)
+    }
+
     /// The slot of a key, which is the warmest from then on; None where it is absent. The same as
     /// `find` and then `touch`, at the cost of one of them.
     pub fn used(&mut self, key: K) -> Option<u32>
+        ensures slot { result ≡ lookup (K.eq key) self.old.pairs }
+        ensures pairs { self.new ≡ order (touched (K.eq key) self.old.pairs) self.old.capacity }
+        ensures finds { (other : K)
+            → lookup (K.eq other) self.new.pairs ≡ lookup (K.eq other) self.old.pairs }
+        ensures valid { IsOrder K.eq self.new }
+    {
+        match self.warmest_slot(&key) {
+            Some(slot) => Some(slot),
+            None => self.warmed(key),
+        }
+    }
+
+    // The same of any key, which is taken out of the order and put back.
+    fn warmed(&mut self, key: K) -> Option<u32>
         ensures slot { result ≡ lookup (K.eq key) self.old.pairs }
         ensures pairs { self.new ≡ order (touched (K.eq key) self.old.pairs) self.old.capacity }
         ensures finds { (other : K)
@@ -212,6 +245,19 @@ fn key_in<K: Key>(pair: Option<(K, u32)>) -> Option<K>
         Some(pair) => Some(pair.0),
         None => None,
     }
+}
+
+/// The slot of a pair that may be there and may have this key.
+fn slot_for<K: Key>(pair: Option<(K, u32)>, key: &K) -> Option<u32>
+    ensures { IfSome result (λ slot. pair ≡ Some (key.now, slot)) }
+{
+    let Some(pair) = pair else {
+        return None;
+    };
+    if pair.0 == *key {
+        return Some(pair.1);
+    }
+    None
 }
 
 /// The slot of a pair that may be there.

@@ -104,6 +104,11 @@ byte_at_slot disk inode k j block lt is =
     ∙ ap (λ (i : ℕ). get_or (block_bytes disk (data_block disk inode (k / 32))) i 0) (byte_in_slot k j lt)
     ∙ ap (λ (bytes : List ℕ). get_or bytes (32 * (k % 32) + j) 0) is
 
+-- the bytes of a block, by its number
+pub block_is : (disk between : List (List ℕ)) (inode : Inode) (index number : ℕ) → number ≡ data_block disk inode index → between ≡ disk
+    → block_bytes disk (data_block disk inode index) ≡ block_bytes between number
+block_is disk between inode index number is same = ap (λ (n : ℕ). block_bytes disk n) (sym is) ∙ ap (λ (d : List (List ℕ)). block_bytes d number) (sym same)
+
 -- what was got is the block
 pub block_got : (disk between : List (List ℕ)) (inode : Inode) (index number : ℕ) (bytes : List ℕ) → number ≡ data_block disk inode index → between ≡ disk → slice_get between number ≡ Some bytes
     → block_bytes disk (data_block disk inode index) ≡ bytes

@@ -1,11 +1,11 @@
 -- What a look for a name finds in a directory, and which blocks of it it asks for.
-use Rattle.std.specs.Prelude.{ℕ, zero, suc, ◌+◌, ◌/◌, ◌==◌, ◌≡◌, if◌then◌else◌, List, [], ◌∷◌, ◌++◌, map, Option, None, Some, IfSome}
+use Rattle.std.specs.Prelude.{ℕ, zero, suc, ◌+◌, ◌/◌, ◌==◌, ◌≡◌, ◌<◌, if◌then◌else◌, List, [], ◌∷◌, ◌++◌, map, Option, None, Some, IfSome}
 use Rattle.std.specs.Option.{option_map}
 use Rattle.kabi_types.specs.declared.inodes.DirEntry.{DirEntry}
 use Rattle.kabi_types.specs.declared.inodes.Inode.{Inode}
 use Rattle.posix_defs.specs.DiskFormat.{direct_pointers, data_blocks}
 use Rattle.posix_defs.specs.SoundDisk.{Place, Data, Pointers, named_at}
-use Rattle.memfs_dir.specs.Slots.{entries_in_block}
+use Rattle.memfs_dir.specs.Slots.{entries_in_block, IsCalled, Spells}
 use Rattle.memfs_dir.specs.Listed.{at_place, place_called}
 use Rattle.memfs_dir.specs.declared.finding.FoundEntry.{FoundEntry}
 
@@ -34,3 +34,10 @@ found_place found = option_map (λ entry. entry.place) found
 -- a look for a name finds the first entry that has it, with its node
 abbrev pub IsLookOf : List ℕ → List DirEntry → Option FoundEntry → Type 0
 IsLookOf name entries found = (found_place found ≡ place_called name entries) × IfSome found (λ entry. entry.node ≡ (at_place entries entry.place).node)
+
+-- the first of so many slots of a block that has an entry of this name, with its node; None where none has one
+pub record FoundIn (block : List ℕ) (count : ℕ) (name : List ℕ) (answer : Option FoundEntry) : Type 0 where
+  pub found : IfSome answer (λ found. (found.place < count) × IsCalled block found.place name)
+  pub node : IfSome answer (λ found. (entry : DirEntry) → Spells block found.place entry → found.node ≡ entry.node)
+  pub first : IfSome answer (λ found. (before : ℕ) → before < found.place → ¬ (IsCalled block before name))
+  pub none : answer ≡ None → (slot : ℕ) → slot < count → ¬ (IsCalled block slot name)

@@ -5,7 +5,7 @@ ghost use Rattle.posix_defs.specs.DiskFormat.{direct_pointers, block_pointers, d
 ghost use Rattle.posix_defs.specs.SoundDisk.{Sound, block_bytes, pointer_at};
 ghost use Rattle.posix_defs.specs.DiskContents.{HasEntries, data_block};
 ghost use Rattle.memfs_dir.specs.Slots.{entry_size, entries_in_block, IsCalled, Spells};
-ghost use Rattle.memfs_dir.specs.Looking.{IsLookOf, asked_to_find, found_place};
+ghost use Rattle.memfs_dir.specs.Looking.{FoundIn, IsLookOf, asked_to_find, found_place};
 ghost use Rattle.memfs_dir.specs.Listed.{IsDirectory, IsInUse, place_called};
 
 use crate::slots::{ENTRIES_IN_BLOCK, ENTRY_SIZE, node_in, slot_called};
@@ -26,10 +26,28 @@ pub struct FoundEntry {
     pub node: u32,
 }
 
+/// Blocks in which a name is looked for where they lie: none is copied to be looked through.
+pub trait LookedBlocks: Blocks {
+    /// The first of so many slots of a block, each of which has an entry, that has one of this name, and that entry's node.
+    ///
+    /// It costs a `get` of the block.
+    fn look(&mut self, block: u32, count: u32, name: &[u8]) -> Option<FoundEntry>
+        requires block { block < length (Self.blocks self.old) }
+        requires count { count ≤ entries_in_block }
+        requires spelled { (slot : ℕ) → slot < count → (entry : DirEntry) × Spells (block_bytes (Self.blocks self.old) block) slot entry }
+        ensures value { FoundIn (block_bytes (Self.blocks self.old) block) count name.now result }
+        ensures kept { Self.blocks self.new ≡ Self.blocks self.old }
+        ensures asked { Self.asked self.old block self.new }
+        ensures follows { Self.follows self.old self.new }
+    {
+        look_in(&self.get(block), count, name)
+    }
+}
+
 /// The place of the first entry of a directory that has this name, counted from 0; None exactly where none has it.
 ///
 /// It asks for each block of the directory at most once, and for no block behind that of the entry.
-pub fn dir_find<B: Blocks>(b: &mut B, dir: &Inode, name: &[u8]) -> Option<u32>
+pub fn dir_find<B: LookedBlocks>(b: &mut B, dir: &Inode, name: &[u8]) -> Option<u32>
     requires sound { Sound (B.blocks b.old) }
     requires node { IsInUse (B.blocks b.old) dir.now }
     requires entries { IsDirectory (B.blocks b.old) dir.now }
@@ -52,7 +70,7 @@ fn place_of(found: Option<FoundEntry>) -> Option<u32>
 }
 
 /// The same with the node of that entry.
-pub fn dir_look<B: Blocks>(b: &mut B, dir: &Inode, name: &[u8]) -> Option<FoundEntry>
+pub fn dir_look<B: LookedBlocks>(b: &mut B, dir: &Inode, name: &[u8]) -> Option<FoundEntry>
     requires sound { Sound (B.blocks b.old) }
     requires node { IsInUse (B.blocks b.old) dir.now }
     requires entries { IsDirectory (B.blocks b.old) dir.now }
@@ -70,7 +88,7 @@ pub fn dir_look<B: Blocks>(b: &mut B, dir: &Inode, name: &[u8]) -> Option<FoundE
 }
 
 /// The first of so many slots of a block, each of which has an entry, that has one of this name, and that entry's node.
-fn look_in(block: &[u8; 1024], count: u32, name: &[u8]) -> Option<FoundEntry>
+pub fn look_in(block: &[u8; 1024], count: u32, name: &[u8]) -> Option<FoundEntry>
     requires count { count ≤ entries_in_block }
     requires spelled { (slot : ℕ) → slot < count → (entry : DirEntry) × Spells block.now slot entry }
     ensures found { IfSome result (λ found. (found.place < count) × IsCalled block.now found.place name.now) }
@@ -99,7 +117,7 @@ fn behind(first: u32, found: FoundEntry) -> FoundEntry
 }
 
 /// A look through a directory whose inode names all its blocks.
-fn look_near<B: Blocks>(b: &mut B, dir: &Inode, name: &[u8]) -> Option<FoundEntry>
+fn look_near<B: LookedBlocks>(b: &mut B, dir: &Inode, name: &[u8]) -> Option<FoundEntry>
     requires sound { Sound (B.blocks b.old) }
     requires node { IsInUse (B.blocks b.old) dir.now }
     requires entries { IsDirectory (B.blocks b.old) dir.now }
@@ -115,7 +133,7 @@ fn look_near<B: Blocks>(b: &mut B, dir: &Inode, name: &[u8]) -> Option<FoundEntr
         let first = ENTRIES_IN_BLOCK * index;
         let here = (count - first).min(ENTRIES_IN_BLOCK);
         let block = dir.direct[index as usize];
-        if let Some(found) = look_in(&b.get(block), here, name) {
+        if let Some(found) = b.look(block, here, name) {
             return Some(behind(first, found));
         }
     }
@@ -125,7 +143,7 @@ fn look_near<B: Blocks>(b: &mut B, dir: &Inode, name: &[u8]) -> Option<FoundEntr
 /// The same through any directory. It stands by itself, since a function pays for the room of all its locals whenever it is
 /// entered, and few directories have a block of pointers.
 #[inline(never)]
-fn look_far<B: Blocks>(b: &mut B, dir: &Inode, name: &[u8]) -> Option<FoundEntry>
+fn look_far<B: LookedBlocks>(b: &mut B, dir: &Inode, name: &[u8]) -> Option<FoundEntry>
     requires sound { Sound (B.blocks b.old) }
     requires node { IsInUse (B.blocks b.old) dir.now }
     requires entries { IsDirectory (B.blocks b.old) dir.now }
@@ -141,7 +159,7 @@ fn look_far<B: Blocks>(b: &mut B, dir: &Inode, name: &[u8]) -> Option<FoundEntry
         let first = ENTRIES_IN_BLOCK * index;
         let here = (count - first).min(ENTRIES_IN_BLOCK);
         let block = block_in_turn(b, dir, &mut pointers, index);
-        if let Some(found) = look_in(&b.get(block), here, name) {
+        if let Some(found) = b.look(block, here, name) {
             return Some(behind(first, found));
         }
     }

@@ -13,7 +13,7 @@ mod slots;
 
 pub use adding::dir_add;
 pub use entries::{dir_entry, dir_node, dir_rename};
-pub use finding::{FoundEntry, dir_find, dir_look};
+pub use finding::{FoundEntry, LookedBlocks, dir_find, dir_look, look_in};
 pub use laws::{
     a_full_directory_is_one_of_the_tree, a_look_asks_for_each_block_once,
     a_look_finds_the_names_of_the_tree, a_look_finds_what_the_name_leads_to,

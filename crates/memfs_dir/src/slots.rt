@@ -1,6 +1,7 @@
 //! A block of a directory: 32 slots, each with the bytes of one entry.
 
 ghost use Rattle.std.specs.Prelude.{◌≡◌, ℕ, ◌+◌, ◌*◌, ◌<◌, ◌≤◌, ◌⊎◌, ◌↔◌, IsTrue, IfSome, None, true, length, take, drop, slice_index};
+ghost use Rattle.std.specs.Str.{bytes_eq};
 ghost use Rattle.kabi_types.specs.declared.inodes.DirEntry.{DirEntry};
 ghost use Rattle.posix_defs.specs.DiskFormat.{IsEntry};
 ghost use Rattle.memfs_dir.specs.Slots.{entry_size, entries_in_block, HasBytesOf, Spells, IsCalled};
@@ -69,7 +70,15 @@ fn is_called(block: &[u8; 1024], slot: u32, name: &[u8]) -> bool
         return false;
     }
     let start = 32 * slot as usize + 5;
-    &block[start..start + name.len()] == name
+    are_same(&block[start..start + name.len()], name)
+}
+
+/// Whether two runs of bytes are one. It stands by itself, so that the slots whose names aren't compared cost nothing for it.
+#[inline(never)]
+fn are_same(one: &[u8], other: &[u8]) -> bool
+    ensures { result ≡ bytes_eq one.now other.now }
+{
+    one == other
 }
 
 /// The first of so many slots, each of which has an entry, that has one of this name.

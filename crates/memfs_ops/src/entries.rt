@@ -11,7 +11,7 @@ ghost use Rattle.blk_map.specs.Named.{FreesNone, TakesLowest, TakesNone};
 ghost use Rattle.memfs_ops.specs.Entries.{edited, HasEntry, MayEdit, TakesFor};
 
 use kabi_types::{DirEntry, Inode, Name27};
-use memfs_dir::{dir_add, dir_find, dir_remove, dir_rename};
+use memfs_dir::{LookedBlocks, dir_add, dir_find, dir_remove, dir_rename};
 use posix_defs::Blocks;
 
 /// What becomes of one entry of a directory.
@@ -28,7 +28,7 @@ pub(crate) enum EntryEdit {
 }
 
 /// Changes an entry of a directory.
-pub(crate) fn edit_entry<B: Blocks>(b: &mut B, dir: u32, inode: &mut Inode, edit: &EntryEdit)
+pub(crate) fn edit_entry<B: LookedBlocks>(b: &mut B, dir: u32, inode: &mut Inode, edit: &EntryEdit)
     requires stands { (tree : Tree) × StandsFor (B.blocks b.old) tree × (directory_in tree dir ≡ true)
         × MayEdit edit.now (B.blocks b.old) tree dir inode.old }
     requires node { HasNode (B.blocks b.old) dir inode.old }
@@ -69,7 +69,7 @@ fn put_last<B: Blocks>(b: &mut B, dir: u32, inode: &mut Inode, name: &Name27, no
 }
 
 // An entry goes, and the last one moves to its place.
-fn take_out<B: Blocks>(b: &mut B, dir: u32, inode: &mut Inode, name: &Name27)
+fn take_out<B: LookedBlocks>(b: &mut B, dir: u32, inode: &mut Inode, name: &Name27)
     requires stands { (tree : Tree) × StandsFor (B.blocks b.old) tree × (directory_in tree dir ≡ true)
         × HasEntry tree dir name.now }
     requires node { HasNode (B.blocks b.old) dir inode.old }
@@ -87,7 +87,7 @@ fn take_out<B: Blocks>(b: &mut B, dir: u32, inode: &mut Inode, name: &Name27)
 }
 
 // An entry gets a name and a node, in its place.
-fn set_named<B: Blocks>(b: &mut B, dir: u32, inode: &Inode, from: &Name27, to: &Name27, node: u32)
+fn set_named<B: LookedBlocks>(b: &mut B, dir: u32, inode: &Inode, from: &Name27, to: &Name27, node: u32)
     requires stands { (tree : Tree) × StandsFor (B.blocks b.old) tree × (directory_in tree dir ≡ true)
         × HasEntry tree dir from.now }
     requires node { HasNode (B.blocks b.old) dir inode.now }

@@ -8,7 +8,7 @@ ghost use Rattle.posix_defs.specs.IsTree.{IsEntryName};
 ghost use Rattle.posix_defs.specs.PathCalls as calls;
 ghost use Rattle.posix_defs.specs.Paths.{resolve};
 ghost use Rattle.posix_defs.specs.SoundDisk.{HasNode};
-ghost use Rattle.posix_defs.specs.Tree.{Tree, root, found, is_directory as directory_in, is_in_use, parent_at};
+ghost use Rattle.posix_defs.specs.Tree.{Tree, found, is_directory as directory_in, is_in_use, parent_at};
 ghost use Rattle.posix_defs.specs.TreeChanges.{rename_over, rename_to, takes_entry, is_at_or_above, hung_if_directory};
 ghost use Rattle.blk_map.specs.Named.{FreesNone, PrefersLowest, TakesNone};
 ghost use Rattle.lru_index.specs.NameKeys.{name_key};
@@ -41,24 +41,21 @@ impl FileTree {
     /// or a slash stands behind a free name, ENOTEMPTY where a directory that goes has entries, ENOSPC where there is no room,
     /// else the faults of both walks.
     ///
-    /// Of the blocks that were free it takes the lowest. `busy` says of each node but the root whether it is held. See
+    /// Of the blocks that were free it takes the lowest. See
     /// [rename](https://pubs.opengroup.org/onlinepubs/9699919799/functions/rename.html).
-    pub fn rename_name<U: Fn(u32) -> bool>(
+    pub fn rename_name(
         &mut self,
         heap: &mut KHeap,
         purse: &mut Purse,
         cwd: u32,
         old: &[u8],
         new: &[u8],
-        busy: &U,
     ) -> Result<Option<u32>, Errno>
         requires stands { (tree : Tree) × (pins : ℕ → ℕ) × Stands heap.old self.old tree pins
-            × (directory_in tree cwd ≡ true) × HoldsNoSocket tree pins
-            × ((number : ℕ) (answer : Bool) → U.post busy.now number answer → number ≢ root → answer ≡ is_held pins number) }
+            × (directory_in tree cwd ≡ true) × HoldsNoSocket tree pins }
         requires old { path_fault old.now ≡ None }
         requires new { path_fault new.now ≡ None }
         requires bytes { All (λ byte. (0 < byte) × (byte < 2 ^ 8)) new.now }
-        requires callable { U.IsAlwaysCallable busy.now }
         requires may { MayWalk heap.old purse.old }
         ensures answer { (tree : Tree) (pins : ℕ → ℕ) (opened held : ℕ → Bool) → Stands heap.old self.old tree pins
             → TellsOpened tree pins opened → TellsHeld pins held
@@ -73,7 +70,7 @@ impl FileTree {
                 name,
                 node,
                 ..
-            } => self.rename_from(heap, purse, cwd, parent, &name, node, new, busy),
+            } => self.rename_from(heap, purse, cwd, parent, &name, node, new),
             Walked::Node(_) => self.rename_root(heap, purse, cwd, new),
             Walked::Free { .. } => Err(Errno::ENOENT),
             Walked::Fail(errno) => Err(errno),
@@ -106,7 +103,7 @@ impl FileTree {
     }
 
     // A rename of a name that is there.
-    fn rename_from<U: Fn(u32) -> bool>(
+    fn rename_from(
         &mut self,
         heap: &mut KHeap,
         purse: &mut Purse,
@@ -115,14 +112,11 @@ impl FileTree {
         name: &Name27,
         number: u32,
         new: &[u8],
-        busy: &U,
     ) -> Result<Option<u32>, Errno>
         requires stands { (tree : Tree) × (pins : ℕ → ℕ) × Stands heap.old self.old tree pins
-            × (directory_in tree cwd ≡ true) × (found tree dir name.now ≡ Some number) × HoldsNoSocket tree pins
-            × ((number : ℕ) (answer : Bool) → U.post busy.now number answer → number ≢ root → answer ≡ is_held pins number) }
+            × (directory_in tree cwd ≡ true) × (found tree dir name.now ≡ Some number) × HoldsNoSocket tree pins }
         requires new { path_fault new.now ≡ None }
         requires bytes { All (λ byte. (0 < byte) × (byte < 2 ^ 8)) new.now }
-        requires callable { U.IsAlwaysCallable busy.now }
         requires may { MayWalk heap.old purse.old }
         ensures answer { (tree : Tree) (pins : ℕ → ℕ) → Stands heap.old self.old tree pins
             → ToldTo heap.new self.new tree (calls.rename_named tree (is_held pins) (is_held pins) dir name.now number
@@ -136,7 +130,7 @@ impl FileTree {
                 name: target,
                 node,
                 ..
-            } => self.rename_onto(heap, purse, dir, name, number, to, &target, node, busy),
+            } => self.rename_onto(heap, purse, dir, name, number, to, &target, node),
             Walked::Free {
                 parent: to,
                 name: target,
@@ -148,7 +142,7 @@ impl FileTree {
     }
 
     // A rename over a name that is there.
-    fn rename_onto<U: Fn(u32) -> bool>(
+    fn rename_onto(
         &mut self,
         heap: &mut KHeap,
         purse: &mut Purse,
@@ -158,12 +152,9 @@ impl FileTree {
         to: u32,
         new: &Name27,
         replaced: u32,
-        busy: &U,
     ) -> Result<Option<u32>, Errno>
         requires stands { (tree : Tree) × (pins : ℕ → ℕ) × Stands heap.old self.old tree pins
-            × (found tree dir name.now ≡ Some number) × (found tree to new.now ≡ Some replaced) × HoldsNoSocket tree pins
-            × ((number : ℕ) (answer : Bool) → U.post busy.now number answer → number ≢ root → answer ≡ is_held pins number) }
-        requires callable { U.IsAlwaysCallable busy.now }
+            × (found tree dir name.now ≡ Some number) × (found tree to new.now ≡ Some replaced) × HoldsNoSocket tree pins }
         requires may { MayWalk heap.old purse.old }
         ensures answer { (tree : Tree) (pins : ℕ → ℕ) → Stands heap.old self.old tree pins
             → ToldTo heap.new self.new tree (calls.unless (calls.goes_below tree number to) EINVAL
@@ -177,11 +168,11 @@ impl FileTree {
         if number == replaced {
             return Ok(None);
         }
-        self.replace(heap, purse, dir, name, number, to, new, replaced, busy)
+        self.replace(heap, purse, dir, name, number, to, new, replaced)
     }
 
     // The same of another node, in whose way no directory stands.
-    fn replace<U: Fn(u32) -> bool>(
+    fn replace(
         &mut self,
         heap: &mut KHeap,
         purse: &mut Purse,
@@ -191,14 +182,11 @@ impl FileTree {
         to: u32,
         new: &Name27,
         replaced: u32,
-        busy: &U,
     ) -> Result<Option<u32>, Errno>
         requires stands { (tree : Tree) × (pins : ℕ → ℕ) × Stands heap.old self.old tree pins
             × (found tree dir name.now ≡ Some number) × (found tree to new.now ≡ Some replaced) × HoldsNoSocket tree pins
-            × ((number : ℕ) (answer : Bool) → U.post busy.now number answer → number ≢ root → answer ≡ is_held pins number)
             × IsOffWay tree number to }
         requires other { number ≢ replaced }
-        requires callable { U.IsAlwaysCallable busy.now }
         requires may { MayWalk heap.old purse.old }
         ensures answer { (tree : Tree) (pins : ℕ → ℕ) → Stands heap.old self.old tree pins
             → ToldTo heap.new self.new tree
@@ -210,7 +198,7 @@ impl FileTree {
         let gone = self.inode(heap, purse, replaced);
         let moves = is_directory(&moved);
         let goes = is_directory(&gone);
-        let used = busy(replaced);
+        let used = self.is_pinned(heap, replaced);
         match onto_fault(moves, goes, gone.size == NO_ENTRIES, used) {
             Some(errno) => Err(errno),
             None => {

@@ -1,17 +1,18 @@
 use Rattle.std.proofs.Common.{◌≡◌, ℕ, suc, ◌+◌, ◌*◌, ◌/◌, ◌<◌, List, length, get_or, Some, refl, sym, ap, subst, ◌∙◌, arith}
 use Rattle.kabi_types.specs.declared.inodes.DirEntry.{DirEntry}
 use Rattle.posix_defs.specs.Asking.{AskedInTurn}
+use Rattle.posix_defs.specs.SoundDisk.{block_bytes}
 use Rattle.posix_defs.specs.DiskContents.{data_block}
 use Rattle.posix_defs.specs.TreeChanges.{no_entry}
 use Rattle.disk_laws.proofs.DirectoryEntries.{size_of_entries}
 use Rattle.memfs_dir.specs.Looking.{IsLookOf, asked_to_find, found_place}
 use Rattle.memfs_dir.specs.declared.finding.FoundEntry.{FoundEntry}
-use Rattle.memfs_dir.proofs.DirectoryBytes.{block_got}
+use Rattle.memfs_dir.proofs.DirectoryBytes.{block_is}
 use Rattle.memfs_dir.proofs.Found.{none_called, look_found, missing_on, spelled_in, asked_further, direct, near_asked}
 use Rattle.memfs_dir.proofs.finding.look_near.Goals as goal
 
-pub look_in-requires-clause-spelled : goal.look_in-requires-clause-spelled
-look_in-requires-clause-spelled g c = λ slot lt.
+pub look-requires-clause-spelled : goal.look-requires-clause-spelled
+look-requires-clause-spelled g c = λ slot lt.
     let disk : List (List ℕ) = g.B.Blocks.blocks c.args.b.now in
     let dir = c.args.dir.now in
     let index : ℕ = c.loop-index.index in
@@ -20,10 +21,11 @@ look_in-requires-clause-spelled g c = λ slot lt.
     let same : g.B.Blocks.blocks c.loop-index.b ≡ disk = c.loop-index.invariant.kept in
     let block : ℕ = get_or dir.direct index 0 in
     let number : block ≡ data_block disk dir index = direct disk dir index (omega (arith, c.loop-index-test.true, c.div_ceil-index-end.ensures, c.requires.near)) block refl in
-    let is = block_got disk (g.B.Blocks.blocks c.loop-index.b) dir index block c.get.result number same c.get.ensures.value in
+    let bytes : List ℕ = block_bytes (g.B.Blocks.blocks c.loop-index.b) block in
+    let is = block_is disk (g.B.Blocks.blocks c.loop-index.b) dir index block number same in
     let size = size_of_entries disk dir entries has in
     let within : 32 * index + slot < length entries = omega (arith, lt, c.min-here.ensures, size) in
-    (get_or entries (32 * index + slot) no_entry, spelled_in disk dir entries index slot c.get.result has (omega (arith, lt, c.min-here.ensures)) within is)
+    (get_or entries (32 * index + slot) no_entry, spelled_in disk dir entries index slot bytes has (omega (arith, lt, c.min-here.ensures)) within is)
 
 pub returns-in-Some-clause-value : goal.returns-in-Some-clause-value
 returns-in-Some-clause-value g c = λ entries has.
@@ -34,12 +36,13 @@ returns-in-Some-clause-value g c = λ entries has.
     let same : g.B.Blocks.blocks c.loop-index.b ≡ disk = c.loop-index.invariant.kept in
     let block : ℕ = get_or dir.direct index 0 in
     let number : block ≡ data_block disk dir index = direct disk dir index (omega (arith, c.loop-index-test.true, c.div_ceil-index-end.ensures, c.requires.near)) block refl in
-    let is = block_got disk (g.B.Blocks.blocks c.loop-index.b) dir index block c.get.result number same c.get.ensures.value in
+    let bytes : List ℕ = block_bytes (g.B.Blocks.blocks c.loop-index.b) block in
+    let is = block_is disk (g.B.Blocks.blocks c.loop-index.b) dir index block number same in
     let size = size_of_entries disk dir entries has in
-    let slot : found.place < 32 = omega (arith, c.in-Some.ensures.found.0, c.min-here.ensures) in
-    let within : 32 * index + found.place < length entries = omega (arith, c.in-Some.ensures.found.0, c.min-here.ensures, size) in
+    let slot : found.place < 32 = omega (arith, c.in-Some.ensures.value.found.0, c.min-here.ensures) in
+    let within : 32 * index + found.place < length entries = omega (arith, c.in-Some.ensures.value.found.0, c.min-here.ensures, size) in
     subst (λ (entry : FoundEntry). IsLookOf c.args.name.now entries (Some entry)) (sym c.behind.ensures)
-    (look_found disk dir entries index found.place found.node c.get.result c.args.name.now has slot within is (c.loop-index.invariant.missing entries has) c.in-Some.ensures.first c.in-Some.ensures.found.1 c.in-Some.ensures.node)
+    (look_found disk dir entries index found.place found.node bytes c.args.name.now has slot within is (c.loop-index.invariant.missing entries has) c.in-Some.ensures.value.first c.in-Some.ensures.value.found.1 c.in-Some.ensures.value.node)
 
 pub returns-in-Some-clause-asked : goal.returns-in-Some-clause-asked
 returns-in-Some-clause-asked g c =
@@ -50,11 +53,11 @@ returns-in-Some-clause-asked g c =
     let same : g.B.Blocks.blocks c.loop-index.b ≡ disk = c.loop-index.invariant.kept in
     let block : ℕ = get_or dir.direct index 0 in
     let number : block ≡ data_block disk dir index = direct disk dir index (omega (arith, c.loop-index-test.true, c.div_ceil-index-end.ensures, c.requires.near)) block refl in
-    let slot : found.place < 32 = omega (arith, c.in-Some.ensures.found.0, c.min-here.ensures) in
+    let slot : found.place < 32 = omega (arith, c.in-Some.ensures.value.found.0, c.min-here.ensures) in
     let count : (32 * index + found.place) / 32 + 1 ≡ suc index = omega (arith, slot) in
-    subst (λ (entry : FoundEntry). AskedInTurn g.B.Blocks.asked c.args.b.now (asked_to_find disk dir (found_place (Some entry))) c.get.new.self) (sym c.behind.ensures)
-    (asked_further g.B.Blocks.asked disk dir index block ((32 * index + found.place) / 32 + 1) c.args.b.now c.loop-index.b c.loop-index.b c.get.new.self number count
-    c.loop-index.invariant.asked (near_asked g.B.Blocks.asked dir index c.loop-index.b (omega (arith, c.loop-index-test.true, c.div_ceil-index-end.ensures, c.requires.near))) c.get.ensures.asked)
+    subst (λ (entry : FoundEntry). AskedInTurn g.B.Blocks.asked c.args.b.now (asked_to_find disk dir (found_place (Some entry))) c.look.new.self) (sym c.behind.ensures)
+    (asked_further g.B.Blocks.asked disk dir index block ((32 * index + found.place) / 32 + 1) c.args.b.now c.loop-index.b c.loop-index.b c.look.new.self number count
+    c.loop-index.invariant.asked (near_asked g.B.Blocks.asked dir index c.loop-index.b (omega (arith, c.loop-index-test.true, c.div_ceil-index-end.ensures, c.requires.near))) c.look.ensures.asked)
 
 pub loop-index-preserved : goal.loop-index-preserved
 loop-index-preserved g c =
@@ -64,19 +67,20 @@ loop-index-preserved g c =
     let same : g.B.Blocks.blocks c.loop-index.b ≡ disk = c.loop-index.invariant.kept in
     let block : ℕ = get_or dir.direct index 0 in
     let number : block ≡ data_block disk dir index = direct disk dir index (omega (arith, c.loop-index-test.true, c.div_ceil-index-end.ensures, c.requires.near)) block refl in
-    let is = block_got disk (g.B.Blocks.blocks c.loop-index.b) dir index block c.get.result number same c.get.ensures.value in
+    let bytes : List ℕ = block_bytes (g.B.Blocks.blocks c.loop-index.b) block in
+    let is = block_is disk (g.B.Blocks.blocks c.loop-index.b) dir index block number same in
     let trans = g.met.B.Blocks.follows_trans in
     let next : index + 1 ≡ suc index = omega arith in
     record {
-      kept = c.get.ensures.kept ∙ same;
-      follows = trans c.args.b.now c.loop-index.b c.get.new.self c.loop-index.invariant.follows c.get.ensures.follows;
+      kept = c.look.ensures.kept ∙ same;
+      follows = trans c.args.b.now c.loop-index.b c.look.new.self c.loop-index.invariant.follows c.look.ensures.follows;
       asked =
-          asked_further g.B.Blocks.asked disk dir index block (index + 1) c.args.b.now c.loop-index.b c.loop-index.b c.get.new.self number next
-          c.loop-index.invariant.asked (near_asked g.B.Blocks.asked dir index c.loop-index.b (omega (arith, c.loop-index-test.true, c.div_ceil-index-end.ensures, c.requires.near))) c.get.ensures.asked;
+          asked_further g.B.Blocks.asked disk dir index block (index + 1) c.args.b.now c.loop-index.b c.loop-index.b c.look.new.self number next
+          c.loop-index.invariant.asked (near_asked g.B.Blocks.asked dir index c.loop-index.b (omega (arith, c.loop-index-test.true, c.div_ceil-index-end.ensures, c.requires.near))) c.look.ensures.asked;
       missing = λ entries has k k_lt below.
           let size = size_of_entries disk dir entries has in
-          missing_on disk dir entries index c.min-here.result c.get.result c.args.name.now has (omega (arith, c.min-here.ensures)) is (c.loop-index.invariant.missing entries has)
-          (c.in_default.ensures.none refl) k k_lt (omega (arith, c.min-here.ensures, size, k_lt, below));
+          missing_on disk dir entries index c.min-here.result bytes c.args.name.now has (omega (arith, c.min-here.ensures)) is (c.loop-index.invariant.missing entries has)
+          (c.in_default.ensures.value.none refl) k k_lt (omega (arith, c.min-here.ensures, size, k_lt, below));
     }
 
 pub returns-clause-value : goal.returns-clause-value

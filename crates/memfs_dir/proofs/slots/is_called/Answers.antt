@@ -15,7 +15,7 @@ returns c =
     let spells : Spells block c.args.slot entry = c.requires.spelled.1 in
     let shown : take (length name) (drop start block) ≡ entry.name = name_shown block c.args.slot (length name) entry c.told-block c.requires.slot spells (c.looks_like.ensures.length c.if-not-looks_like.false).1 in
     let many : start + length name - start ≡ length name = omega arith in
-    let test : c.eq.result ≡ bytes_eq (take (length name) (drop start block)) name = c.eq.ensures ∙ ap (λ (n : ℕ). bytes_eq (take n (drop start block)) name) many in (
+    let test : c.are_same.result ≡ bytes_eq (take (length name) (drop start block)) name = c.are_same.ensures ∙ ap (λ (n : ℕ). bytes_eq (take n (drop start block)) name) many in (
       λ is. record { entry = entry; spells = spells; called = sym shown ∙ (bytes_eq-Decides (take (length name) (drop start block)) name).0 (sym test ∙ is) },
       λ is.
           let same : entry ≡ is.entry = one_entry block c.args.slot entry is.entry spells is.spells in
