@@ -4,7 +4,7 @@ use crate::{Bytes64, Path, PollList};
 
 /// A system call with its operands, as the process makes it. Addresses, lengths, descriptors and flags are the numbers
 /// that the script gave, not checked yet.
-#[derive(Debug, Drop, PartialEq, Eq)]
+#[derive(Drop)]
 pub enum Call {
     Getpid,
     Getppid,

@@ -11,7 +11,7 @@ pub enum Cached {
 }
 
 /// One line of a history: what a call answered, or what happened to a process or a cache.
-#[derive(Debug, Drop, PartialEq, Eq)]
+#[derive(Drop)]
 pub enum Entry {
     /// The call ended with this reply.
     Done {
@@ -144,7 +144,7 @@ pub enum Event {
 }
 
 /// An event as the core keeps it.
-#[derive(Debug, Drop, PartialEq, Eq)]
+#[derive(Drop)]
 pub struct Noted {
     pub event: Event,
     /// The kind of the process's call; None for `Evict` and `Kill`.

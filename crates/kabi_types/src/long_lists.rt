@@ -187,7 +187,7 @@ impl Text {
 }
 
 /// A history: what the calls answered, what was killed and what was evicted, the oldest first.
-#[derive(Debug, Drop)]
+#[derive(Drop)]
 pub struct Entries {
     entries: Vec<Entry>,
 }

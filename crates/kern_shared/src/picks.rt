@@ -14,7 +14,7 @@ use posix_defs::Turner;
 use turn_words::{Chronicle, Item};
 
 /// What a pass that asks for a process is answered.
-#[derive(Debug, Drop, PartialEq, Eq)]
+#[derive(Drop)]
 pub enum Picked {
     /// The pass has this process now, which makes this call.
     Run { pid: u32, call: Call },

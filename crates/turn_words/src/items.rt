@@ -3,7 +3,7 @@
 use kabi_types::{Cached, Entry};
 
 /// One item of the history. Each turn adds one.
-#[derive(Debug, Drop, PartialEq, Eq)]
+#[derive(Drop)]
 pub enum Item {
     /// An entry other than `Evicted`.
     Noted(Entry),
