@@ -1,4 +1,4 @@
--- A read of a queue reads no bytes of a node.
+-- What a call leaves of the bytes that it reads: a read of a queue reads none of a node.
 use Rattle.std.proofs.Common.{◌≡◌, ℕ, ℤ, Option, None, Some, ap, sym, subst, ◌∙◌}
 use Rattle.kabi_types.specs.declared.calls.Call.{Call}
 use Rattle.kabi_types.specs.declared.calls.Call.TheVariants as call
@@ -10,6 +10,10 @@ use Rattle.proc_numbers.specs.Found.{IsOffNodes}
 use Rattle.store_objects.specs.declared.objects.Objects.{Objects}
 use Rattle.file_calls.specs.Bytes.{AreBytesCached, ReadsCached}
 use Rattle.call_run.specs.Families.{IsOffFiles}
+
+-- where it is another call, spelt in other words
+pub cached_that : (old new : Objects) (pid : ℕ) {which that : Call} (told : Turned) → which ≡ that → ReadsCached old pid that told new → ReadsCached old pid which told new
+cached_that old new pid told is cached = subst (λ w. ReadsCached old pid w told new) (sym is) cached
 
 module _ (old new : Objects) (pid : ℕ) where
   is_no_node : (desc : Desc) (number : ℕ) → desc.target ≡ target.Inode number → node_in desc.target ≡ None → ⊥

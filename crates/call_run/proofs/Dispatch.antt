@@ -9,10 +9,12 @@ use Rattle.kabi_types.specs.declared.scripts.Script.{Script}
 use Rattle.posix_defs.specs.Answer.{Answer, failed}
 use Rattle.posix_defs.specs.Machine.{answer_to, machine, unless_wrong}
 use Rattle.posix_defs.specs.Plain.{Plain}
+use Rattle.posix_defs.specs.Reaching.{path_to_leave}
 use Rattle.posix_defs.specs.declared.turner.Turned.{Turned}
 use Rattle.store_objects.specs.declared.objects.Objects.{Objects}
 use Rattle.store_objects.specs.Standing.{Performs}
-use Rattle.store_objects.specs.Walking.{Serves}
+use Rattle.store_objects.specs.Walking.{Reaches, Serves}
+use Rattle.call_run.proofs.Reaching.{served, unnamed_served}
 use Rattle.call_run.specs.Families.{HasDone}
 
 -- a wrong operand is told
@@ -29,48 +31,37 @@ ServesCall script old pid which told new = Serves script old pid which (λ plain
 
 -- ---- operands are handed on as numbers of 64 bits
 
-pub spelt_one : (which : Call) (of : ℤ → Call) (a : ℤ) → which ≡ of a → to_z w64 (of_z w64 a) ≡ a → which ≡ of (to_z w64 (of_z w64 a))
-spelt_one which of a is one = is ∙ ap of (sym one)
+module _ {which : Call} where
+  pub spelt_one : (of : ℤ → Call) {a : ℤ} → which ≡ of a → to_z w64 (of_z w64 a) ≡ a → which ≡ of (to_z w64 (of_z w64 a))
+  spelt_one of is one = is ∙ ap of (sym one)
 
-pub spelt_two : (which : Call) (of : ℤ → ℤ → Call) (a b : ℤ) → which ≡ of a b → to_z w64 (of_z w64 a) ≡ a → to_z w64 (of_z w64 b) ≡ b
-    → which ≡ of (to_z w64 (of_z w64 a)) (to_z w64 (of_z w64 b))
-spelt_two which of a b is one other = is ∙ ap (λ z. of z b) (sym one) ∙ ap (of (to_z w64 (of_z w64 a))) (sym other)
+  pub spelt_two : (of : ℤ → ℤ → Call) {a b : ℤ} → which ≡ of a b → to_z w64 (of_z w64 a) ≡ a → to_z w64 (of_z w64 b) ≡ b
+      → which ≡ of (to_z w64 (of_z w64 a)) (to_z w64 (of_z w64 b))
+  spelt_two of {a} {b} is one other = is ∙ ap (λ z. of z b) (sym one) ∙ ap (of (to_z w64 (of_z w64 a))) (sym other)
 
-pub spelt_three : (which : Call) (of : ℤ → ℤ → ℤ → Call) (a b c : ℤ) → which ≡ of a b c → to_z w64 (of_z w64 a) ≡ a → to_z w64 (of_z w64 b) ≡ b → to_z w64 (of_z w64 c) ≡ c
-    → which ≡ of (to_z w64 (of_z w64 a)) (to_z w64 (of_z w64 b)) (to_z w64 (of_z w64 c))
-spelt_three which of a b c is one other third =
-    spelt_two which (λ x y. of x y c) a b is one other ∙ ap (of (to_z w64 (of_z w64 a)) (to_z w64 (of_z w64 b))) (sym third)
+  pub spelt_three : (of : ℤ → ℤ → ℤ → Call) {a b c : ℤ} → which ≡ of a b c → to_z w64 (of_z w64 a) ≡ a → to_z w64 (of_z w64 b) ≡ b → to_z w64 (of_z w64 c) ≡ c
+      → which ≡ of (to_z w64 (of_z w64 a)) (to_z w64 (of_z w64 b)) (to_z w64 (of_z w64 c))
+  spelt_three of {a} {b} {c} is one other third =
+      spelt_two (λ x y. of x y c) is one other ∙ ap (of (to_z w64 (of_z w64 a)) (to_z w64 (of_z w64 b))) (sym third)
 
-pub spelt_four : (which : Call) (of : ℤ → ℤ → ℤ → ℤ → Call) (a b c d : ℤ) → which ≡ of a b c d → to_z w64 (of_z w64 a) ≡ a → to_z w64 (of_z w64 b) ≡ b → to_z w64 (of_z w64 c) ≡ c
-    → to_z w64 (of_z w64 d) ≡ d → which ≡ of (to_z w64 (of_z w64 a)) (to_z w64 (of_z w64 b)) (to_z w64 (of_z w64 c)) (to_z w64 (of_z w64 d))
-spelt_four which of a b c d is one other third fourth =
-    spelt_three which (λ x y z. of x y z d) a b c is one other third ∙ ap (of (to_z w64 (of_z w64 a)) (to_z w64 (of_z w64 b)) (to_z w64 (of_z w64 c))) (sym fourth)
+  pub spelt_four : (of : ℤ → ℤ → ℤ → ℤ → Call) {a b c d : ℤ} → which ≡ of a b c d → to_z w64 (of_z w64 a) ≡ a → to_z w64 (of_z w64 b) ≡ b → to_z w64 (of_z w64 c) ≡ c
+      → to_z w64 (of_z w64 d) ≡ d → which ≡ of (to_z w64 (of_z w64 a)) (to_z w64 (of_z w64 b)) (to_z w64 (of_z w64 c)) (to_z w64 (of_z w64 d))
+  spelt_four of {a} {b} {c} {d} is one other third fourth =
+      spelt_three (λ x y z. of x y z d) is one other third ∙ ap (of (to_z w64 (of_z w64 a)) (to_z w64 (of_z w64 b)) (to_z w64 (of_z w64 c))) (sym fourth)
 
 -- ---- what a call does that is another, spelt in other words
 
-pub serves_that : (script : Script) (old new : Objects) (pid : ℕ) (which that : Call) (told : Turned) → which ≡ that
-    → ServesCall script old pid that told new → ServesCall script old pid which told new
-serves_that script old new pid which that told is does = subst (λ w. ServesCall script old pid w told new) (sym is) does
+module _ {script : Script} {old new : Objects} {pid : ℕ} {which that : Call} {told : Turned} (is : which ≡ that) where
+  pub serves_that : ServesCall script old pid that told new → ServesCall script old pid which told new
+  serves_that does = subst (λ w. ServesCall script old pid w told new) (sym is) does
 
-pub does_that : (script : Script) (old new : Objects) (pid : ℕ) (which that : Call) (told : Turned) → which ≡ that
-    → PerformsCall script old pid that told new → PerformsCall script old pid which told new
-does_that script old new pid which that told is does = subst (λ w. PerformsCall script old pid w told new) (sym is) does
+  -- where it keeps what is kept, but for the last name of a path
+  pub reaches_that : Reaches script old pid that (λ plain. answer_to script plain pid that) told new → ServesCall script old pid which told new
+  reaches_that does = serves_that (served script old new pid that told (λ plain. answer_to script plain pid that) does)
 
-pub does_one : (script : Script) (old new : Objects) (pid : ℕ) (which : Call) (told : Turned) (of : ℤ → Call) (a : ℤ) → which ≡ of a → to_z w64 (of_z w64 a) ≡ a
-    → PerformsCall script old pid (of (to_z w64 (of_z w64 a))) told new → PerformsCall script old pid which told new
-does_one script old new pid which told of a is one does = does_that script old new pid which (of (to_z w64 (of_z w64 a))) told (spelt_one which of a is one) does
-
-pub does_two : (script : Script) (old new : Objects) (pid : ℕ) (which : Call) (told : Turned) (of : ℤ → ℤ → Call) (a b : ℤ) → which ≡ of a b
-    → to_z w64 (of_z w64 a) ≡ a → to_z w64 (of_z w64 b) ≡ b
-    → PerformsCall script old pid (of (to_z w64 (of_z w64 a)) (to_z w64 (of_z w64 b))) told new → PerformsCall script old pid which told new
-does_two script old new pid which told of a b is one other does =
-    does_that script old new pid which (of (to_z w64 (of_z w64 a)) (to_z w64 (of_z w64 b))) told (spelt_two which of a b is one other) does
-
-pub does_three : (script : Script) (old new : Objects) (pid : ℕ) (which : Call) (told : Turned) (of : ℤ → ℤ → ℤ → Call) (a b c : ℤ) → which ≡ of a b c
-    → to_z w64 (of_z w64 a) ≡ a → to_z w64 (of_z w64 b) ≡ b → to_z w64 (of_z w64 c) ≡ c
-    → PerformsCall script old pid (of (to_z w64 (of_z w64 a)) (to_z w64 (of_z w64 b)) (to_z w64 (of_z w64 c))) told new → PerformsCall script old pid which told new
-does_three script old new pid which told of a b c is one other third does =
-    does_that script old new pid which (of (to_z w64 (of_z w64 a)) (to_z w64 (of_z w64 b)) (to_z w64 (of_z w64 c))) told (spelt_three which of a b c is one other third) does
+  -- and where it keeps all that, and leaves no name
+  pub performs_that : path_to_leave that ≡ None → PerformsCall script old pid that told new → ServesCall script old pid which told new
+  performs_that unnamed does = serves_that (unnamed_served script old new pid that told (λ plain. answer_to script plain pid that) unnamed does)
 
 -- ---- what is done
 

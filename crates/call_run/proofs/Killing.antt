@@ -8,7 +8,6 @@ use Rattle.posix_defs.specs.Relief.{Kills}
 use Rattle.posix_defs.specs.World.{World, live_of}
 use Rattle.process_calls.specs.Ending.{WorldWithout}
 use Rattle.store_objects.specs.declared.objects.Objects.{Objects}
-use Rattle.store_objects.specs.Standing.{StandsFor}
 use Rattle.store_objects.proofs.LiveIs.{live_is}
 use Rattle.store_objects.proofs.KeptNow.{may_keep_in}
 use Rattle.call_run.specs.Stores.{IsStoreOf}

@@ -4,7 +4,8 @@ use Rattle.kabi_types.specs.Arguments.{argument_fault}
 use Rattle.kabi_types.specs.declared.calls.Call.{Call}
 use Rattle.kabi_types.specs.declared.classes.Need.{Need}
 use Rattle.kabi_types.specs.Counts.{need_bytes}
-use Rattle.kheap_slabs.specs.Purse.{Purse}
+use Rattle.kheap_slabs.specs.Paid.{CanPay}
+use Rattle.kheap_slabs.specs.Purse.{Purse, left_bytes}
 use Rattle.kheap_slabs.specs.Heap.{Heap, live_bytes}
 use Rattle.kheap_laws.proofs.FillLemmas.{AreFills-none}
 use Rattle.memfs_ops.specs.Fetching.{MayFetch}
@@ -14,22 +15,23 @@ use Rattle.posix_defs.specs.Needs.{bound, need_of, objects_of, two_walks_need, w
 use Rattle.posix_defs.specs.Sizes.{reserve}
 use Rattle.posix_defs.proofs.PriceLemmas.{right_needs}
 use Rattle.store_objects.specs.Purses.{need_for, unspent}
+use Rattle.store_objects.specs.declared.purses.Target.{Target}
 use Rattle.store_objects.specs.declared.purses.Target.TheVariants.{File}
-use Rattle.store_objects.proofs.Paying.{left_is, purse_fits}
+use Rattle.store_objects.proofs.Paying.{can_pay, left_is, purse_fits}
 use Rattle.call_run.specs.Families.{HasPaths}
 
 -- the paths of a call are bytes
-pub paths_of_it : (which that : Call) → which ≡ that → HasPaths which → HasPaths that
-paths_of_it which that is paths = subst HasPaths is paths
+pub paths_of_it : {which that : Call} → which ≡ that → HasPaths which → HasPaths that
+paths_of_it is paths = subst HasPaths is paths
 
 -- its operands are right
-pub right_that : (which that : Call) → argument_fault which ≡ None → which ≡ that → argument_fault that ≡ None
-right_that which that right is = subst (λ w. argument_fault w ≡ None) is right
+pub right_that : {which that : Call} → argument_fault which ≡ None → which ≡ that → argument_fault that ≡ None
+right_that right is = subst (λ w. argument_fault w ≡ None) is right
 
 -- ---- room
 
 -- what is kept back isn't asked for
-pub room_less : (heap : Heap) (which : Call) → live_bytes heap + bound which + reserve ≤ heap.heap → live_bytes heap + bound which ≤ heap.heap
+room_less : (heap : Heap) (which : Call) → live_bytes heap + bound which + reserve ≤ heap.heap → live_bytes heap + bound which ≤ heap.heap
 room_less heap which room = less (live_bytes heap) (bound which) heap.heap room
   where
     less : (live bytes size : ℕ) → live + bytes + reserve ≤ size → live + bytes ≤ size
@@ -41,53 +43,65 @@ room_kept heap which room = less (live_bytes heap) (bound which) heap.heap room
     less : (live bytes size : ℕ) → live + bytes + reserve ≤ size → live + reserve ≤ size
     less live bytes size fits = omega (arith, fits)
 
+-- a purse within the bound of its call pays
+pub pays : (heap : Heap) (purse : Purse) (which : Call) → left_bytes purse ≤ bound which → live_bytes heap + bound which + reserve ≤ heap.heap → CanPay heap purse
+pays heap purse which within room = can_pay heap purse which within (room_less heap which room)
+
 -- ---- its purse, of which nothing is spent
 
-module _ (heap : Heap) (purse : Purse) (need : Need) (which that : Call) (unused : purse ≡ unspent (need_for File need)) (needed : need ≡ need_of which)
+module _ {purse : Purse} {target : Target} {need : Need} {which that : Call} (value : purse ≡ unspent (need_for target need)) where
+  -- it has what the call needs for its target
+  pub has_left : {goes : Target} → target ≡ goes → need ≡ need_of which → argument_fault which ≡ None → which ≡ that → purse.left ≡ need_for goes (objects_of that)
+  has_left {goes} same needed right is = left_is purse goes need which that (value ∙ ap (λ t. unspent (need_for t need)) same) needed right is
+
+module _ {purse : Purse} {target : Target} {need : Need} {which that : Call} (value : purse ≡ unspent (need_for target need)) (file : target ≡ File) (needed : need ≡ need_of which)
     (right : argument_fault which ≡ None) (is : which ≡ that) where
-  -- it has what the call needs but chunks
+  -- where that is a file, all but chunks
   pub has_file_need : purse.left ≡ need_for File (need_of that)
-  has_file_need = left_is purse File need which that unused needed right is ∙ ap (need_for File) (sym (right_needs that (right_that which that right is)))
+  has_file_need = has_left value file needed right is ∙ ap (need_for File) (sym (right_needs that (right_that right is)))
 
   -- and that is all where the call needs no chunks
   pub has_need : need_for File (objects_of that) ≡ objects_of that → purse.left ≡ need_of that
-  has_need same = left_is purse File need which that unused needed right is ∙ same ∙ sym (right_needs that (right_that which that right is))
+  has_need same = has_left value file needed right is ∙ same ∙ sym (right_needs that (right_that right is))
+
+  unused : purse ≡ unspent (need_for File need)
+  unused = value ∙ ap (λ t. unspent (need_for t need)) file
 
   need_is : need_for File need ≡ need_for File (objects_of that)
   need_is = ap (need_for File) (needed ∙ right_needs which right ∙ ap objects_of is)
 
-  has_room : live_bytes heap + bound which ≤ heap.heap → live_bytes heap + need_bytes (need_for File need) ≤ heap.heap
-  has_room room = fits (live_bytes heap) (bound which) (need_bytes (need_for File need)) heap.heap room
+  has_room : (heap : Heap) → live_bytes heap + bound which + reserve ≤ heap.heap → live_bytes heap + need_bytes (need_for File need) ≤ heap.heap
+  has_room heap room = fits (live_bytes heap) (bound which) (need_bytes (need_for File need)) heap.heap (room_less heap which room)
       (subst (λ n. need_bytes (need_for File n) ≤ bound which) (sym needed) (purse_fits File which))
     where
       fits : (live bytes less size : ℕ) → live + bytes ≤ size → less ≤ bytes → live + less ≤ size
       fits live bytes less size room few = omega arith
 
   -- with it the call may walk
-  walks : (n : Need) → objects_of that ≡ n → (0 < n.name) × (0 < n.vnode) × (0 < n.block) → (n.name ≤ 4) × (n.vnode ≤ 4) × (n.block ≤ 4) → live_bytes heap + bound which ≤ heap.heap
+  walks : (heap : Heap) (n : Need) → objects_of that ≡ n → (0 < n.name) × (0 < n.vnode) × (0 < n.block) → (n.name ≤ 4) × (n.vnode ≤ 4) × (n.block ≤ 4) → live_bytes heap + bound which + reserve ≤ heap.heap
       → MayWalk heap purse
-  walks n one some few room =
+  walks heap n one some few room =
       let same : need_for File need ≡ need_for File n = need_is ∙ ap (need_for File) one in
-      may_walk heap purse (need_for File need) unused (has_room room) (subst (λ (m : Need). (0 < m.name) × (0 < m.vnode) × (0 < m.block)) (sym same) some)
+      may_walk heap purse (need_for File need) unused (has_room heap room) (subst (λ (m : Need). (0 < m.name) × (0 < m.vnode) × (0 < m.block)) (sym same) some)
       (subst (λ (m : Need). (m.name ≤ 4) × (m.vnode ≤ 4) × (m.block ≤ 4)) (sym same) few)
 
-  pub walks_one : objects_of that ≡ walk_need → live_bytes heap + bound which ≤ heap.heap → MayWalk heap purse
-  walks_one one room = walks walk_need one (omega arith, omega arith, omega arith) (omega arith, omega arith, omega arith) room
+  pub walks_one : {heap : Heap} → objects_of that ≡ walk_need → live_bytes heap + bound which + reserve ≤ heap.heap → MayWalk heap purse
+  walks_one {heap} one room = walks heap walk_need one (omega arith, omega arith, omega arith) (omega arith, omega arith, omega arith) room
 
-  pub walks_two : objects_of that ≡ two_walks_need → live_bytes heap + bound which ≤ heap.heap → MayWalk heap purse
-  walks_two two room = walks two_walks_need two (omega arith, omega arith, omega arith) (omega arith, omega arith, omega arith) room
+  pub walks_two : {heap : Heap} → objects_of that ≡ two_walks_need → live_bytes heap + bound which + reserve ≤ heap.heap → MayWalk heap purse
+  walks_two {heap} two room = walks heap two_walks_need two (omega arith, omega arith, omega arith) (omega arith, omega arith, omega arith) room
 
   -- also where it makes a description or a socket
-  pub walks_opening : objects_of that ≡ record walk_need { desc = 1 } → live_bytes heap + bound which ≤ heap.heap → MayWalk heap purse
-  walks_opening one room = walks (record walk_need { desc = 1 }) one (omega arith, omega arith, omega arith) (omega arith, omega arith, omega arith) room
+  pub walks_opening : {heap : Heap} → objects_of that ≡ record walk_need { desc = 1 } → live_bytes heap + bound which + reserve ≤ heap.heap → MayWalk heap purse
+  walks_opening {heap} one room = walks heap (record walk_need { desc = 1 }) one (omega arith, omega arith, omega arith) (omega arith, omega arith, omega arith) room
 
-  pub walks_connecting : objects_of that ≡ record walk_need { sock = 1 } → live_bytes heap + bound which ≤ heap.heap → MayWalk heap purse
-  walks_connecting one room = walks (record walk_need { sock = 1 }) one (omega arith, omega arith, omega arith) (omega arith, omega arith, omega arith) room
+  pub walks_connecting : {heap : Heap} → objects_of that ≡ record walk_need { sock = 1 } → live_bytes heap + bound which + reserve ≤ heap.heap → MayWalk heap purse
+  walks_connecting {heap} one room = walks heap (record walk_need { sock = 1 }) one (omega arith, omega arith, omega arith) (omega arith, omega arith, omega arith) room
 
   -- and ask for the two blocks that it needs
-  pub may_fetch : (objects_of that).block ≡ 2 → live_bytes heap + bound which ≤ heap.heap → MayFetch heap purse
-  may_fetch two room = subst (MayFetch heap) (sym unused) (record {
-    pays = has_room room;
+  pub may_fetch : {heap : Heap} → (objects_of that).block ≡ 2 → live_bytes heap + bound which + reserve ≤ heap.heap → MayFetch heap purse
+  may_fetch {heap} two room = subst (MayFetch heap) (sym unused) (record {
+    pays = has_room heap room;
     fills = record { vnodes = AreFills-none heap.vnodes need.vnode; names = AreFills-none heap.names need.name; blocks = AreFills-none heap.blocks need.block };
     few = few need.block blocks;
     some = some need.block blocks;

@@ -1,5 +1,5 @@
 -- A mark behind a call: what it keeps is the most of the whole call, and the heap is at rest.
-use Rattle.std.proofs.Common.{◌≡◌, ℕ, ◌+◌, ◌%◌, ◌^◌, ◌≤◌, ◌∙◌, max, le_refl, ap, refl, sym, subst, arith}
+use Rattle.std.proofs.Common.{◌≡◌, ℕ, ◌+◌, ◌%◌, ◌^◌, ◌≤◌, ◌∙◌, max, le_refl, ap, refl, sym, arith}
 use Rattle.kabi_types.specs.declared.scripts.Script.{Script}
 use Rattle.kheap_slabs.specs.Heap.{Heap, IsWellFormed, live_bytes}
 use Rattle.posix_defs.specs.World.{World, live_of}

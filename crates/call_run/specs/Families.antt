@@ -3,8 +3,6 @@ use Rattle.std.specs.Prelude.{ℕ, ◌≡◌, ◌<◌, Bool, true, false}
 use Rattle.std.specs.List.{AllByRecursion}
 use Rattle.kabi_types.specs.declared.calls.Call.{Call}
 use Rattle.kabi_types.specs.declared.calls.Call.TheVariants as call
-use Rattle.kabi_types.specs.declared.calls.CallKind.{CallKind}
-use Rattle.kabi_types.specs.declared.calls.CallKind.TheVariants as kind
 use Rattle.kheap_slabs.specs.Heap.{Heap}
 use Rattle.machine_laws.specs.Texts.{ArePathBytes}
 use Rattle.posix_defs.specs.Calls.Opened.{opened_at}
@@ -19,9 +17,9 @@ abbrev pub HasPaths : Call → Type 0
 HasPaths which = AllByRecursion ArePathBytes (paths_of which)
 
 -- the calls that move bytes of whatever is open
-abbrev pub is_moving : CallKind → Bool
-is_moving kind.Read = true
-is_moving kind.Write = true
+abbrev pub is_moving : Call → Bool
+is_moving (call.Read fd addr n) = true
+is_moving (call.Write fd addr n done) = true
 is_moving _ = false
 
 -- a call that moves bytes moves those of a file or a directory

@@ -4,7 +4,6 @@ ghost use Rattle.std.specs.Prelude.{◌≡◌, ◌+◌, ◌≤◌, None, false, 
 ghost use Rattle.std.specs.Result.{result_err};
 ghost use Rattle.file_calls.specs.Bytes.{ReadsCached};
 ghost use Rattle.kabi_types.specs.Arguments.{argument_fault};
-ghost use Rattle.kabi_types.specs.Call.{kind_of};
 ghost use Rattle.kabi_types.specs.declared.calls.Call.{Call};
 ghost use Rattle.kabi_types.specs.declared.replies.Reply.TheVariants.{Val};
 ghost use Rattle.kabi_types.specs.declared.scripts.Script.{Script};
@@ -71,7 +70,7 @@ fn target_of(objects: &Objects, place: Place, call: &Call) -> Target
     requires kept { (script : Script) × AreKept script objects.now }
     requires alive { IsAlive (procs_of objects.now) place.pid }
     requires placed { IsPlaced objects.now.procs place }
-    ensures other { is_moving (kind_of call.now) ≡ false → result ≡ File }
+    ensures other { is_moving call.now ≡ false → result ≡ File }
     ensures on { result ≡ File → IsOnFile objects.now.heap objects.now.procs place.pid call.now }
     ensures off { result ≡ Queue → IsOffFiles objects.now.heap objects.now.procs place.pid call.now }
     ensures fresh { result ≡ File → (script : Script) (world : World) → StandsFor script objects.now world → HasHalf world.plain.files place.pid call.now → IsFresh call.now }
@@ -124,8 +123,12 @@ fn run_right(
     call: &Call,
     need: Need,
 ) -> Turned
-    requires stands { (world : World) × StandsFor script.now objects.old world × IsSound world.plain × HasHalf world.plain.files caller.now.place.pid call.now }
+    requires kept { AreKept script.now objects.old }
+    requires stands { (world : World) × StandsFor script.now objects.old world × IsSound world.plain }
+    requires half { (world : World) × StandsFor script.now objects.old world × HasHalf world.plain.files caller.now.place.pid call.now }
     requires caller { IsCaller objects.old caller.now.place.pid caller.now }
+    requires runs { Runs objects.old caller.now.place.pid caller.now.control }
+    requires placed { IsPlaced objects.old.procs caller.now.place }
     requires right { argument_fault call.now ≡ None }
     requires paths { HasPaths call.now }
     requires so_far { HasDone call.now caller.now.control.done }

@@ -14,6 +14,21 @@ use Rattle.call_run.proofs.calls.run.Goals as goal
 pub run_right-requires-clause-right : goal.run_right-requires-clause-right
 run_right-requires-clause-right c = sym c.checked.ensures ∙ ap result_err c.in-Ok.is
 
+pub run_right-requires-clause-kept : goal.run_right-requires-clause-kept
+run_right-requires-clause-kept c = let some = c.requires.stands in some.1.kept
+
+pub run_right-requires-clause-runs : goal.run_right-requires-clause-runs
+run_right-requires-clause-runs c = caller_runs c.args.objects.now c.args.caller.now.place.pid c.args.caller.now c.requires.caller
+
+pub run_right-requires-clause-placed : goal.run_right-requires-clause-placed
+run_right-requires-clause-placed c = c.requires.caller.placed
+
+pub run_right-requires-clause-stands : goal.run_right-requires-clause-stands
+run_right-requires-clause-stands c = (c.requires.stands.0, c.requires.stands.1, c.requires.stands.2)
+
+pub run_right-requires-clause-half : goal.run_right-requires-clause-half
+run_right-requires-clause-half c = (c.requires.stands.0, c.requires.stands.1, c.requires.stands.3)
+
 pub returns-in-Ok-clause-does : goal.returns-in-Ok-clause-does
 returns-in-Ok-clause-does c =
     let right : argument_fault c.args.call.now ≡ None = sym c.checked.ensures ∙ ap result_err c.in-Ok.is in

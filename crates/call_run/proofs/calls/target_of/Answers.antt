@@ -1,6 +1,5 @@
 use Rattle.std.proofs.Common.{◌≡◌, ◌∙◌, ap, false, rules, subst, sym, true}
 use Rattle.std.proofs.lemmas.Int.{to_z-of_z}
-use Rattle.kabi_types.specs.Call.{kind_of}
 use Rattle.posix_defs.specs.Calls.Opened.{opened_at}
 use Rattle.posix_defs.specs.Reaching.{is_on_node}
 use Rattle.proc_numbers.specs.Found.{IsOffNodes, IsOnNode}
@@ -9,7 +8,7 @@ use Rattle.call_run.proofs.OnFiles.{fresh_write, other_fresh, other_on}
 use Rattle.call_run.proofs.calls.target_of.Goals as goal
 
 pub returns-in-Read-clause-other : goal.returns-in-Read-clause-other
-returns-in-Read-clause-other c = λ still. absurd (let both : true ≡ false = ap (λ which. is_moving (kind_of which)) (sym c.in-Read.is) ∙ still in cc)
+returns-in-Read-clause-other c = λ still. absurd (let both : true ≡ false = ap is_moving (sym c.in-Read.is) ∙ still in cc)
 
 pub returns-in-Read-clause-on : goal.returns-in-Read-clause-on
 returns-in-Read-clause-on c = λ file.
@@ -25,7 +24,7 @@ pub returns-in-Read-clause-fresh : goal.returns-in-Read-clause-fresh
 returns-in-Read-clause-fresh c = λ file script world stands half. subst IsFresh (sym c.in-Read.is) tt
 
 pub returns-in-Write-clause-other : goal.returns-in-Write-clause-other
-returns-in-Write-clause-other c = λ still. absurd (let both : true ≡ false = ap (λ which. is_moving (kind_of which)) (sym c.in-Write.is) ∙ still in cc)
+returns-in-Write-clause-other c = λ still. absurd (let both : true ≡ false = ap is_moving (sym c.in-Write.is) ∙ still in cc)
 
 pub returns-in-Write-clause-on : goal.returns-in-Write-clause-on
 returns-in-Write-clause-on c = λ file.

@@ -1,4 +1,4 @@
-use Rattle.std.proofs.Common.{◌≡◌, ◌≤◌, le_refl}
+use Rattle.std.proofs.Common.{◌≤◌, le_refl}
 use Rattle.kheap_slabs.specs.Heap.{live_bytes}
 use Rattle.kheap_laws.proofs.PaidLemmas.{TakesNothing-bytes}
 use Rattle.machine_laws.proofs.Turning.{evicted_reached}

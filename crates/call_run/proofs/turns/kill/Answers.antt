@@ -1,4 +1,4 @@
-use Rattle.std.proofs.Common.{◌≡◌, ◌+◌, ◌≤◌, ℕ, arith}
+use Rattle.std.proofs.Common.{◌+◌, ◌≤◌, ℕ, arith}
 use Rattle.posix_defs.specs.Sizes.{reserve}
 use Rattle.posix_defs.specs.World.{live_of}
 use Rattle.call_run.proofs.Resting.{mark_counts, mark_goes_on, mark_high, mark_keeps, mark_rests, mark_since}

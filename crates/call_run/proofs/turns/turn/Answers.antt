@@ -1,5 +1,4 @@
-use Rattle.std.proofs.Common.{◌≡◌, ◌+◌, ◌≤◌, refl}
-use Rattle.kheap_slabs.specs.Heap.{Heap}
+use Rattle.std.proofs.Common.{refl}
 use Rattle.posix_defs.specs.Needs.{bound, slack}
 use Rattle.call_run.proofs.Resting.{mark_counts, mark_goes_on, mark_high, mark_keeps, mark_rests, mark_since}
 use Rattle.file_calls.proofs.BytesCached.{reads_on}

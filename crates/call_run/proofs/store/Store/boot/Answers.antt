@@ -9,7 +9,6 @@ use Rattle.posix_defs.specs.ValidScript.{IsValid}
 use Rattle.posix_defs.specs.World.{boot_world, live_of}
 use Rattle.store_objects.specs.Objects.{AreKept}
 use Rattle.store_objects.proofs.Booting.{boot_stands, boot_stands_for}
-use Rattle.store_objects.specs.Standing.{StandsFor}
 use Rattle.call_run.specs.Stores.{Stands}
 use Rattle.call_run.proofs.Resting.{mark_rests, mark_stands, with_heap}
 use Rattle.call_run.proofs.store.Store.boot.Goals as goal
