@@ -8,6 +8,7 @@ pub mod laws;
 mod names;
 mod sleepers;
 mod store;
+mod touching;
 mod turns;
 mod victims;
 
