@@ -57,10 +57,10 @@ ASLEEP = 3000
 # and the most growth, in hundredths.
 ROWS = [
     ("asleep in `poll` of eight, while one writes and reads a pipe", (0, 8, 62),
-     of_pipe(["r12 = poll -1 r2 POLLIN r4 POLLIN r2 POLLIN r4 POLLIN r2 POLLIN r4 POLLIN r2 POLLIN r4 POLLIN"]), ASLEEP, 40000, 2800),
-    ("asleep in `read`, while one writes and reads a pipe", (0, 8, 62), of_pipe(["r12 = read r2 r1 8"]), ASLEEP, 20000, 1400),
-    ("asleep in `poll` of eight, while one asks for a file's bytes and its name", (0, 8, 62), reads_beside, ASLEEP, 6000, 400),
-    ("asleep in `waitpid`, while one asks for its pid", (0, 8, 62), waits, ASLEEP, 4000, 400),
+     of_pipe(["r12 = poll -1 r2 POLLIN r4 POLLIN r2 POLLIN r4 POLLIN r2 POLLIN r4 POLLIN r2 POLLIN r4 POLLIN"]), ASLEEP, 1700, 110),
+    ("asleep in `read`, while one writes and reads a pipe", (0, 8, 62), of_pipe(["r12 = read r2 r1 8"]), ASLEEP, 1700, 110),
+    ("asleep in `poll` of eight, while one asks for a file's bytes and its name", (0, 8, 62), reads_beside, ASLEEP, 1700, 110),
+    ("asleep in `waitpid`, while one asks for its pid", (0, 8, 62), waits, ASLEEP, 1300, 110),
     ("asleep with thirty descriptors each, while one moves a name", (0, 8, 62), moves_beside, ASLEEP, 15200, 550),
     *OF_DISKS,
 ]

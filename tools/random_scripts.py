@@ -3,7 +3,8 @@
 
 Writes COUNT scripts to FOLDER, as SEED.kres, SEED + 1 and so on; each is made of its number alone, so a script that shows
 something can be told by its number. They make the calls that are named, or one of the families memory, pipes, sockets,
-paths, files, all; without a name those of processes and memory. What programs do stands in tools/random_programs.py. Heaps
+paths, files, all; without a name those of processes and memory. What programs do stands in tools/random_programs.py. With
+the name sleepers alone the scripts are of many processes that mostly sleep on a few pipes and sockets. Heaps
 are small, so that calls wait and processes are killed, choices and policies vary, and some programs end while others sleep.
 Nothing here runs or judges a script: tools/hostile_runs.py does.
 """
@@ -12,6 +13,7 @@ import random
 import sys
 
 import random_programs
+import random_sleepers
 
 PROCESSES = "getpid getppid sched_yield fork waitpid kill exit".split()
 FAMILIES = {
@@ -47,8 +49,19 @@ def programs(rng, calls):
         yield from [f"program {name}", *random_programs.Program(rng, calls).body(length), "end"]
 
 
+def crowded(number):
+    """The text of a number, as bytes, of many processes that mostly sleep."""
+    rng = random.Random(number)
+    heap = rng.choice([32768, 131072, 262144, 1048576])
+    lines = [f"heap {heap}", f"steps {rng.choice([1000, 3000, 6000])}", *choosing(rng, rng.choice([0, 1, 1, 1, 2]))]
+    lines += ["program init", *random_sleepers.Crowd(rng).lines(), "end"]
+    return ("\n".join(lines) + "\n").encode("latin-1")
+
+
 def script(number, calls):
     """The text of a number, as bytes."""
+    if "sleepers" in calls:
+        return crowded(number)
     rng = random.Random(number)
     lines = [f"heap {rng.choice(HEAPS)}", f"steps {rng.choice([200, 400, 1000, 3000, 3000])}"]
     lines += [f"disk {rng.choice([16, 17, 32, 64])}"] * (rng.random() < 0.7)

@@ -16,5 +16,8 @@ pub mod Ends
 pub mod Naming
 pub mod Needing
 pub mod Telling
+pub mod Minding
+pub mod Asking
 pub mod Resting
 pub mod BytesCached
+pub mod SettledBlocks

@@ -16,7 +16,7 @@ use Rattle.store_objects.specs.Objects.{IsCaller}
 use Rattle.store_objects.specs.Standing.{IsSound, StandsFor}
 use Rattle.store_objects.proofs.Callers.{caller_running}
 use Rattle.store_objects.proofs.LiveIs.{live_is}
-use Rattle.store_objects.proofs.RunningProcs.{alive_is}
+use Rattle.store_objects.proofs.RunningProcs.{alive_is, alive_runs}
 use Rattle.call_run.specs.Families.{HasDone, HasHalf, HasPaths}
 use Rattle.call_run.specs.Stores.{IsStoreOf}
 use Rattle.call_run.proofs.Sound.{half, sound}
@@ -59,6 +59,14 @@ module _ (script : Script) (objects : Objects) (world : World) (pid : ℕ) (whic
   pub turn_own : (other : World) → StandsFor script objects other → is_alive other.plain.table pid ≡ true → which ≡ call_of script other.plain pid
   turn_own other also alive =
       own turn_alive ∙ sym (next_is script objects world pid is.proc stands turn_alive is.found) ∙ next_is script objects other pid is.proc also alive is.found
+
+-- who is alive makes the same call in every world that the objects stand for
+pub same_call : (script : Script) (objects : Objects) (world other : World) (pid : ℕ) (which : Call) → StandsFor script objects world → StandsFor script objects other
+    → (is_alive world.plain.table pid ≡ true → which ≡ call_of script world.plain pid) → is_alive other.plain.table pid ≡ true → which ≡ call_of script other.plain pid
+same_call script objects world other pid which stands also own alive =
+    let there = alive_is script objects world.plain pid stands.processes ∙ sym (alive_is script objects other.plain pid also.processes) ∙ alive in
+    let runs = alive_runs script objects other.plain pid also.processes alive in
+    own there ∙ sym (next_is script objects world pid runs.proc stands there runs.there) ∙ next_is script objects other pid runs.proc also alive runs.there
 
 -- there is as much room for each of them
 pub same_room : (script : Script) (objects : Objects) (world other : World) (which : Call) → StandsFor script objects world → StandsFor script objects other → IsWellFormed objects.heap

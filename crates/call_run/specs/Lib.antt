@@ -1,4 +1,5 @@
 pub mod Sleepers
+pub mod Touching
 pub mod Stores
 pub mod Families
 pub mod Weights

@@ -5,6 +5,7 @@ mod calls;
 pub mod laws;
 mod sleepers;
 mod store;
+mod touching;
 mod turns;
 mod victims;
 

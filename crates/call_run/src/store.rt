@@ -6,11 +6,13 @@ ghost use Rattle.kabi_types.specs.declared.scripts.Script.{Script};
 ghost use Rattle.posix_defs.specs.Plain as plain;
 ghost use Rattle.posix_defs.specs.ValidScript.{IsValid};
 ghost use Rattle.posix_defs.specs.World.{World, boot_world};
+ghost use Rattle.call_run.proofs.SettledBlocks.{settled_blocks};
+ghost use Rattle.call_run.specs.Sleepers.{is_settled};
 ghost use Rattle.call_run.specs.Stores.{Stands};
 
 use crate::calls::Buffers;
-use crate::{sleepers, turns, victims};
-use arrayvec::ArrayVec;
+use crate::sleepers::{Sleepers, goes_on};
+use crate::{turns, victims};
 use kabi_types::{Cached, Call, Control, Memory, Need, Program, Script};
 use posix_defs::{Asked, Turned, Turner};
 use std::alloc::Global;
@@ -26,10 +28,7 @@ pub struct Store<F: Scorer, G: Scorer> {
     objects: Objects,
     buffers: Buffers,
     score: Score<F, G>,
-    // Of calls that sleep, those of which it is known that they would block still.
-    known: ArrayVec<Option<u32>, 64>,
-    // Something may have woken one of them since the store looked at them.
-    stale: bool,
+    sleepers: Sleepers,
 }
 
 impl<F: Scorer, G: Scorer> Model for Store<F, G> {
@@ -38,7 +37,7 @@ impl<F: Scorer, G: Scorer> Model for Store<F, G> {
 
     ghost Value = { StoreView };
 
-    ghost view = { λ store. record { script = store.script; objects = store.objects; known = store.known.items; stale = store.stale } };
+    ghost view = { λ store. record { script = store.script; objects = store.objects; sleepers = store.sleepers } };
 
     ghost invariant = { λ store. AreKept store.script store.objects };
 }
@@ -67,8 +66,7 @@ impl<F: Scorer, G: Scorer> Store<F, G> {
             objects,
             buffers,
             score,
-            known: ArrayVec::new(),
-            stale: true,
+            sleepers: Sleepers::new(),
         })
     }
 }
@@ -103,6 +101,10 @@ impl<F: Scorer, G: Scorer> Turner for Store<F, G> {
 
     ghost beside = { λ old pid call told new. ReadsCached old.objects pid call told new.objects };
 
+    ghost settled = { λ store pid. is_settled store.sleepers.told pid };
+
+    ghost stirred = { λ store. store.sleepers.stirred };
+
     // A call has room for two paths: each function that hands one on pays for that room once more.
     #[inline(never)]
     fn next(&self, pid: u32) -> Call {
@@ -122,32 +124,31 @@ impl<F: Scorer, G: Scorer> Turner for Store<F, G> {
             call,
             need,
         );
-        let known = &mut self.known;
-        let stale = &mut self.stale;
-        sleepers::keep_in_mind(
-            &self.script,
-            &self.objects,
-            known,
-            stale,
-            pid,
-            call,
-            &turned,
-        );
+        self.sleepers
+            .keep_in_mind(&self.script, &self.objects, pid, call, &turned);
         turned
     }
 
     fn refuse(&mut self, pid: u32) {
         turns::refuse(&self.script, &mut self.objects, pid);
-        sleepers::forget(&mut self.known, pid);
+        self.sleepers.refused(pid);
     }
 
     // It is asked at many places.
     #[inline(never)]
     fn ready(&self, pid: u32) -> bool {
-        if !self.stale && sleepers::is_told(self.known.as_slice(), pid) {
-            return false;
+        match self.sleepers.told(pid) {
+            Some(blocks) => !blocks,
+            None => goes_on(&self.script, &self.objects, pid),
         }
-        sleepers::goes_on(&self.script, &self.objects, pid)
+    }
+
+    fn settles(&self, pid: u32) -> bool {
+        self.sleepers.settles(pid)
+    }
+
+    fn stirred(&self) -> &[u32] {
+        self.sleepers.stirred()
     }
 
     fn evictable(&self, what: Cached) -> bool {
@@ -156,6 +157,7 @@ impl<F: Scorer, G: Scorer> Turner for Store<F, G> {
 
     fn evict(&mut self, what: Cached) {
         turns::evict(&mut self.objects, what);
+        self.sleepers.evicted();
     }
 
     fn victim(&self) -> Option<u32> {
@@ -164,7 +166,7 @@ impl<F: Scorer, G: Scorer> Turner for Store<F, G> {
 
     fn kill(&mut self, pid: u32) {
         turns::kill(&mut self.objects, pid);
-        self.stale = true;
+        self.sleepers.killed(&self.script, &self.objects);
     }
 
     fn alive(&self, pid: u32) -> bool {
@@ -183,4 +185,6 @@ impl<F: Scorer, G: Scorer> Turner for Store<F, G> {
     fn reads(&self) -> u64 {
         self.objects.tree.reads()
     }
+
+    ghost settled_block = { λ store world pid stands settled alive. settled_blocks store world pid stands settled };
 }

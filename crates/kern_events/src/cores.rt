@@ -13,7 +13,6 @@ ghost use Rattle.posix_defs.specs.CoreState.{CoreState};
 ghost use Rattle.kern_tasks.specs.View.{IsAt, HasRun, HasBooted};
 
 use crate::evictables::{Evictables, evictables_of};
-use crate::sleepers::Sleepers;
 use kabi_types::{Memory, Noted};
 use posix_defs::{Phase, Task, Turner};
 use std::alloc::Global;
@@ -24,10 +23,6 @@ const RESERVE: u64 = 2176;
 
 /// What is charged at boot, in bytes.
 const FIXED: u64 = 2816;
-
-/// Of how many tasks it is kept whether their calls would go on: as many as there may be processes. Only where more are there,
-/// since some have ended with their calls admitted still, the store is asked at each event.
-const MOST_TOLD: usize = 64;
 
 /// A run of a script: the store of its processes, how far each is with its call, and what happened so far.
 #[derive(Drop)]
@@ -40,9 +35,11 @@ pub struct Core<T: Turner + Drop> {
     reserved: u64,
     charged: u64,
     peak: u64,
-    sleepers: Sleepers,
-    // At the place of each task whether its call would go on, where it sleeps and that is told.
-    ready: [bool; MOST_TOLD],
+    // The places of the tasks that may have an event: all but those that sleep and of which the store keeps in mind that they would
+    // block.
+    runnable: Vec<u32>,
+    // How many calls sleep.
+    asleep: u32,
     // No call that waits may use more, in bytes.
     most_asked: u64,
     // Of each cache whether it keeps something that could go.
@@ -66,7 +63,7 @@ impl<T: Turner + Drop> Model for Core<T> {
       peak = core.peak;
     } };
 
-    ghost invariant = { λ core. Knows T.stands (T.script core.store) (record {
+    ghost invariant = { λ core. Knows T.stands (T.script core.store) (T.settled core.store) (record {
       store = core.store;
       steps = core.steps;
       run = core.run.items;
@@ -74,7 +71,7 @@ impl<T: Turner + Drop> Model for Core<T> {
       reserved = core.reserved;
       charged = core.charged;
       peak = core.peak;
-    }) core.heap (vec_capacity core.run) (vec_capacity core.tasks) core.sleepers core.ready core.most_asked core.evictables };
+    }) core.heap (vec_capacity core.run) (vec_capacity core.tasks) core.runnable.items (vec_capacity core.runnable) core.asleep core.most_asked core.evictables };
 }
 
 impl<T: Turner + Drop> Core<T> {
@@ -96,6 +93,8 @@ impl<T: Turner + Drop> Core<T> {
             pid: 1,
             phase: Phase::User,
         });
+        let mut runnable = Vec::with_capacity(alloc, steps as usize + 2)?;
+        runnable.push_reserved(0);
         let evictables = evictables_of(&store);
         Ok(Core {
             store,
@@ -106,8 +105,8 @@ impl<T: Turner + Drop> Core<T> {
             reserved: 0,
             charged: FIXED,
             peak: FIXED,
-            sleepers: Sleepers::Nobody,
-            ready: [false; MOST_TOLD],
+            runnable,
+            asleep: 0,
             most_asked: 0,
             evictables,
         })

@@ -4,7 +4,6 @@
 mod cores;
 mod evictables;
 mod reliefs;
-mod sleepers;
 
 pub use cores::Core;
 pub use reliefs::Relief;

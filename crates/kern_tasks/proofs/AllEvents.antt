@@ -101,29 +101,29 @@ the_same (Some told) event e = cc
 
 -- what is told of the task at a place is enabled at that place
 pub enabled_there : (script : Script) (s : CoreState) (room : ℕ) (tasks : List Task) (place : ℕ) (task : Task) (answer : Option Event)
-    → s.tasks ≡ tasks → AllGo script s room tasks → slice_get tasks place ≡ Some task → option_to_list answer ≡ events_of script s task.pid task.phase
+    → events_in script s tasks ≡ events_in script s s.tasks → AllGo script s room tasks → slice_get tasks place ≡ Some task → option_to_list answer ≡ events_of script s task.pid task.phase
     → answer ≡ slice_get (enabled_in script s) place
 enabled_there script s room tasks place task answer are go found told =
     let there = event_there script s room tasks place task (others_in script s) go found in
     the_same answer there.0 (told ∙ there.1) ∙ sym there.2
-    ∙ ap (λ ts. slice_get (events_in script s ts ++ others_in script s) place) (sym are)
+    ∙ ap (λ events. slice_get (events ++ others_in script s) place) are
 
 -- behind the tasks' events are those of no process
-pub enabled_behind : (script : Script) (s : CoreState) (room : ℕ) (tasks : List Task) (place : ℕ) → s.tasks ≡ tasks → AllGo script s room tasks
+pub enabled_behind : (script : Script) (s : CoreState) (room : ℕ) (tasks : List Task) (place : ℕ) → events_in script s tasks ≡ events_in script s s.tasks → AllGo script s room tasks
     → length tasks ≤ place → slice_get (others_in script s) (place - length tasks) ≡ slice_get (enabled_in script s) place
 enabled_behind script s room tasks place are go behind =
     let many : length (events_in script s tasks) ≡ length tasks = as_many script s room tasks go in
     ap (λ n. slice_get (others_in script s) (place - n)) (sym many)
     ∙ sym (get_later (events_in script s tasks) (others_in script s) place (omega (arith, many)))
-    ∙ ap (λ ts. slice_get (events_in script s ts ++ others_in script s) place) (sym are)
+    ∙ ap (λ events. slice_get (events ++ others_in script s) place) are
 
 -- so many events there are together
-pub all_go_counted : (script : Script) (s : CoreState) (room : ℕ) (tasks : List Task) (others : ℕ) → s.tasks ≡ tasks → AllGo script s room tasks
+pub all_go_counted : (script : Script) (s : CoreState) (room : ℕ) (tasks : List Task) (others : ℕ) → events_in script s tasks ≡ events_in script s s.tasks → AllGo script s room tasks
     → others ≡ length (others_in script s) → length tasks + others ≡ length (enabled_in script s)
 all_go_counted script s room tasks others are go is =
     ap (λ n. n + others) (sym (as_many script s room tasks go)) ∙ ap (λ n. length (events_in script s tasks) + n) is
     ∙ sym (length-append (events_in script s tasks) (others_in script s))
-    ∙ ap (λ ts. length (events_in script s ts ++ others_in script s)) (sym are)
+    ∙ ap (λ events. length (events ++ others_in script s)) are
 
 -- where no task is at a place it is behind them all
 pub none_there : (tasks : List Task) (place : ℕ) → slice_get tasks place ≡ None → length tasks ≤ place
@@ -133,7 +133,7 @@ none_there (first ∷ tasks) (suc place) e = let behind : length tasks ≤ place
 
 -- so what a number names is the event of a task
 pub named_there : (script : Script) (s : CoreState) (room : ℕ) (tasks : List Task) (count others number : ℕ) (task : Task) (answer : Option Event)
-    → s.tasks ≡ tasks → AllGo script s room tasks → count ≡ length tasks → others ≡ length (others_in script s)
+    → events_in script s tasks ≡ events_in script s s.tasks → AllGo script s room tasks → count ≡ length tasks → others ≡ length (others_in script s)
     → slice_get tasks (number % (count + others)) ≡ Some task → option_to_list answer ≡ events_of script s task.pid task.phase
     → answer ≡ slice_get (enabled_in script s) (number % length (enabled_in script s))
 named_there script s room tasks count others number task answer are go many is found told =
@@ -142,7 +142,7 @@ named_there script s room tasks count others number task answer are go many is f
 
 -- or one of no process
 pub named_behind : (script : Script) (s : CoreState) (room : ℕ) (tasks : List Task) (count others number : ℕ) (answer : Option Event)
-    → s.tasks ≡ tasks → AllGo script s room tasks → count ≡ length tasks → others ≡ length (others_in script s)
+    → events_in script s tasks ≡ events_in script s s.tasks → AllGo script s room tasks → count ≡ length tasks → others ≡ length (others_in script s)
     → slice_get tasks (number % (count + others)) ≡ None → (rest : List Event) → rest ≡ others_in script s → answer ≡ slice_get rest (number % (count + others) - count)
     → answer ≡ slice_get (enabled_in script s) (number % length (enabled_in script s))
 named_behind script s room tasks count others number answer are go many is none rest same told =

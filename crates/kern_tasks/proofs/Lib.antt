@@ -11,3 +11,7 @@ pub mod Defaults
 pub mod CalmTurns
 pub mod HeapBounds
 pub mod AllEvents
+pub mod Runnables
+pub mod Picked
+pub mod Sorting
+pub mod Settled

@@ -130,6 +130,21 @@ has_task_room stands_for script core heap run_room task_room s kept none =
     let room : core.steps + 1 ≤ task_room = kept.tasks_fit in
     omega arith
 
+-- So many tasks are few, and their places fit.
+pub record PlacesFit (many place_room : ℕ) : Type 0 where
+  pub few : many ≤ 100001
+  pub room : many < place_room
+
+pub places_fit : {T : Type 0} (stands_for : T → World → Type 0) (script : Script) (core : CoreView T) (heap run_room task_room place_room : ℕ) (s : CoreState) (many : ℕ)
+    → IsKept stands_for script core heap run_room task_room → end_of script core.steps (length core.run) s ≡ None → core.steps + 2 ≤ place_room
+    → many ≤ length core.tasks + 1 → PlacesFit many place_room
+places_fit stands_for script core heap run_room task_room place_room s many kept none room less =
+    let more : length core.run ≢ core.steps = not_spent script core.steps (length core.run) s none in
+    let within : length core.run ≤ core.steps = kept.has_run.within in
+    let few : length core.tasks ≤ length core.run + 1 = kept.few in
+    let most : core.steps ≤ 100000 = kept.most_steps in
+    record { few = omega arith; room = omega arith }
+
 -- there are few tasks
 pub few_tasks : {T : Type 0} (stands_for : T → World → Type 0) (script : Script) (core : CoreView T) (heap run_room task_room : ℕ)
     → IsKept stands_for script core heap run_room task_room → length core.tasks ≤ 100001

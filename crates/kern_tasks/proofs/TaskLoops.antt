@@ -43,8 +43,8 @@ pub record Passed (script : Script) (s : CoreState) (tasks : List Task) (place b
   pub rest : enabled_in script s ≡ front ++ (events_in script s (drop place tasks) ++ others_in script s)
 
 -- nothing is passed at the beginning
-pub passed_none : (script : Script) (s : CoreState) (tasks : List Task) → s.tasks ≡ tasks → Passed script s tasks 0 0
-passed_none script s tasks same = record { front = []; many = refl; rest = ap (λ ts. events_in script s ts ++ others_in script s) same }
+pub passed_none : (script : Script) (s : CoreState) (tasks : List Task) → events_in script s tasks ≡ events_in script s s.tasks → Passed script s tasks 0 0
+passed_none script s tasks same = record { front = []; many = refl; rest = ap (λ events. events ++ others_in script s) (sym same) }
 
 -- one place further
 pub passed_more : (script : Script) (s : CoreState) (tasks : List Task) (place before : ℕ) (event : Option Event) (d : Task) → place < length tasks

@@ -1,6 +1,8 @@
 -- What the turn of an admitted call leads to.
 use Rattle.std.proofs.Common.{◌≡◌, ℕ, ◌+◌, ◌-◌, ◌≤◌, true, List, ◌++◌, length, refl, ap, sym, ◌∙◌, subst, arith, length-append}
 use Rattle.kabi_types.specs.declared.calls.Call.{Call}
+use Rattle.kabi_types.specs.declared.entries.Event.{Event}
+use Rattle.kabi_types.specs.declared.entries.Noted.{Noted}
 use Rattle.kabi_types.specs.declared.scripts.Script.{Script}
 use Rattle.posix_defs.specs.declared.phases.Asked.{Asked}
 use Rattle.posix_defs.specs.declared.phases.Phase.{Phase}
@@ -17,14 +19,15 @@ use Rattle.posix_defs.specs.Machine.{machine}
 use Rattle.posix_defs.specs.World.{World, live_of}
 use Rattle.posix_defs.specs.Turn.{Answers, Tells, TurnsTo, TurnsWhere}
 use Rattle.posix_defs.specs.CoreState.{CoreState, asked_by, charged_in, held, next_call, reserved_in, with_phase_in}
-use Rattle.posix_defs.specs.CoreEvent.{born, buried, phase_after, tasks_after, tasks_without}
+use Rattle.posix_defs.specs.CoreEvent.{Steps, born, buried, phase_after, tasks_after, tasks_without}
 use Rattle.posix_defs.specs.Enabled.{IsIn}
-use Rattle.posix_defs.specs.SoundTasks.{IsSound}
+use Rattle.posix_defs.specs.SoundTasks.{AreRising, IsSound}
+use Rattle.posix_defs.specs.CoreRun.{goes_on}
 use Rattle.kern_laws.proofs.Nexts.{AnswerGoes, posix_goes}
-use Rattle.kern_laws.proofs.Sounds.{own_left}
+use Rattle.kern_laws.proofs.Sounds.{is_sound, own_left}
 use Rattle.kern_laws.proofs.Tasks.{found_fits, length-with, reserved_without}
 use Rattle.kern_laws.proofs.BuriedTasks.{length-born, length-buried}
-use Rattle.kern_tasks.specs.View.{CoreView, IsAt, IsKept, IsSleep}
+use Rattle.kern_tasks.specs.View.{CoreView, IsAt, IsKept, IsSleep, MayTake}
 use Rattle.kern_tasks.proofs.NextRun.{within_heap}
 
 -- a process whose call sleeps is alive
@@ -140,3 +143,10 @@ is_paid stands_for script core heap run_room task_room s pid live call asked kep
     reserved_without s.tasks pid (Admitted enabled.asked) enabled.is (λ e. (cc)) in
     let bounds : enabled.asked.bound ≡ asked.bound = ap (λ a. a.bound) asked_is in
     record { before = omega arith; after = omega arith }
+
+-- the tasks that a step leads to have rising pids
+pub rising_then : {T : Type 0} (stands_for : T → World → Type 0) (script : Script) (old new : CoreView T) (event : Event) (noted : Noted)
+    → (may : MayTake stands_for script old event) → (t : CoreState) × IsAt stands_for new t × Steps script may.state noted t → AreRising 0 new.tasks
+rising_then stands_for script old new event noted may led =
+    let sound = is_sound (goes_on old.run may.state led.0 noted may.runs may.no_end tt led.2) in
+    subst (AreRising 0) led.1.tasks sound.rising

@@ -11,5 +11,6 @@ pub use Rattle.posix_defs.specs.CoreRun
 pub mod Room
 pub mod Calm
 pub mod Places
+pub mod Runnable
 pub mod View
 pub mod Others

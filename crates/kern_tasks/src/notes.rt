@@ -2,7 +2,7 @@
 
 ghost use Rattle.std.specs.Prelude.{◌≡◌, ◌<◌, ◌++◌, ◌∷◌, [], ◌-◌, Some, length, max, slice_get, vec_len, vec_capacity};
 ghost use Rattle.posix_defs.specs.CoreEvent.{entry_of};
-ghost use Rattle.kern_tasks.specs.Calm.{may_end};
+ghost use Rattle.kern_tasks.specs.Calm.{leaves_asleep, may_end};
 
 use kabi_types::{CallKind, Entry, Noted};
 use posix_defs::Turned;
@@ -12,6 +12,13 @@ pub fn may_end(kind: CallKind, turned: &Turned) -> bool
     ensures { result ≡ may_end kind turned.now }
 {
     matches!(kind, CallKind::Kill) || matches!(turned, Turned::Ended(_) | Turned::Gone)
+}
+
+/// Whether a turn that came to this leaves its call asleep.
+pub fn leaves_asleep(turned: &Turned) -> bool
+    ensures { result ≡ leaves_asleep turned.now }
+{
+    matches!(turned, Turned::Sleep | Turned::Part(_))
 }
 
 /// The entry that a turn adds to the history.

@@ -7,14 +7,14 @@ ghost use Rattle.posix_defs.specs.CoreState.{phase_in, waiting_in, with_phase_in
 ghost use Rattle.posix_defs.specs.CoreEvent as event;
 ghost use Rattle.std.specs.List.{list_all, list_any};
 ghost use Rattle.kern_tasks.specs.Places.{place_from};
-ghost use Rattle.kern_tasks.specs.Room.{first_going, has_event, is_asleep, waits_within, waits_without};
+ghost use Rattle.kern_tasks.specs.Room.{first_going, has_event, waits_within, waits_without};
 ghost use Rattle.posix_defs.specs.SoundTasks.{AreRising};
 
-use crate::phases::{goes_within, has_event, is_asleep, waits_within, waits_without};
+use crate::phases::{goes_within, has_event, waits_within, waits_without};
 use posix_defs::{Phase, Task, Turner};
 
 /// The place of a pid's task. Pids rise from 1, so it isn't behind the pid's own place, and mostly near it.
-fn place_of(tasks: &[Task], pid: u32) -> Option<usize>
+pub(crate) fn place_of(tasks: &[Task], pid: u32) -> Option<usize>
     requires { AreRising 0 tasks.now }
     ensures place { result ≡ place_from 0 tasks.now pid }
     ensures within { IfSome result (λ place. place < length tasks.now) }
@@ -27,13 +27,6 @@ fn place_of(tasks: &[Task], pid: u32) -> Option<usize>
         }
     }
     None
-}
-
-/// The task at a place, from 0.
-pub fn task_at(tasks: &[Task], place: u32) -> Option<Task>
-    ensures { result ≡ slice_get tasks.now place }
-{
-    tasks.get(place as usize).copied()
 }
 
 /// The phase of a pid; dead where there is no task of it.
@@ -82,13 +75,6 @@ pub fn some_without(tasks: &[Task], room: u64) -> bool
     ensures { result ≡ list_any (λ task. waits_without room task.phase) tasks.now }
 {
     tasks.iter().any(|task| waits_without(task.phase, room))
-}
-
-/// Whether the call of each task sleeps.
-pub fn all_sleep(tasks: &[Task]) -> bool
-    ensures { result ≡ list_all (λ task. is_asleep task.phase) tasks.now }
-{
-    tasks.iter().all(|task| is_asleep(task.phase))
 }
 
 /// Whether each task has an event, whatever its process's call would do, where so much room is left.

@@ -31,6 +31,7 @@ pub mod Machine
 pub mod Account
 pub mod Reaching
 pub mod World
+pub mod Minding
 pub mod Turn
 pub mod Relief
 pub mod Victim

@@ -1,4 +1,4 @@
-ghost use Rattle.std.specs.Prelude.{◌≡◌, ◌≢◌, ℕ, ◌+◌, ◌%◌, ◌^◌, ◌≤◌, true, false, not};
+ghost use Rattle.std.specs.Prelude.{◌≡◌, ◌≢◌, ℕ, ◌+◌, ◌%◌, ◌^◌, ◌≤◌, Bool, true, false, not, List};
 ghost use Rattle.kabi_types.specs.declared.calls.Call.{Call as CallOf};
 ghost use Rattle.kabi_types.specs.declared.scripts.Script.{Script};
 ghost use Rattle.posix_defs.specs.declared.turner.Turned.{Turned as Told};
@@ -12,6 +12,7 @@ ghost use Rattle.posix_defs.specs.Relief.{Evicts, Kills, refused_in};
 ghost use Rattle.posix_defs.specs.Victim.{victim_of};
 ghost use Rattle.posix_defs.specs.World.{World, can_evict, live_of};
 ghost use Rattle.posix_defs.specs.Turn.{TurnsTo};
+ghost use Rattle.posix_defs.specs.Minding.{HasNamed};
 
 use crate::phases::Asked;
 use kabi_types::{Cached, Call, Need, Reply};
@@ -56,6 +57,12 @@ pub trait Turner {
     /// store that has nothing to say has it always.
     ghost beside: { Self → ℕ → CallOf → Told → Self → Type 0 };
 
+    /// The store keeps in mind of a process that its next call would block. A store may keep nothing in mind.
+    ghost settled: { Self → ℕ → Bool };
+
+    /// The processes of which the store may have changed its mind in the last call that changed it.
+    ghost stirred: { Self → List ℕ };
+
     /// The call that a live process makes next.
     fn next(&self, pid: u32) -> Call
         requires { (world : World) × stands self.now world × (is_alive world.plain.table pid ≡ true) }
@@ -80,6 +87,7 @@ pub trait Turner {
         ensures turned { (world : World) → stands self.old world
             → (after : World) × stands self.new after × TurnsTo (script self.old) world pid call.now result after }
         ensures beside { beside self.old pid call.now result self.new }
+        ensures named { HasNamed (settled self.old) (settled self.new) (stirred self.new) }
         ensures marked { marks self.new ≡ (marks self.old + 1) % 2 ^ 64 }
         ensures since { (world : World) → stands self.old world → live_of world ≤ high self.new }
         ensures high { (world : World) → stands self.old world → high self.new ≤ live_of world + bound call.now + slack call.now };
@@ -90,6 +98,7 @@ pub trait Turner {
         ensures script { script self.new ≡ script self.old }
         ensures refused { (world : World) → stands self.old world → is_alive world.plain.table pid ≡ true
             → stands self.new (refused_in (script self.old) world pid) }
+        ensures named { HasNamed (settled self.old) (settled self.new) (stirred self.new) }
         ensures marked { marks self.new ≡ (marks self.old + 1) % 2 ^ 64 }
         ensures since { (world : World) → stands self.old world → live_of world ≤ high self.new }
         ensures high { (world : World) → stands self.old world → high self.new ≤ live_of world };
@@ -99,6 +108,14 @@ pub trait Turner {
         requires { (world : World) × stands self.now world × (is_alive world.plain.table pid ≡ true) }
         ensures { (world : World) → stands self.now world → is_alive world.plain.table pid ≡ true
             → result ≡ not (would_block (script self.now) world.plain pid) };
+
+    /// Whether it is kept in mind of a process that its next call would block.
+    fn settles(&self, pid: u32) -> bool
+        ensures { result ≡ settled self.now pid };
+
+    /// Of which processes the store may have changed its mind in the last call that changed it: each of whom it has is named.
+    fn stirred(&self) -> &[u32]
+        ensures { result.now ≡ stirred self.now };
 
     /// Whether a cache keeps something that isn't pinned.
     fn evictable(&self, what: Cached) -> bool
@@ -112,6 +129,7 @@ pub trait Turner {
             → (after : World) × stands self.new after × Evicts world what after }
         ensures kept { (world : World) → stands self.old world → can_evict world.plain world.kept what ≡ false
             → stands self.new world }
+        ensures named { HasNamed (settled self.old) (settled self.new) (stirred self.new) }
         ensures marked { marks self.new ≡ (marks self.old + 1) % 2 ^ 64 }
         ensures since { (world : World) → stands self.old world → live_of world ≤ high self.new }
         ensures high { (world : World) → stands self.old world → high self.new ≤ live_of world };
@@ -130,6 +148,7 @@ pub trait Turner {
         ensures gone { (world : World) → stands self.old world → is_alive world.plain.table pid ≡ false
             → stands self.new world }
         ensures first { (world : World) → stands self.old world → pid ≡ 1 → stands self.new world }
+        ensures named { HasNamed (settled self.old) (settled self.new) (stirred self.new) }
         ensures marked { marks self.new ≡ (marks self.old + 1) % 2 ^ 64 }
         ensures since { (world : World) → stands self.old world → live_of world ≤ high self.new }
         ensures high { (world : World) → stands self.old world → high self.new ≤ live_of world + reserve };
@@ -150,4 +169,8 @@ pub trait Turner {
     /// How many blocks were read from the disk since boot; it stands still at its type's end.
     fn reads(&self) -> u64
         ensures { (world : World) → stands self.now world → result ≡ world.reads };
+
+    /// What is kept in mind is so: the next call of such a process would block, where it is alive.
+    ghost settled_block: { (store : Self) (world : World) (pid : ℕ) → stands store world → settled store pid ≡ true → is_alive world.plain.table pid ≡ true
+        → would_block (script store) world.plain pid ≡ true };
 }

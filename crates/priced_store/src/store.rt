@@ -1,5 +1,6 @@
 //! What the core asks of the store.
-ghost use Rattle.std.specs.Prelude.{◌≡◌};
+ghost use Rattle.std.proofs.Common.{rules};
+ghost use Rattle.std.specs.Prelude.{◌≡◌, false, []};
 ghost use Rattle.priced_store.specs.declared.stages.Stage.TheVariants.{Begun};
 ghost use Rattle.priced_store.specs.Worlds.{live_in, maps};
 
@@ -55,6 +56,10 @@ impl Turner for Maps {
 
     ghost beside = { λ old pid call told new. KeepsToPrice old call new };
 
+    ghost settled = { λ _ _. false };
+
+    ghost stirred = { λ _. [] };
+
     fn next(&self, _pid: u32) -> Call {
         self.stage.call()
     }
@@ -89,6 +94,14 @@ impl Turner for Maps {
         true
     }
 
+    fn settles(&self, _pid: u32) -> bool {
+        false
+    }
+
+    fn stirred(&self) -> &[u32] {
+        &[]
+    }
+
     fn evictable(&self, _what: Cached) -> bool {
         false
     }
@@ -120,4 +133,6 @@ impl Turner for Maps {
     fn reads(&self) -> u64 {
         0
     }
+
+    ghost settled_block = { Prim.search rules };
 }

@@ -1,5 +1,6 @@
 //! A store of one process, the smallest that the core takes.
-ghost use Rattle.std.specs.Prelude.{◌≡◌, ℕ, ◌+◌, ◌%◌, ◌^◌, ◌≤◌, false, true};
+ghost use Rattle.std.proofs.Common.{rules};
+ghost use Rattle.std.specs.Prelude.{◌≡◌, ℕ, ◌+◌, ◌%◌, ◌^◌, ◌≤◌, false, true, []};
 ghost use Rattle.posix_defs.specs.World.{boot_kept};
 ghost use Rattle.shared_trials.specs.Sample.{live_at, sample, world_at};
 
@@ -66,6 +67,10 @@ impl Turner for OnePid {
 
     ghost beside = { λ _ _ _ _ _. Unit {0} };
 
+    ghost settled = { λ _ _. false };
+
+    ghost stirred = { λ _. [] };
+
     fn next(&self, _pid: u32) -> Call {
         if self.place == 0 {
             Call::Getpid
@@ -103,6 +108,14 @@ impl Turner for OnePid {
         true
     }
 
+    fn settles(&self, _pid: u32) -> bool {
+        false
+    }
+
+    fn stirred(&self) -> &[u32] {
+        &[]
+    }
+
     fn evictable(&self, _what: Cached) -> bool {
         false
     }
@@ -134,6 +147,8 @@ impl Turner for OnePid {
     fn reads(&self) -> u64 {
         0
     }
+
+    ghost settled_block = { Prim.search rules };
 }
 
 /// The process at its start.

@@ -1,6 +1,7 @@
 //! A store of two processes.
 
-ghost use Rattle.std.specs.Prelude.{◌≡◌, ◌≤◌, ◌+◌, ◌%◌, ◌^◌, max, false};
+ghost use Rattle.std.proofs.Common.{rules};
+ghost use Rattle.std.specs.Prelude.{◌≡◌, ◌≤◌, ◌+◌, ◌%◌, ◌^◌, max, false, []};
 ghost use Rattle.shared_trials.specs.declared.scenes.Scene.TheVariants.{Young};
 ghost use Rattle.shared_trials.specs.Pair.{act_as, act_of, cached_by, cached_without, call_as, can_lose, first_act, first_after, last_in, live_at, pair, scene_after, scene_killed, scene_refused, second_act, told_of, victim_in, who, world_at};
 
@@ -253,6 +254,10 @@ impl Turner for Pair {
 
     ghost beside = { λ _ _ _ _ _. Unit {0} };
 
+    ghost settled = { λ _ _. false };
+
+    ghost stirred = { λ _. [] };
+
     fn next(&self, pid: u32) -> Call {
         match act_of(who(pid), self.scene) {
             Some(act) => call_as(act),
@@ -278,6 +283,14 @@ impl Turner for Pair {
 
     fn ready(&self, _pid: u32) -> bool {
         true
+    }
+
+    fn settles(&self, _pid: u32) -> bool {
+        false
+    }
+
+    fn stirred(&self) -> &[u32] {
+        &[]
     }
 
     fn evictable(&self, what: Cached) -> bool {
@@ -311,6 +324,8 @@ impl Turner for Pair {
     fn reads(&self) -> u64 {
         0
     }
+
+    ghost settled_block = { Prim.search rules };
 }
 
 /// The first process at its start, on so much heap.

@@ -25,69 +25,34 @@ use Rattle.posix_defs.specs.Files.Descriptions.{Description, description_at}
 use Rattle.posix_defs.specs.Files.Descriptors.{Descriptor, descriptor_at, descriptor_of}
 use Rattle.posix_defs.specs.Files.State.{Files, descriptors_of}
 use Rattle.posix_defs.specs.Machine.{machine}
-use Rattle.posix_defs.specs.Plain.{Plain, answered, at_start, control_of, with_control}
+use Rattle.posix_defs.specs.Plain.{Plain, answered, at_start, call_of, control_of, with_control}
 use Rattle.posix_defs.specs.Process.{is_alive, is_alive_in, memory_in}
 use Rattle.posix_defs.specs.Turn.{Tells, TurnsTo, TurnsWhere}
 use Rattle.posix_defs.specs.World.{World}
 use Rattle.posix_defs.specs.declared.turner.Turned.{Turned}
 use Rattle.posix_defs.specs.declared.turner.Turned.TheVariants as turned
-use Rattle.waking_laws.specs.Waking.{StaysAsItWas, passes_by, wakes_nobody}
+use Rattle.waking_laws.specs.Waking.{StaysAsItWas, awaited, passes_by, wakes_nobody}
 use Rattle.waking_laws.proofs.Kin.{SameKin, same_table}
 use Rattle.waking_laws.proofs.QuietCalls.{IsQuiet, quiet_answer, same_files}
-use Rattle.waking_laws.proofs.QuietFiles.{IsAlike, KeepsQueues}
-use Rattle.waking_laws.proofs.Seeing.{SameOpened, SeesSame, blocks_alike}
-
--- ---- what a process has open
-
-module _ (who : ℕ) (old new : Files) (numbers : descriptors_of new who ≡ descriptors_of old who) (kept : KeepsQueues old new) (described : AreDescribed old) where
-  named : (fd : ℤ) (descriptor : Descriptor) → descriptor_of (descriptors_of old who) fd ≡ Some descriptor
-      → is_some (description_at old.descriptions descriptor.description) ≡ true
-  named (pos fd) descriptor held = described.named descriptor.description
-      (by_named old descriptor.description (record { who = who; fd = fd; descriptor = descriptor; held = held; names = refl }))
-  named (negsuc n) descriptor held = cc
-
-  behind : (descriptor : Descriptor) (there : Option Description) → description_at old.descriptions descriptor.description ≡ there → is_some there ≡ true
-      → SameOpened (option_map (λ (it : Description). record { place = descriptor.description; is = it }) there) (opened_by new (Some descriptor))
-  behind descriptor None is some = absurd (true_false some refl)
-  behind descriptor (Some was) is some =
-      let it : (now : Description) × (description_at new.descriptions descriptor.description ≡ Some now) × IsAlike was now = kept.described descriptor.description was is in
-      subst (λ there. SameOpened (Some (record { place = descriptor.description; is = was })) (option_map (λ (it : Description). record { place = descriptor.description; is = it }) there))
-      (sym it.1) it.2
-
-  opened_alike : (fd : ℤ) → SameOpened (opened_at old who fd) (opened_at new who fd)
-  opened_alike fd =
-      subst (λ list. SameOpened (opened_at old who fd) (opened_by new (descriptor_of list fd))) (sym numbers) (go (descriptor_of (descriptors_of old who) fd) refl)
-    where
-      go : (o : Option Descriptor) → descriptor_of (descriptors_of old who) fd ≡ o → SameOpened (opened_by old o) (opened_by new o)
-      go None is = tt
-      go (Some descriptor) is = behind descriptor _ refl (named fd descriptor is)
+use Rattle.waking_laws.proofs.QuietFiles.{KeepsDescribed}
+use Rattle.waking_laws.proofs.Seeing.{blocks_alike}
+use Rattle.waking_laws.proofs.Staying.{itself, sees, sees_queues}
 
 -- ---- a machine that is seen as the same
 
--- what a process keeps by itself, and what it may wait for
-sees : (who : ℕ) (old new : Plain) → AreDescribed old.files → control_of new who ≡ control_of old who → descriptors_of new.files who ≡ descriptors_of old.files who
-    → IsQuiet who old new → SeesSame who old new
-sees who old new described control numbers quiet = record {
-  control = control;
-  memory = ap memory_in (let kin = quiet.kin in kin.itself);
-  exited = (let kin = quiet.kin in kin.exited);
-  any = (let kin = quiet.kin in kin.any);
-  numbers = numbers;
-  opened = opened_alike who old.files new.files numbers quiet.files described;
-  pipes = (let files = quiet.files in files.pipes);
-  sockets = (let files = quiet.files in files.sockets);
-}
-
 stays_so : (script : Script) (who : ℕ) (old new : Plain) → AreDescribed old.files → control_of new who ≡ control_of old who
     → descriptors_of new.files who ≡ descriptors_of old.files who → IsQuiet who old new → StaysAsItWas script who old new
-stays_so script who old new described control numbers quiet = record {
-  lives = ap is_alive_in (let kin = quiet.kin in kin.itself);
-  waits = blocks_alike script who old new (sees who old new described control numbers quiet);
-}
+stays_so script who old new described control numbers quiet =
+    let kept : KeepsDescribed old.files new.files = (let files = quiet.files in files.described) in
+    record {
+      itself = itself who old new described control numbers kept quiet.kin script;
+      waits = blocks_alike script who old new (sees who old new described control numbers kept quiet.kin)
+          (sees_queues who old.files new.files quiet.files (awaited (call_of script old who)));
+    }
 
 -- nothing has changed
 pub nothing_changed : (script : Script) (who : ℕ) (old new : Plain) → new ≡ old → StaysAsItWas script who old new
-nothing_changed script who old new same = subst (StaysAsItWas script who old) (sym same) (record { lives = refl; waits = refl })
+nothing_changed script who old new same = subst (StaysAsItWas script who old) (sym same) (record { itself = record { lives = refl; asks = refl; opens = λ fd. refl }; waits = refl })
 
 -- another process has come further in its program
 pub came_further : (script : Script) (plain : Plain) (pid who : ℕ) (control : Control) → IsReached script plain → who ≢ pid

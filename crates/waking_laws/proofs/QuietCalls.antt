@@ -46,7 +46,7 @@ pub record IsQuiet (who : ℕ) (old new : Plain) : Type 0 where
   pub files : KeepsQueues old.files new.files
   pub kin : SameKin who old.table new.table
 
-remembers_alike : (memory : Memory) (there : Option Process) → AlikeThere there (remembering memory there)
+pub remembers_alike : (memory : Memory) (there : Option Process) → AlikeThere there (remembering memory there)
 remembers_alike memory None = tt
 remembers_alike memory (Some process) = (refl, refl)
 
@@ -57,7 +57,7 @@ works_alike directory (Some process) = (refl, refl)
 pub same_files : (files : Files) → KeepsQueues files files
 same_files files = keeps files files refl refl (same_sockets files.sockets)
 
-with_another_tree : (files : Files) (tree : Tree) → KeepsQueues files (with_tree files tree)
+pub with_another_tree : (files : Files) (tree : Tree) → KeepsQueues files (with_tree files tree)
 with_another_tree files tree = keeps files (with_tree files tree) refl refl (same_sockets files.sockets)
 
 module _ (script : Script) (plain : Plain) (pid who : ℕ) (apart : who ≢ pid) (made : who ≤ length plain.table) where

@@ -17,10 +17,15 @@ use Rattle.waking_laws.proofs.Seeing.{SameSockets}
 abbrev pub IsAlike : Description → Description → Type 0
 IsAlike was now = (now.target ≡ was.target) × (now.access ≡ was.access) × (now.nonblock ≡ was.nonblock)
 
--- Each description that was there is there still, but for its offset, and pipes and sockets are as they were.
+-- each description that was there is there still, but for its offset
+abbrev pub KeepsDescribed : Files → Files → Type 0
+KeepsDescribed old new =
+    (place : ℕ) (was : Description) → description_at old.descriptions place ≡ Some was
+    → (now : Description) × (description_at new.descriptions place ≡ Some now) × IsAlike was now
+
+-- The same, and pipes and sockets are as they were.
 pub record KeepsQueues (old new : Files) : Type 0 where
-  pub described : (place : ℕ) (was : Description) → description_at old.descriptions place ≡ Some was
-      → (now : Description) × (description_at new.descriptions place ≡ Some now) × IsAlike was now
+  pub described : KeepsDescribed old new
   pub pipes : (place : ℕ) → pipe_at new place ≡ pipe_at old place
   pub sockets : SameSockets old.sockets new.sockets
 

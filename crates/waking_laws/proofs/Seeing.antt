@@ -1,5 +1,7 @@
 -- Of two machines that a process sees as the same, its next call blocks in both or in neither.
 use Rattle.std.proofs.Common.{◌≡◌, ℕ, pos, negsuc, ℤ, ◌+◌, ◌-◌, ◌==◌, ◌&&◌, ◌||◌, nat_lt, min, Bool, true, false, if◌then◌else◌, List, [], ◌∷◌, length, map, Option, None, Some, is_some, Result, Ok, Err, refl, ap, ap₂, sym, subst, ◌∙◌}
+use Rattle.std.specs.List.{AllByRecursion}
+use Rattle.std.specs.Option.{option_map}
 use Rattle.kabi_types.specs.Arguments.{argument_fault, count_of, is_minus_one}
 use Rattle.kabi_types.specs.declared.calls.Call.{Call}
 use Rattle.kabi_types.specs.declared.calls.Call.TheVariants as call
@@ -30,6 +32,7 @@ use Rattle.posix_defs.specs.Socket.{Accepting, Stage, Idle, Listening, Connected
 use Rattle.posix_defs.specs.Sockets.{Sockets, free_at, polled_connected, polled_in_stage, read_connected, read_in_stage, sock_polled, sock_read, sock_write, socket_at, stage_at, write_in_stage, write_to, write_within, writes_no_more}
 use Rattle.posix_defs.specs.Tree.{Tree, is_directory}
 use Rattle.posix_defs.specs.Waiting.{Exited, any_from, exited_from, is_nohang, not_yet, waited_for, waitpid}
+use Rattle.waking_laws.specs.Waking.{awaited, target_at}
 
 -- ---- what a process sees of a machine
 
@@ -45,7 +48,7 @@ pub record SameSockets (old new : Sockets) : Type 0 where
   pub stage : (place : ℕ) → stage_at new place ≡ stage_at old place
   pub bytes : (place : ℕ) → (socket_at new place).bytes ≡ (socket_at old place).bytes
 
--- All that the next call of a process may wait for.
+-- All that the next call of a process may wait for, but for queues.
 pub record SeesSame (who : ℕ) (old new : Plain) : Type 0 where
   pub control : control_of new who ≡ control_of old who
   pub memory : memory_of new.table who ≡ memory_of old.table who
@@ -53,8 +56,17 @@ pub record SeesSame (who : ℕ) (old new : Plain) : Type 0 where
   pub any : (which : ℤ) → any_from who which 1 new.table ≡ any_from who which 1 old.table
   pub numbers : descriptors_of new.files who ≡ descriptors_of old.files who
   pub opened : (fd : ℤ) → SameOpened (opened_at old.files who fd) (opened_at new.files who fd)
-  pub pipes : (place : ℕ) → pipe_at new.files place ≡ pipe_at old.files place
-  pub sockets : SameSockets old.files.sockets new.files.sockets
+
+-- of what a number is open on, where that is a queue: it is the same, or all sockets are
+abbrev pub SeesQueue : Files → Files → Option Target → Type 0
+SeesQueue old new None = Unit {0}
+SeesQueue old new (Some (OnNode number)) = Unit {0}
+SeesQueue old new (Some (OnPipe place)) = pipe_at new place ≡ pipe_at old place
+SeesQueue old new (Some (OnSocket place)) = SameSockets old.sockets new.sockets
+
+-- so it is of each of these numbers of a process
+abbrev pub SeesQueues : ℕ → Files → Files → List ℤ → Type 0
+SeesQueues who old new fds = AllByRecursion (λ fd. SeesQueue old new (target_at old who fd)) fds
 
 -- ---- what it is answered
 
@@ -135,13 +147,17 @@ module _ (script : Script) (who : ℕ) (old new : Plain) (same : SeesSame who ol
           fork (any_from who which 1 new.table) (any_from who which 1 old.table) (not_yet script new who options) (failed script new who ECHILD)
           (not_yet script old who options) (failed script old who ECHILD) (same.any which) (waits_or_not (is_nohang options)) refl
 
-  on_opened : (f g : Opened → Answer) (was now : Option Opened) → SameOpened was now
-      → ((it other : Opened) → SameOpened (Some it) (Some other) → Agree (f other) (g it))
+  -- a queue that is the same, or isn't one
+  abbrev Queue : Option Target → Type 0
+  Queue target = SeesQueue old.files new.files target
+
+  on_opened : (f g : Opened → Answer) (was now : Option Opened) → SameOpened was now → Queue (option_map (λ (it : Opened). it.is.target) was)
+      → ((it other : Opened) → SameOpened (Some it) (Some other) → Queue (Some it.is.target) → Agree (f other) (g it))
       → Agree (answer_on script new who f now) (answer_on script old who g was)
-  on_opened f g None None alike each = refl
-  on_opened f g (Some it) (Some other) alike each = each it other alike
-  on_opened f g None (Some other) alike each = absurd alike
-  on_opened f g (Some it) None alike each = absurd alike
+  on_opened f g None None alike queue each = refl
+  on_opened f g (Some it) (Some other) alike queue each = each it other alike queue
+  on_opened f g None (Some other) alike queue each = absurd alike
+  on_opened f g (Some it) None alike queue each = absurd alike
 
   bytes_wait : (addr n : ℤ) (a b : Answer) → Agree a b → Agree (of_bytes script new who addr n a) (of_bytes script old who addr n b)
   bytes_wait addr n a b e = fork _ _ _ _ _ _ (ap (λ memory. is_mapped_range memory (count_of addr) (count_of n)) same.memory) (some (count_of n == 0)) refl
@@ -162,14 +178,14 @@ module _ (script : Script) (who : ℕ) (old new : Plain) (same : SeesSame who ol
   socket_read_waits place addr Blocks = refl
   socket_read_waits place addr (Fails errno) = refl
 
-  target_read_waits : (was now : Opened) (addr : ℤ) (n : ℕ) (target : Target) → now.is.nonblock ≡ was.is.nonblock
+  target_read_waits : (was now : Opened) (addr : ℤ) (n : ℕ) (target : Target) → now.is.nonblock ≡ was.is.nonblock → Queue (Some target)
       → Agree (read_target script new who now addr n target) (read_target script old who was addr n target)
-  target_read_waits was now addr n (OnNode number) alike = refl
-  target_read_waits was now addr n (OnPipe place) alike =
-      ap (λ moving. blocks (read_from_pipe script new who place addr moving)) (ap₂ (λ pipe nonblock. pipe_read pipe nonblock n) (same.pipes place) alike) ∙ pipe_read_waits place addr _
-  target_read_waits was now addr n (OnSocket place) alike =
+  target_read_waits was now addr n (OnNode number) alike queue = refl
+  target_read_waits was now addr n (OnPipe place) alike queue =
+      ap (λ moving. blocks (read_from_pipe script new who place addr moving)) (ap₂ (λ pipe nonblock. pipe_read pipe nonblock n) queue alike) ∙ pipe_read_waits place addr _
+  target_read_waits was now addr n (OnSocket place) alike queue =
       ap (λ moving. blocks (read_from_socket script new who place addr moving))
-      (reads old.files.sockets new.files.sockets same.sockets place now.is.nonblock n ∙ ap (λ nonblock. sock_read old.files.sockets place nonblock n) alike)
+      (reads old.files.sockets new.files.sockets queue place now.is.nonblock n ∙ ap (λ nonblock. sock_read old.files.sockets place nonblock n) alike)
       ∙ socket_read_waits place addr _
 
   -- a directory isn't read, and nothing else that a descriptor may be open on is one
@@ -205,13 +221,13 @@ module _ (script : Script) (who : ℕ) (old new : Plain) (same : SeesSame who ol
   file_goes_on plain opened addr n (OnPipe place) number is = cc
   file_goes_on plain opened addr n (OnSocket place) number is = cc
 
-  read_waits : (fd addr n : ℤ) → Agree (read script new who fd addr n) (read script old who fd addr n)
+  read_waits : (fd addr n : ℤ) → Queue (target_at old.files who fd) → Agree (read script new who fd addr n) (read script old who fd addr n)
   unfolding read
-  read_waits fd addr n = on_opened _ _ (opened_at old.files who fd) (opened_at new.files who fd) (same.opened fd) (λ it other alike.
+  read_waits fd addr n sees = on_opened _ _ (opened_at old.files who fd) (opened_at new.files who fd) (same.opened fd) sees (λ it other alike queue.
       fork _ _ _ _ _ _ (ap may_read alike.1)
       (unless_directory_waits it other _ _ it.is.target alike.0 refl
       (bytes_wait addr n _ _
-      (ap (λ target. blocks (read_target script new who other addr (count_of n) target)) alike.0 ∙ target_read_waits it other addr (count_of n) it.is.target alike.2))
+      (ap (λ target. blocks (read_target script new who other addr (count_of n) target)) alike.0 ∙ target_read_waits it other addr (count_of n) it.is.target alike.2 queue))
       (λ number on. file_goes_on new other addr n other.is.target number (alike.0 ∙ on))
       (λ number on. file_goes_on old it addr n it.is.target number on))
       refl)
@@ -248,26 +264,26 @@ module _ (script : Script) (who : ℕ) (old new : Plain) (same : SeesSame who ol
   queue_write_waits nonblock early n done next other Blocks = refl
   queue_write_waits nonblock early n done next other (Fails errno) = queue_stops new nonblock n done next errno ∙ sym (queue_stops old early n done other errno)
 
-  target_write_waits : (was now : Opened) (addr : ℤ) (n done : ℕ) (target : Target) → now.is.nonblock ≡ was.is.nonblock
+  target_write_waits : (was now : Opened) (addr : ℤ) (n done : ℕ) (target : Target) → now.is.nonblock ≡ was.is.nonblock → Queue (Some target)
       → Agree (write_target script new who now addr n done target) (write_target script old who was addr n done target)
-  target_write_waits was now addr n done (OnNode number) alike = file_write_waits was now _ _ _ _
-  target_write_waits was now addr n done (OnPipe place) alike =
+  target_write_waits was now addr n done (OnNode number) alike queue = file_write_waits was now _ _ _ _
+  target_write_waits was now addr n done (OnPipe place) alike queue =
       ap (λ moving. blocks (write_queue script new who now.is.nonblock n done (put_in_pipe new.files place (bytes_left new who addr n done)) moving))
-      (ap₂ (λ pipe nonblock. pipe_write pipe nonblock n (n - done)) (same.pipes place) alike)
+      (ap₂ (λ pipe nonblock. pipe_write pipe nonblock n (n - done)) queue alike)
       ∙ queue_write_waits now.is.nonblock was.is.nonblock n done _ _ _
-  target_write_waits was now addr n done (OnSocket place) alike =
-      fork _ _ _ _ _ _ (ap is_connected (let sockets = same.sockets in sockets.stage place))
+  target_write_waits was now addr n done (OnSocket place) alike queue =
+      fork _ _ _ _ _ _ (ap is_connected (queue.stage place))
       (ap (λ moving. blocks (write_queue script new who now.is.nonblock n done (put_in_socket new.files place (bytes_left new who addr n done)) moving))
-      (writes old.files.sockets new.files.sockets same.sockets place now.is.nonblock (n - done) ∙ ap (λ nonblock. sock_write old.files.sockets place nonblock (n - done)) alike)
+      (writes old.files.sockets new.files.sockets queue place now.is.nonblock (n - done) ∙ ap (λ nonblock. sock_write old.files.sockets place nonblock (n - done)) alike)
       ∙ queue_write_waits now.is.nonblock was.is.nonblock n done _ _ _)
       refl
 
-  write_waits : (fd addr n : ℤ) (done : ℕ) → Agree (write script new who fd addr n done) (write script old who fd addr n done)
+  write_waits : (fd addr n : ℤ) (done : ℕ) → Queue (target_at old.files who fd) → Agree (write script new who fd addr n done) (write script old who fd addr n done)
   unfolding write
-  write_waits fd addr n done = on_opened _ _ (opened_at old.files who fd) (opened_at new.files who fd) (same.opened fd) (λ it other alike.
+  write_waits fd addr n done sees = on_opened _ _ (opened_at old.files who fd) (opened_at new.files who fd) (same.opened fd) sees (λ it other alike queue.
       fork _ _ _ _ _ _ (ap may_write alike.1)
       (bytes_wait addr n _ _
-      (ap (λ target. blocks (write_target script new who other addr (count_of n) done target)) alike.0 ∙ target_write_waits it other addr (count_of n) done it.is.target alike.2))
+      (ap (λ target. blocks (write_target script new who other addr (count_of n) done target)) alike.0 ∙ target_write_waits it other addr (count_of n) done it.is.target alike.2 queue))
       refl)
 
   peer_waits : (listener : ℕ) (fd : Option ℕ) (accepting : Accepting)
@@ -277,42 +293,43 @@ module _ (script : Script) (who : ℕ) (old new : Plain) (same : SeesSame who ol
   peer_waits listener fd Waits = refl
   peer_waits listener fd (Refuses errno) = refl
 
-  socket_waits : (f g : ℕ → Answer) (target : Target) → ((place : ℕ) → Agree (f place) (g place))
+  socket_waits : (f g : ℕ → Answer) (target : Target) → Queue (Some target) → ((place : ℕ) → SameSockets old.files.sockets new.files.sockets → Agree (f place) (g place))
       → Agree (socket_target script new who f target) (socket_target script old who g target)
-  socket_waits f g (OnNode number) each = refl
-  socket_waits f g (OnPipe place) each = refl
-  socket_waits f g (OnSocket place) each = each place
+  socket_waits f g (OnNode number) queue each = refl
+  socket_waits f g (OnPipe place) queue each = refl
+  socket_waits f g (OnSocket place) queue each = each place queue
 
-  accept_waits : (fd : ℤ) → Agree (accept script new who fd) (accept script old who fd)
+  accept_waits : (fd : ℤ) → Queue (target_at old.files who fd) → Agree (accept script new who fd) (accept script old who fd)
   unfolding accept
-  accept_waits fd = on_opened _ _ (opened_at old.files who fd) (opened_at new.files who fd) (same.opened fd) (λ it other alike.
+  accept_waits fd sees = on_opened _ _ (opened_at old.files who fd) (opened_at new.files who fd) (same.opened fd) sees (λ it other alike queue.
       ap (λ target. blocks (socket_target script new who (accept_at script new who (lowest_free (descriptors_of new.files who)) other) target)) alike.0
-      ∙ socket_waits _ _ it.is.target (λ listener.
+      ∙ socket_waits _ _ it.is.target queue (λ listener sockets.
       ap (λ free. blocks (accepted_under script new who listener free (accept_in (stage_at new.files.sockets listener) (is_some free) other.is.nonblock))) (ap lowest_free same.numbers)
       ∙ ap₂ (λ stage nonblock. blocks (accepted_under script new who listener (lowest_free (descriptors_of old.files who)) (accept_in stage (is_some (lowest_free (descriptors_of old.files who))) nonblock)))
-      (let sockets = same.sockets in sockets.stage listener) alike.2
+      (sockets.stage listener) alike.2
       ∙ peer_waits listener _ _))
 
-  target_polls : (was now : Opened) (events : ℤ) (target : Target) → now.is.access ≡ was.is.access
+  target_polls : (was now : Opened) (events : ℤ) (target : Target) → now.is.access ≡ was.is.access → Queue (Some target)
       → polled_target new.files now.is events target ≡ polled_target old.files was.is events target
-  target_polls was now events (OnNode number) alike = refl
-  target_polls was now events (OnPipe place) alike =
-      ap₂ (λ access pipe. if may_write access then polled_to_write pipe events else polled_to_read pipe events) alike (same.pipes place)
-  target_polls was now events (OnSocket place) alike = polls old.files.sockets new.files.sockets same.sockets place events
+  target_polls was now events (OnNode number) alike queue = refl
+  target_polls was now events (OnPipe place) alike queue =
+      ap₂ (λ access pipe. if may_write access then polled_to_write pipe events else polled_to_read pipe events) alike queue
+  target_polls was now events (OnSocket place) alike queue = polls old.files.sockets new.files.sockets queue place events
 
-  entry_polls : (fd events : ℤ) → polled_at new.files who fd events ≡ polled_at old.files who fd events
-  entry_polls (negsuc n) events = refl
-  entry_polls (pos fd) events = go (opened_at old.files who (pos fd)) (opened_at new.files who (pos fd)) (same.opened (pos fd))
+  entry_polls : (fd events : ℤ) → Queue (target_at old.files who fd) → polled_at new.files who fd events ≡ polled_at old.files who fd events
+  entry_polls (negsuc n) events sees = refl
+  entry_polls (pos fd) events sees = go (opened_at old.files who (pos fd)) (opened_at new.files who (pos fd)) (same.opened (pos fd)) sees
     where
-      go : (was now : Option Opened) → SameOpened was now → polled_opened new.files events now ≡ polled_opened old.files events was
-      go None None alike = refl
-      go (Some it) (Some other) alike = ap (polled_target new.files other.is events) alike.0 ∙ target_polls it other events it.is.target alike.1
-      go None (Some other) alike = absurd alike
-      go (Some it) None alike = absurd alike
+      go : (was now : Option Opened) → SameOpened was now → Queue (option_map (λ (it : Opened). it.is.target) was)
+          → polled_opened new.files events now ≡ polled_opened old.files events was
+      go None None alike queue = refl
+      go (Some it) (Some other) alike queue = ap (polled_target new.files other.is events) alike.0 ∙ target_polls it other events it.is.target alike.1 queue
+      go None (Some other) alike queue = absurd alike
+      go (Some it) None alike queue = absurd alike
 
-  all_poll : (entries : List PollEntry) → revents_of new.files who entries ≡ revents_of old.files who entries
-  all_poll [] = refl
-  all_poll (entry ∷ entries) = ap₂ (λ one rest. one ∷ rest) (entry_polls entry.fd entry.events) (all_poll entries)
+  all_poll : (entries : List PollEntry) → SeesQueues who old.files new.files (map (λ entry. entry.fd) entries) → revents_of new.files who entries ≡ revents_of old.files who entries
+  all_poll [] sees = refl
+  all_poll (entry ∷ entries) sees = ap₂ (λ one rest. one ∷ rest) (entry_polls entry.fd entry.events sees.0) (all_poll entries sees.1)
 
   polled_waits : (timeout : ℤ) (revents : List ℕ) → Agree (polled script new who timeout revents) (polled script old who timeout revents)
   polled_waits timeout revents = go ((hits_of revents == 0) && is_minus_one timeout)
@@ -322,9 +339,10 @@ module _ (script : Script) (who : ℕ) (old new : Plain) (same : SeesSame who ol
       go true = refl
       go false = refl
 
-  poll_waits : (timeout : ℤ) (entries : List PollEntry) → Agree (poll script new who timeout entries) (poll script old who timeout entries)
+  poll_waits : (timeout : ℤ) (entries : List PollEntry) → SeesQueues who old.files new.files (map (λ entry. entry.fd) entries)
+      → Agree (poll script new who timeout entries) (poll script old who timeout entries)
   unfolding poll
-  poll_waits timeout entries = ap (λ revents. blocks (polled script new who timeout revents)) (all_poll entries) ∙ polled_waits timeout (revents_of old.files who entries)
+  poll_waits timeout entries sees = ap (λ revents. blocks (polled script new who timeout revents)) (all_poll entries sees) ∙ polled_waits timeout (revents_of old.files who entries)
 
   right_or_wrong : (fault : Option Errno) (a b : Answer) → Agree a b → Agree (unless_wrong script new who fault a) (unless_wrong script old who fault b)
   right_or_wrong None a b e = e
@@ -341,14 +359,14 @@ module _ (script : Script) (who : ℕ) (old new : Plain) (same : SeesSame who ol
   quiet : (which : Call) → may_block which ≡ false → Agree (machine script new who which) (machine script old who which)
   quiet which never = goes_on_in new which never ∙ sym (goes_on_in old which never)
 
-  all_agree : (which : Call) → Agree (machine script new who which) (machine script old who which)
-  all_agree (call.Waitpid child options) = right_or_wrong (argument_fault (call.Waitpid child options)) _ _ (child_waits child options)
-  all_agree (call.Read fd addr n) = right_or_wrong (argument_fault (call.Read fd addr n)) _ _ (read_waits fd addr n)
-  all_agree (call.Write fd addr n done) = right_or_wrong (argument_fault (call.Write fd addr n done)) _ _ (write_waits fd addr n done)
-  all_agree (call.Accept fd) = right_or_wrong (argument_fault (call.Accept fd)) _ _ (accept_waits fd)
-  all_agree (call.Poll timeout entries) = right_or_wrong (argument_fault (call.Poll timeout entries)) _ _ (poll_waits timeout entries)
-  all_agree which = quiet which refl
+  all_agree : (which : Call) → SeesQueues who old.files new.files (awaited which) → Agree (machine script new who which) (machine script old who which)
+  all_agree (call.Waitpid child options) sees = right_or_wrong (argument_fault (call.Waitpid child options)) _ _ (child_waits child options)
+  all_agree (call.Read fd addr n) sees = right_or_wrong (argument_fault (call.Read fd addr n)) _ _ (read_waits fd addr n sees.0)
+  all_agree (call.Write fd addr n done) sees = right_or_wrong (argument_fault (call.Write fd addr n done)) _ _ (write_waits fd addr n done sees.0)
+  all_agree (call.Accept fd) sees = right_or_wrong (argument_fault (call.Accept fd)) _ _ (accept_waits fd sees.0)
+  all_agree (call.Poll timeout entries) sees = right_or_wrong (argument_fault (call.Poll timeout entries)) _ _ (poll_waits timeout entries sees)
+  all_agree which sees = quiet which refl
 
-  -- its next call blocks in both or in neither
-  pub blocks_alike : would_block script new who ≡ would_block script old who
-  blocks_alike = ap (λ control. blocks (machine script new who (program.call_of script control))) same.control ∙ all_agree (call_of script old who)
+  -- its next call blocks in both or in neither, where what that waits for is the same
+  pub blocks_alike : SeesQueues who old.files new.files (awaited (call_of script old who)) → would_block script new who ≡ would_block script old who
+  blocks_alike sees = ap (λ control. blocks (machine script new who (program.call_of script control))) same.control ∙ all_agree (call_of script old who) sees

@@ -1,12 +1,17 @@
--- Which turns leave every other process's call as likely to block as it was.
-use Rattle.std.specs.Prelude.{ℕ, ◌≡◌, Bool, true, false}
+-- Which turns leave another process's call as likely to block as it was.
+use Rattle.std.specs.Prelude.{ℕ, ◌≡◌, ◌==◌, ℤ, not, Bool, true, false, List, [], ◌∷◌, map, Option, None, Some}
+use Rattle.std.specs.List.{list_any}
+use Rattle.std.specs.Option.{option_map}
 use Rattle.kabi_types.specs.declared.calls.Call.{Call}
 use Rattle.kabi_types.specs.declared.calls.Call.TheVariants as call
 use Rattle.kabi_types.specs.declared.replies.Reply.{Reply}
 use Rattle.kabi_types.specs.declared.replies.Reply.TheVariants as reply
 use Rattle.kabi_types.specs.declared.scripts.Script.{Script}
+use Rattle.posix_defs.specs.Calls.Opened.{opened_at}
+use Rattle.posix_defs.specs.Files.Descriptions.{Target, OnPipe, OnSocket}
+use Rattle.posix_defs.specs.Files.State.{Files}
 use Rattle.posix_defs.specs.Machine.{would_block}
-use Rattle.posix_defs.specs.Plain.{Plain}
+use Rattle.posix_defs.specs.Plain.{Plain, call_of}
 use Rattle.posix_defs.specs.Process.{is_alive}
 use Rattle.posix_defs.specs.declared.turner.Turned.{Turned}
 use Rattle.posix_defs.specs.declared.turner.Turned.TheVariants as turned
@@ -56,7 +61,54 @@ passes_by which (turned.Done (reply.Fail errno)) = true
 passes_by which (turned.Done told) = wakes_nobody which
 passes_by which _ = false
 
--- another process is alive still, and its next call would block exactly where it would have before
-pub record StaysAsItWas (script : Script) (who : ℕ) (old new : Plain) : Type 0 where
+-- of these the calls that give their caller a number
+abbrev pub gives_number : Call → Bool
+gives_number (call.OpenFile path flags) = true
+gives_number (call.Dup fd) = true
+gives_number call.Pipe = true
+gives_number call.Socket = true
+gives_number _ = false
+
+-- the number through which a call moves bytes, of a file or of a queue
+abbrev pub moves_through : Call → Option ℤ
+moves_through (call.Read fd addr n) = Some fd
+moves_through (call.Write fd addr n done) = Some fd
+moves_through _ = None
+
+-- ---- what a process waits for
+
+-- what a number of a process is open on; None where it isn't
+abbrev pub target_at : Files → ℕ → ℤ → Option Target
+target_at files pid fd = option_map (λ opened. opened.is.target) (opened_at files pid fd)
+
+-- the numbers of which it depends whether a call blocks
+abbrev pub awaited : Call → List ℤ
+awaited (call.Read fd addr n) = fd ∷ []
+awaited (call.Write fd addr n done) = fd ∷ []
+awaited (call.Accept fd) = fd ∷ []
+awaited (call.Poll timeout entries) = map (λ entry. entry.fd) entries
+awaited _ = []
+
+-- To move bytes of the one may change what is told of the other: both are the same pipe, or they are sockets.
+abbrev pub meet : Option Target → Option Target → Bool
+meet (Some (OnPipe place)) (Some (OnPipe other)) = place == other
+meet (Some (OnSocket place)) (Some (OnSocket other)) = true
+meet _ _ = false
+
+-- what a process's next call waits for has nothing to do with what a number of another is open on
+abbrev pub is_apart : Script → Plain → ℕ → ℕ → ℤ → Bool
+is_apart script plain who pid fd =
+    not (list_any (λ other. meet (target_at plain.files pid fd) (target_at plain.files who other)) (awaited (call_of script plain who)))
+
+-- ---- what a turn leaves of another process
+
+-- It is alive still, makes the same call next, and has its numbers open on what they were open on.
+pub record StaysItself (script : Script) (who : ℕ) (old new : Plain) : Type 0 where
   pub lives : is_alive new.table who ≡ is_alive old.table who
+  pub asks : call_of script new who ≡ call_of script old who
+  pub opens : (fd : ℤ) → target_at new.files who fd ≡ target_at old.files who fd
+
+-- The same, and its next call would block exactly where it would have before.
+pub record StaysAsItWas (script : Script) (who : ℕ) (old new : Plain) : Type 0 where
+  pub itself : StaysItself script who old new
   pub waits : would_block script new who ≡ would_block script old who

@@ -4,4 +4,8 @@
 
 mod turns;
 
-pub use turns::a_turn_that_passes_by_wakes_nobody;
+pub use turns::{
+    a_turn_leaves_others_themselves, a_turn_that_moves_bytes_leaves_its_numbers,
+    a_turn_that_moves_bytes_wakes_who_waits_there, a_turn_that_passes_by_leaves_its_numbers,
+    a_turn_that_passes_by_wakes_nobody, who_has_ended_has_nothing_open,
+};

@@ -11,9 +11,8 @@ ghost use Rattle.kern_tasks.specs.Others.{present};
 ghost use Rattle.kern_events.specs.Sleepers.{HaveEvents};
 
 use super::Core;
-use crate::sleepers::Sleepers;
 use kabi_types::Event;
-use kern_tasks::{all_have_events, count_present, present_at, task_at};
+use kern_tasks::{all_have_events, count_present, place_at, present_at};
 use posix_defs::Turner;
 
 impl<T: Turner + Drop> Core<T> {
@@ -34,34 +33,46 @@ impl<T: Turner + Drop> Core<T> {
         }
     }
 
-    /// The same where each task has an event, which then stands at the task's own place among them, and the events of no
+    /// The same where each runnable task has an event, which then stands at the task's own place among them, and the events of no
     /// process are these.
     fn named_of_all(&self, number: u32, others: &[Option<Event>]) -> Option<Event>
         requires goes_on { GoesOn T.stands (T.script self.now.store) self.now }
-        requires all { HaveEvents (T.script self.now.store).heap self.now.charged self.now.tasks }
+        requires all { HaveEvents (T.settled self.now.store) (T.script self.now.store).heap self.now.charged self.now.tasks }
         requires others { (s : CoreState) → IsAt T.stands self.now s → present others.now ≡ others_in (T.script self.now.store) s }
         requires few { length others.now ≤ 4 }
         ensures named { (s : CoreState) → IsAt T.stands self.now s → IsSound (T.script self.now.store) s → result ≡ named_by (Some number) (T.script self.now.store) s }
         ensures may { IfSome result (λ event. CanTake T.stands (T.script self.now.store) self.now event) }
     {
-        let tasks = self.tasks.len() as u32;
-        let place = number % (tasks + count_present(others));
-        match task_at(self.tasks.as_slice(), place) {
-            Some(task) => self.event_of(place as usize, task),
-            None => present_at(others, place - tasks),
+        let count = self.runnable.len() as u32;
+        let chosen = number % (count + count_present(others));
+        match place_at(self.runnable.as_slice(), chosen) {
+            Some(place) => self.event_at(place as usize),
+            None => present_at(others, chosen - count),
         }
     }
 
-    /// Whether each task has an event, whatever its process's call would do.
+    /// Whether no runnable task sleeps, and each has an event.
     fn all_go(&self) -> bool
-        ensures { result ≡ true → HaveEvents (T.script self.now.store).heap self.now.charged self.now.tasks }
+        ensures { result ≡ true → HaveEvents (T.settled self.now.store) (T.script self.now.store).heap self.now.charged self.now.tasks }
     {
-        match self.sleepers {
-            Sleepers::Nobody => {
-                self.all_fit() || all_have_events(self.tasks.as_slice(), self.room())
-            }
-            Sleepers::Told | Sleepers::Untold => false,
+        // Of each call that sleeps the store keeps in mind that it would block.
+        if self.asleep as usize + self.runnable.len() != self.tasks.len() {
+            return false;
         }
+        if self.all_fit() {
+            return true;
+        }
+        self.all_awake_go()
+    }
+
+    /// Whether no call sleeps, and each task has an event, though some wait for more than there is room for.
+    fn all_awake_go(&self) -> bool
+        ensures { result ≡ true → HaveEvents (T.settled self.now.store) (T.script self.now.store).heap self.now.charged self.now.tasks }
+    {
+        if self.asleep > 0 {
+            return false;
+        }
+        all_have_events(self.tasks.as_slice(), self.room())
     }
 
     /// The event that is taken where nothing else is chosen: the first that may be, or where a call waits in vain the first
@@ -97,8 +108,8 @@ impl<T: Turner + Drop> Core<T> {
         ensures { (s : CoreState) → IsAt T.stands self.now s → IsSound (T.script self.now.store) s
             → result ≡ slice_get (filter asks_nothing (enabled_in (T.script self.now.store) s)) 0 }
     {
-        for (place, task) in self.tasks.iter().enumerate() {
-            if let Some(event) = self.event_of(place, *task) {
+        for place in &self.runnable {
+            if let Some(event) = self.event_at(*place as usize) {
                 if asks_nothing(event) {
                     return Some(event);
                 }

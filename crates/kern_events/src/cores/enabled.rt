@@ -1,13 +1,14 @@
 //! Which events may be taken.
 
-ghost use Rattle.std.specs.Prelude.{◌≡◌, ◌||◌, ◌+◌, ◌≤◌, [], length, Some, IfSome, slice_get, true, not};
+ghost use Rattle.std.specs.Prelude.{◌≡◌, ◌||◌, ◌+◌, ◌<◌, ◌≤◌, [], length, Some, IfSome, slice_get, true, not};
 ghost use Rattle.std.specs.Option.{option_to_list};
+ghost use Rattle.posix_defs.specs.declared.phases.Task.{Task as TaskOf};
 ghost use Rattle.posix_defs.specs.World.{can_evict};
 ghost use Rattle.posix_defs.specs.CoreState.{CoreState, some_wait_in_vain, lives};
 ghost use Rattle.posix_defs.specs.SoundTasks.{IsSound};
 ghost use Rattle.posix_defs.specs.Licence.{can_evict_any, is_licensed};
 ghost use Rattle.posix_defs.specs.Choice.{events_of, enabled_in, kills_in, others_in};
-ghost use Rattle.kern_tasks.specs.View.{IsAt, HasRun, CanTake};
+ghost use Rattle.kern_tasks.specs.View.{IsAt, Has, HasRun, CanTake};
 ghost use Rattle.kern_tasks.specs.Others.{eviction, present};
 ghost use Rattle.kern_events.specs.Found.{IsFoundAt};
 
@@ -43,8 +44,8 @@ impl<T: Turner + Drop> Core<T> {
             → result + length (others_in (T.script self.now.store) s) ≡ length (enabled_in (T.script self.now.store) s) }
     {
         let mut count = 0;
-        for (place, task) in self.tasks.iter().enumerate() {
-            if self.event_of(place, *task).is_some() {
+        for place in &self.runnable {
+            if self.event_at(*place as usize).is_some() {
                 count += 1;
             }
         }
@@ -58,8 +59,8 @@ impl<T: Turner + Drop> Core<T> {
         ensures runs { HasRun T.stands (T.script self.now.store) self.now }
     {
         let mut left = i;
-        for (place, task) in self.tasks.iter().enumerate() {
-            if let Some(event) = self.event_of(place, *task) {
+        for place in &self.runnable {
+            if let Some(event) = self.event_at(*place as usize) {
                 if left == 0 {
                     return Ok(event);
                 }
@@ -70,8 +71,17 @@ impl<T: Turner + Drop> Core<T> {
     }
 
     /// The event of the task at this place, if it may be taken.
-    pub(crate) fn event_of(&self, place: usize, task: Task) -> Option<Event>
-        requires { slice_get self.now.tasks place ≡ Some task }
+    pub(crate) fn event_at(&self, place: usize) -> Option<Event>
+        requires { place < length self.now.tasks }
+        ensures { (s : CoreState) (task : TaskOf) → IsAt T.stands self.now s → IsSound (T.script self.now.store) s → slice_get self.now.tasks place ≡ Some task
+            → option_to_list result ≡ events_of (T.script self.now.store) s task.pid task.phase }
+    {
+        self.event_of(self.tasks[place])
+    }
+
+    /// The event of a task, if it may be taken.
+    fn event_of(&self, task: Task) -> Option<Event>
+        requires { Has self.now.tasks task }
         ensures { (s : CoreState) → IsAt T.stands self.now s → IsSound (T.script self.now.store) s
             → option_to_list result ≡ events_of (T.script self.now.store) s task.pid task.phase }
     {
@@ -87,7 +97,7 @@ impl<T: Turner + Drop> Core<T> {
             }
             Phase::Admitted(_) => Some(Event::Turn(pid)),
             Phase::Asleep(_) => {
-                if self.goes_on(place, task) {
+                if self.goes_on(task) {
                     Some(Event::Wake(pid))
                 } else {
                     None

@@ -1,16 +1,19 @@
 //! When a run ends.
 
-ghost use Rattle.std.specs.Prelude.{◌≡◌, ◌==◌, if◌then◌else◌, ℕ, length, Some, None, IsNone, slice_get};
+ghost use Rattle.std.specs.Prelude.{◌≡◌, ◌==◌, ◌<◌, if◌then◌else◌, ℕ, false, length, true, Some, None, IsNone, slice_get};
+ghost use Rattle.std.specs.List.{list_all};
 ghost use Rattle.std.specs.Option.{option_or};
 ghost use Rattle.kabi_types.specs.declared.entries.End.TheVariants.{Spent};
+ghost use Rattle.posix_defs.specs.declared.phases.Task.{Task as TaskOf};
 ghost use Rattle.posix_defs.specs.CoreState.{CoreState};
 ghost use Rattle.posix_defs.specs.SoundTasks.{IsSound};
 ghost use Rattle.posix_defs.specs.Ends.{all_asleep, end_of, starves_for, sleeps_on};
-ghost use Rattle.kern_tasks.specs.View.{IsAt, GoesOn};
+ghost use Rattle.kern_tasks.specs.Room.{is_asleep};
+ghost use Rattle.kern_tasks.specs.View.{Has, IsAt, GoesOn};
 
 use super::Core;
 use kabi_types::End;
-use kern_tasks::{all_sleep, is_alone, phase_of};
+use kern_tasks::{is_alone, phase_of};
 use posix_defs::{Phase, Task, Turner};
 
 impl<T: Turner + Drop> Core<T> {
@@ -84,16 +87,26 @@ impl<T: Turner + Drop> Core<T> {
     fn all_asleep(&self) -> bool
         ensures { (s : CoreState) → IsAt T.stands self.now s → IsSound (T.script self.now.store) s → result ≡ all_asleep (T.script self.now.store) s }
     {
-        // The phases mostly tell it, which asks nothing of the store.
-        all_sleep(self.tasks.as_slice()) && self.all_block()
+        // How many sleep mostly tells it, which asks nothing of the store.
+        if self.some_awake() {
+            return false;
+        }
+        self.all_block()
     }
 
-    /// The same, where the store is asked of each that sleeps.
+    /// Whether some call doesn't sleep.
+    fn some_awake(&self) -> bool
+        ensures { result ≡ true → list_all (λ task. is_asleep task.phase) self.now.tasks ≡ false }
+    {
+        (self.asleep as usize) < self.tasks.len()
+    }
+
+    /// The same, where the store is asked of each that is runnable.
     fn all_block(&self) -> bool
         ensures { (s : CoreState) → IsAt T.stands self.now s → IsSound (T.script self.now.store) s → result ≡ all_asleep (T.script self.now.store) s }
     {
-        for (place, task) in self.tasks.iter().enumerate() {
-            if !self.sleeps_on(place, *task) {
+        for place in &self.runnable {
+            if !self.sleeps_at(*place as usize) {
                 return false;
             }
         }
@@ -101,13 +114,22 @@ impl<T: Turner + Drop> Core<T> {
     }
 
     /// Whether a process sleeps on a call that would still block: that of the task at this place.
-    fn sleeps_on(&self, place: usize, task: Task) -> bool
-        requires { slice_get self.now.tasks place ≡ Some task }
+    fn sleeps_at(&self, place: usize) -> bool
+        requires { place < length self.now.tasks }
+        ensures { (s : CoreState) (task : TaskOf) → IsAt T.stands self.now s → IsSound (T.script self.now.store) s → slice_get self.now.tasks place ≡ Some task
+            → result ≡ sleeps_on (T.script self.now.store) s task.pid task.phase }
+    {
+        self.sleeps_on(self.tasks[place])
+    }
+
+    /// The same of a task.
+    fn sleeps_on(&self, task: Task) -> bool
+        requires { Has self.now.tasks task }
         ensures { (s : CoreState) → IsAt T.stands self.now s → IsSound (T.script self.now.store) s
             → result ≡ sleeps_on (T.script self.now.store) s task.pid task.phase }
     {
         match task.phase {
-            Phase::Asleep(_) => !self.goes_on(place, task),
+            Phase::Asleep(_) => !self.goes_on(task),
             _ => false,
         }
     }

@@ -1,9 +1,13 @@
 //! What each event does.
 
-ghost use Rattle.std.specs.Prelude.{◌≡◌, ℕ, ◌≤◌, ◌<◌, Some, true};
+ghost use Rattle.std.specs.Prelude.{◌≡◌, ℕ, ◌+◌, ◌%◌, ◌^◌, ◌≤◌, ◌<◌, Some, true};
 ghost use Rattle.kabi_types.specs.declared.entries.Event.TheVariants.{Ask, Admit, Turn, Wake, Abandon, Kill, Evict};
-ghost use Rattle.posix_defs.specs.Sizes.{room};
-ghost use Rattle.posix_defs.specs.World.{World};
+ghost use Rattle.posix_defs.specs.Minding.{HasNamed};
+ghost use Rattle.posix_defs.specs.Needs.{bound, slack};
+ghost use Rattle.posix_defs.specs.Plain.{call_of};
+ghost use Rattle.posix_defs.specs.Sizes.{reserve, room};
+ghost use Rattle.posix_defs.specs.Turn.{TurnsTo};
+ghost use Rattle.posix_defs.specs.World.{World, live_of};
 ghost use Rattle.posix_defs.specs.Process.{is_alive};
 ghost use Rattle.posix_defs.specs.CoreState.{asked_by};
 ghost use Rattle.posix_defs.specs.CoreEvent.{phase_after};
@@ -11,13 +15,12 @@ ghost use Rattle.posix_defs.specs.declared.turner.Turned.TheVariants.{Sleep};
 ghost use Rattle.kern_tasks.specs.View.{IsAskedFor, IsSleep, IsInside, MayTake, StaysInside, Takes, Took};
 ghost use Rattle.kern_events.specs.Sleepers.{WaitsForAtMost};
 
-use super::{Core, FIXED, MOST_TOLD, RESERVE};
+use super::{Core, FIXED, RESERVE};
 use crate::evictables::evictables_of;
-use crate::sleepers::{Sleepers, ask_of_sleepers, known_after};
 use kabi_types::{Cached, Entry, Event, Noted};
 use kern_tasks::{
-    add_born, bury, bury_ended, entry_of, first_waiting, last_noted, may_end, note, phase_of,
-    remove, set_phase,
+    add_born, bury, bury_ended, entry_of, first_waiting, last_noted, leaves_asleep, may_end, note,
+    phase_of, remove, set_phase, sort_anew, sort_stirred, sort_turned,
 };
 use need_table::need;
 use posix_defs::{Asked, Phase, Turned, Turner};
@@ -36,31 +39,6 @@ impl<T: Turner + Drop> Core<T> {
 
     /// Takes an event that is enabled, while no end holds; what is noted of it is the last of the run.
     pub fn take(&mut self, event: Event)
-        requires { MayTake T.stands (T.script self.old.store) self.old event }
-        ensures script { T.script self.new.store ≡ T.script self.old.store }
-        ensures took { Takes T.stands (T.script self.old.store) self.old event self.new }
-        ensures inside { StaysInside T.marks T.high (T.script self.old.store).heap self.old self.new }
-    {
-        self.go_through(event);
-        self.ask_of_sleepers();
-    }
-
-    /// Asks the store of the calls that sleep, where it has not been asked since it last changed.
-    fn ask_of_sleepers(&mut self)
-        ensures { self.new ≡ self.old }
-    {
-        if matches!(self.sleepers, Sleepers::Untold) && self.tasks.len() <= MOST_TOLD {
-            let some = ask_of_sleepers(&self.store, self.tasks.as_slice(), &mut self.ready);
-            self.sleepers = if some {
-                Sleepers::Told
-            } else {
-                Sleepers::Nobody
-            };
-        }
-    }
-
-    /// Does what an event does.
-    fn go_through(&mut self, event: Event)
         requires { MayTake T.stands (T.script self.old.store) self.old event }
         ensures script { T.script self.new.store ≡ T.script self.old.store }
         ensures took { Takes T.stands (T.script self.old.store) self.old event self.new }
@@ -101,9 +79,9 @@ impl<T: Turner + Drop> Core<T> {
         ensures inside { IsInside T.marks T.high (T.script self.old.store).heap self.old self.new }
     {
         self.store.refuse(pid);
-        self.sleepers = Sleepers::Untold;
         self.evictables = evictables_of(&self.store);
         set_phase(&mut self.tasks, pid, Phase::User);
+        sort_stirred(&self.store, self.tasks.as_slice(), &mut self.runnable);
         let entry = Entry::Refused {
             pid,
             kind: asked.kind,
@@ -154,15 +132,28 @@ impl<T: Turner + Drop> Core<T> {
             unreachable!()
         };
         let before = self.store.last_pid();
-        let call = self.store.next(pid);
-        let turned = self.store.turn(pid, &call, need(&call));
+        let turned = turn_next(&mut self.store, pid);
         self.evictables = evictables_of(&self.store);
         let phase = phase_after(&self.store, pid, asked, &turned);
         set_phase(&mut self.tasks, pid, phase);
-        self.sleepers = known_after(self.sleepers, phase);
         let ends = may_end(asked.kind, &turned);
         bury_ended(&self.store, &mut self.tasks, ends);
-        add_born(&mut self.tasks, before, self.store.last_pid());
+        let last = self.store.last_pid();
+        add_born(&mut self.tasks, before, last);
+        let sleeps = leaves_asleep(&turned);
+        let born = before < last;
+        let (tasks, runnable) = (self.tasks.as_slice(), &mut self.runnable);
+        let asleep = &mut self.asleep;
+        sort_turned(
+            &self.store,
+            tasks,
+            runnable,
+            asleep,
+            pid,
+            sleeps,
+            ends,
+            born,
+        );
         self.reserved -= asked.bound;
         self.charged = self.store.live() + RESERVE + self.reserved;
         let entry = entry_of(pid, asked.kind, turned);
@@ -180,6 +171,7 @@ impl<T: Turner + Drop> Core<T> {
             unreachable!()
         };
         set_phase(&mut self.tasks, pid, Phase::Waiting(asked));
+        self.asleep -= 1;
         self.most_asked = self.most_asked.max(asked.bound);
         let noted = noted_of(Event::Wake(pid), asked, None, self.charged);
         note(&mut self.run, &mut self.peak, noted);
@@ -195,7 +187,8 @@ impl<T: Turner + Drop> Core<T> {
             unreachable!()
         };
         remove(&mut self.tasks, pid);
-        self.sleepers = Sleepers::Untold;
+        let (runnable, asleep) = (&mut self.runnable, &mut self.asleep);
+        sort_anew(&self.store, self.tasks.as_slice(), runnable, asleep);
         let held = asked.bound;
         self.reserved -= held;
         self.charged -= held;
@@ -217,9 +210,10 @@ impl<T: Turner + Drop> Core<T> {
         };
         let live = self.store.live();
         self.store.kill(pid);
-        self.sleepers = Sleepers::Untold;
         self.evictables = evictables_of(&self.store);
         bury(&self.store, &mut self.tasks);
+        let (runnable, asleep) = (&mut self.runnable, &mut self.asleep);
+        sort_anew(&self.store, self.tasks.as_slice(), runnable, asleep);
         self.charged = self.store.live() + RESERVE + self.reserved;
         let noted = Noted {
             event: Event::Kill(pid),
@@ -243,8 +237,8 @@ impl<T: Turner + Drop> Core<T> {
         ensures inside { IsInside T.marks T.high (T.script self.old.store).heap self.old self.new }
     {
         self.store.evict(what);
-        self.sleepers = Sleepers::Untold;
         self.evictables = evictables_of(&self.store);
+        sort_stirred(&self.store, self.tasks.as_slice(), &mut self.runnable);
         self.charged = self.store.live() + RESERVE + self.reserved;
         let noted = Noted {
             event: Event::Evict(what),
@@ -268,6 +262,22 @@ fn noted_of(event: Event, asked: Asked, entry: Option<Entry>, charged: u64) -> N
         bound: asked.bound,
         charged,
     }
+}
+
+/// A turn of a process's next call.
+fn turn_next<T: Turner>(store: &mut T, pid: u32) -> Turned
+    requires { (world : World) × T.stands store.old world × (is_alive world.plain.table pid ≡ true)
+        × (live_of world + bound (call_of (T.script store.old) world.plain pid) + reserve ≤ (T.script store.old).heap) }
+    ensures script { T.script store.new ≡ T.script store.old }
+    ensures turned { (world : World) → T.stands store.old world → is_alive world.plain.table pid ≡ true
+        → (after : World) × T.stands store.new after × TurnsTo (T.script store.old) world pid (call_of (T.script store.old) world.plain pid) result after }
+    ensures named { HasNamed (T.settled store.old) (T.settled store.new) (T.stirred store.new) }
+    ensures marked { T.marks store.new ≡ (T.marks store.old + 1) % 2 ^ 64 }
+    ensures high { (world : World) → T.stands store.old world → is_alive world.plain.table pid ≡ true
+        → T.high store.new ≤ live_of world + bound (call_of (T.script store.old) world.plain pid) + slack (call_of (T.script store.old) world.plain pid) }
+{
+    let call = store.next(pid);
+    store.turn(pid, &call, need(&call))
 }
 
 /// The phase that a turn leaves its process in. A call that would block leaves the machine, so it is the one that was asked for;

@@ -1,6 +1,6 @@
 //! What calls wait for: room, what could go to make some, and that one that sleeps would go on.
 
-ghost use Rattle.std.specs.Prelude.{◌≡◌, Some, slice_get, true, not};
+ghost use Rattle.std.specs.Prelude.{◌≡◌, true, not};
 ghost use Rattle.std.specs.List.{list_any};
 ghost use Rattle.posix_defs.specs.World.{can_evict};
 ghost use Rattle.posix_defs.specs.CoreState.{CoreState, is_admitted, some_fits, some_wait_in_vain, is_waiting};
@@ -8,12 +8,11 @@ ghost use Rattle.posix_defs.specs.SoundTasks.{IsSound};
 ghost use Rattle.posix_defs.specs.Licence.{can_evict_any};
 ghost use Rattle.posix_defs.specs.Machine.{would_block};
 ghost use Rattle.kern_tasks.specs.Room.{is_asleep};
-ghost use Rattle.kern_tasks.specs.View.{IsAt};
+ghost use Rattle.kern_tasks.specs.View.{Has, IsAt};
 ghost use Rattle.kern_events.specs.Sleepers.{AllFit};
 ghost use Rattle.kern_events.specs.Reliefs.{first_evictable};
 
 use super::Core;
-use crate::sleepers::Sleepers;
 use kabi_types::Cached;
 use kern_tasks::{is_admitted, some_within, some_without};
 use posix_defs::{Phase, Task, Turner};
@@ -85,16 +84,13 @@ impl<T: Turner + Drop> Core<T> {
         }
     }
 
-    /// Whether the call of the task at this place, which sleeps, would go on now.
-    pub(crate) fn goes_on(&self, place: usize, task: Task) -> bool
-        requires at { slice_get self.now.tasks place ≡ Some task }
+    /// Whether the call of this task, which sleeps, would go on now.
+    pub(crate) fn goes_on(&self, task: Task) -> bool
+        requires at { Has self.now.tasks task }
         requires asleep { is_asleep task.phase ≡ true }
         ensures { (s : CoreState) → IsAt T.stands self.now s → IsSound (T.script self.now.store) s
             → result ≡ not (would_block (T.script self.now.store) s.world.plain task.pid) }
     {
-        match self.sleepers {
-            Sleepers::Told => self.ready[place],
-            Sleepers::Nobody | Sleepers::Untold => self.store.ready(task.pid),
-        }
+        self.store.ready(task.pid)
     }
 }

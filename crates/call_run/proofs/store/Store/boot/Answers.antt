@@ -9,7 +9,11 @@ use Rattle.posix_defs.specs.ValidScript.{IsValid}
 use Rattle.posix_defs.specs.World.{boot_world, live_of}
 use Rattle.store_objects.specs.Objects.{AreKept}
 use Rattle.store_objects.proofs.Booting.{boot_stands, boot_stands_for}
+use Rattle.store_objects.specs.Standing.{StandsFor}
+use Rattle.std.specs.List.{AllByRecursion}
+use Rattle.call_run.specs.Sleepers.{IsTrulyTold}
 use Rattle.call_run.specs.Stores.{Stands}
+use Rattle.call_run.proofs.Minding.{minded_alone}
 use Rattle.call_run.proofs.Resting.{mark_rests, mark_stands, with_heap}
 use Rattle.call_run.proofs.store.Store.boot.Goals as goal
 
@@ -28,17 +32,13 @@ begins script valid = few (live_of (boot_world script)) script.heap (boot_live s
     few : (live size : ℕ) → live ≡ 640 → 8192 ≤ size → live + reserve ≤ size
     few live size is least = omega (arith, is, least)
 
--- what is known at boot is stale
-never : {X : Type 0} → true ≡ false → X
-never e = cc
-
 pub returns-clause-booted : goal.returns-clause-booted
 returns-clause-booted g c =
     let objects = c.in_ok-objects.objects in
     let stands = boot_stands_for c.args.script.now c.in_ok-script.script objects c.place_of.result c.go_to_call.new.control c.requires.valid c.in_ok-script.ensures
     (c.place_of.ensures ∙ ap (place_of (codes "init")) c.items.ensures) c.go_to_call.ensures.settled
     c.go_to_call.ensures.stands c.go_to_call.ensures.rests c.in_ok-objects.ensures in
-    subst (λ script. Stands (record { script = script; objects = with_heap objects c.mark.new.self; known = c.new-2.result.items; stale = true }) (boot_world c.args.script.now)) (sym c.in_ok-script.ensures)
+    subst (λ script. Stands (record { script = script; objects = with_heap objects c.mark.new.self; sleepers = c.new-2.result }) (boot_world c.args.script.now)) (sym c.in_ok-script.ensures)
     (record {
       objects = record {
         stands = mark_stands objects c.mark.new.self c.mark.ensures c.args.script.now (boot_world c.args.script.now) stands;
@@ -46,7 +46,8 @@ returns-clause-booted g c =
         spare = begins c.args.script.now c.requires.valid;
       };
       rests = mark_rests objects c.mark.new.self c.mark.ensures;
-      told = λ fresh. never fresh;
+      told = minded_alone c.args.script.now (boot_world c.args.script.now).plain _ _ c.new-2.ensures.channels
+          (subst (AllByRecursion (IsTrulyTold c.args.script.now (boot_world c.args.script.now).plain)) (sym c.new-2.ensures.told) tt);
     })
 
 pub invariant_of-result : goal.invariant_of-result

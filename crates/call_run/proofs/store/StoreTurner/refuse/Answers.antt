@@ -1,11 +1,8 @@
 use Rattle.std.proofs.Common.{subst, sym}
-use Rattle.posix_defs.specs.Control as program
-use Rattle.posix_defs.specs.Plain.{control_of}
+use Rattle.posix_defs.specs.Minding.{HasNamed}
 use Rattle.posix_defs.specs.Relief.{refused_in}
-use Rattle.kabi_types.specs.declared.errnos.Errno.TheVariants.{ENOMEM}
-use Rattle.kabi_types.specs.declared.replies.Reply.TheVariants.{Fail}
+use Rattle.call_run.specs.Sleepers.{is_settled}
 use Rattle.call_run.specs.Stores.{IsAtRest, IsStoreOf, Stands}
-use Rattle.call_run.proofs.Telling.{told_further}
 use Rattle.call_run.proofs.store.StoreTurner.refuse.Goals as goal
 
 pub returns-clause-since : goal.returns-clause-since
@@ -14,15 +11,17 @@ returns-clause-since g c = λ world stands. c.refuse.ensures.since world (subst 
 pub returns-clause-refused : goal.returns-clause-refused
 returns-clause-refused g c = λ world stands alive.
     let before = subst (λ store. Stands store world) (sym c.self.view_is) stands in
-    let refused : Stands (record { script = c.self.inside.script; objects = c.refuse.new.objects; known = c.forget.new.known.items; stale = c.self.inside.stale }) (refused_in c.self.inside.script world c.args.pid) =
+    let refused : Stands (record { script = c.self.inside.script; objects = c.refuse.new.objects; sleepers = c.refused.new.self }) (refused_in c.self.inside.script world c.args.pid) =
     record {
       objects = c.refuse.ensures.refused world before.objects alive;
       rests = c.refuse.ensures.rests;
-      told = λ fresh.
-          told_further c.self.inside.script world.plain c.args.pid (program.after c.self.inside.script (control_of world.plain c.args.pid) (Fail ENOMEM)) c.self.inside.known.items
-          c.forget.new.known.items (c.forget.ensures.gone, c.forget.ensures.others) before.objects.reached (before.told fresh);
+      told = c.refused.ensures.minded c.self.inside.script world before.objects.reached before.told;
     } in
-    subst (λ store. Stands (record { script = c.self.inside.script; objects = c.refuse.new.objects; known = c.forget.new.known.items; stale = c.self.inside.stale }) (refused_in store.script world c.args.pid)) c.self.view_is refused
+    subst (λ store. Stands (record { script = c.self.inside.script; objects = c.refuse.new.objects; sleepers = c.refused.new.self }) (refused_in store.script world c.args.pid)) c.self.view_is refused
+
+pub returns-clause-named : goal.returns-clause-named
+returns-clause-named g c =
+    subst (λ store. HasNamed (is_settled store.sleepers.told) (is_settled c.refused.new.self.told) c.refused.new.self.stirred) c.self.view_is c.refused.ensures.named
 
 pub refuse-requires-clause-alive : goal.refuse-requires-clause-alive
 refuse-requires-clause-alive g c =

@@ -1,11 +1,14 @@
-use Rattle.std.proofs.Common.{◌≡◌, ◌<◌, ◌≤◌, ◌++◌, ◌∷◌, [], max, length, vec_capacity, refl, sym, subst, ap, ◌∙◌, arith}
+use Rattle.std.proofs.Common.{◌≡◌, ◌+◌, ◌<◌, ◌≤◌, ◌++◌, ◌∷◌, [], max, length, vec_capacity, refl, sym, subst, ap, ◌∙◌, arith}
 use Rattle.kabi_types.specs.declared.entries.Event.TheVariants.{Abandon}
 use Rattle.posix_defs.specs.declared.phases.Phase.TheVariants.{Stranded}
 use Rattle.posix_defs.specs.CoreState.{phase_in}
 use Rattle.posix_defs.specs.CoreEvent.{tasks_without}
+use Rattle.std.specs.List.{count_by}
+use Rattle.kern_tasks.specs.Room.{is_asleep}
+use Rattle.kern_tasks.specs.Runnable.{runnable_in}
 use Rattle.kern_tasks.specs.View.{MayTake}
 use Rattle.kern_tasks.proofs.TaskPlaces.{length-without}
-use Rattle.kern_tasks.proofs.NextRun.{abandons, has_room, held_back, kept_next, reserved_charged, same_asked, takes_all, rising_now}
+use Rattle.kern_tasks.proofs.NextRun.{abandons, few_tasks, has_room, held_back, kept_next, places_fit, reserved_charged, same_asked, takes_all, rising_now}
 use Rattle.kern_events.proofs.cores.Core.abandon.Goals as goal
 use Rattle.posix_defs.specs.SoundTasks.{AreRising}
 use Rattle.kern_events.proofs.Known.{waits_without_one}
@@ -47,10 +50,27 @@ invariant_of-self g c =
           (c.note.ensures.peak ∙ ap (λ n. max c.self.inside.peak n.charged) c.noted_of-noted.ensures) c.note.ensures.room c.remove.ensures.room
           (let few : length c.remove.new.tasks.items ≡ length (tasks_without c.self.inside.tasks.items c.args.pid) = ap length c.remove.ensures.items in
           let less : length (tasks_without c.self.inside.tasks.items c.args.pid) ≤ length c.self.inside.tasks.items = length-without c.self.inside.tasks.items c.args.pid in omega arith) refl;
-      sleeping = tt;
+      placed = c.sort_anew.ensures.items ∙ ap (runnable_in (g.T.Turner.settled c.self.inside.store)) c.as_slice-2.ensures.value;
+      places = let before : c.self.inside.steps + 2 ≤ vec_capacity c.self.inside.runnable = c.self.invariant.places in omega (arith, c.sort_anew.ensures.room);
+      counted = c.sort_anew.ensures.asleep ∙ ap (count_by (λ task. is_asleep task.phase)) c.as_slice-2.ensures.value;
       waiting = waits_without_one _ _ _ c.args.pid c.remove.ensures.items c.self.invariant.waiting;
       caches = c.self.invariant.caches;
     }
+
+pub sort_anew-requires-clause-few : goal.sort_anew-requires-clause-few
+sort_anew-requires-clause-few g c =
+    let few : length c.self.inside.tasks.items ≤ 100001 = few_tasks g.T.Turner.stands _ _ _ _ _ c.self.invariant.kept in
+    let many : length c.as_slice-2.result.now ≡ length (tasks_without c.self.inside.tasks.items c.args.pid) = ap length (c.as_slice-2.ensures.value ∙ c.remove.ensures.items) in
+    let less : length (tasks_without c.self.inside.tasks.items c.args.pid) ≤ length c.self.inside.tasks.items = length-without c.self.inside.tasks.items c.args.pid in
+    omega arith
+
+pub sort_anew-requires-clause-room : goal.sort_anew-requires-clause-room
+sort_anew-requires-clause-room g c =
+    let may = subst (λ core. MayTake g.T.Turner.stands (g.T.Turner.script core.store) core (Abandon c.args.pid)) (sym c.self.view_is) c.requires in
+    let many : length c.as_slice-2.result.now ≡ length (tasks_without c.self.inside.tasks.items c.args.pid) = ap length (c.as_slice-2.ensures.value ∙ c.remove.ensures.items) in
+    let less : length (tasks_without c.self.inside.tasks.items c.args.pid) ≤ length c.self.inside.tasks.items = length-without c.self.inside.tasks.items c.args.pid in
+    let fit = places_fit g.T.Turner.stands _ _ _ _ _ _ may.state (length c.as_slice-2.result.now) c.self.invariant.kept may.no_end c.self.invariant.places (omega arith) in
+    let room = fit.room in omega arith
 
 pub returns-clause-took : goal.returns-clause-took
 returns-clause-took g c =

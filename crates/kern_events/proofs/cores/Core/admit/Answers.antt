@@ -1,13 +1,15 @@
-use Rattle.std.proofs.Common.{◌<◌, length, vec_capacity, sym, subst, ap, ◌∙◌, arith}
+use Rattle.std.proofs.Common.{◌≡◌, refl, ◌<◌, length, vec_capacity, sym, subst, ap, ◌∙◌, arith}
 use Rattle.kabi_types.specs.declared.entries.Event.TheVariants.{Admit}
 use Rattle.posix_defs.specs.declared.phases.Phase.TheVariants.{Admitted, Waiting}
 use Rattle.posix_defs.specs.CoreState.{phase_in}
 use Rattle.posix_defs.specs.SoundTasks.{AreRising}
+use Rattle.kern_tasks.specs.Room.{is_asleep}
 use Rattle.kern_tasks.specs.View.{MayTake}
 use Rattle.kern_tasks.proofs.CallPasses.{admitting, kept_passed, takes_passed}
 use Rattle.kern_tasks.proofs.NextRun.{has_room, rising_now}
+use Rattle.kern_tasks.proofs.Sorting.{still_asleep, still_runnable}
 use Rattle.kern_events.proofs.cores.Core.admit.Goals as goal
-use Rattle.kern_events.proofs.Known.{known_with, waits_with}
+use Rattle.kern_events.proofs.Known.{waits_with}
 
 pub note-requires : goal.note-requires
 note-requires g c =
@@ -17,13 +19,18 @@ note-requires g c =
 
 pub invariant_of-self : goal.invariant_of-self
 invariant_of-self g c =
+    let found : phase_in c.self.inside.tasks.items c.args.pid ≡ Waiting c.in-Waiting.asked =
+    ap (λ ts. phase_in ts c.args.pid) (sym c.as_slice.ensures.value) ∙ sym c.phase_of.ensures ∙ c.in-Waiting.is in
     record {
       kept =
           kept_passed g.T.Turner.stands (Admit c.args.pid) c.args.pid Waiting Admitted (admitting c.args.pid) _ c.in-Waiting.asked _ _ _ _ _ _
           (ap (λ ts. phase_in ts c.args.pid) (sym c.as_slice.ensures.value) ∙ sym c.phase_of.ensures ∙ c.in-Waiting.is)
           c.set_phase.ensures.items (omega arith) (omega arith) c.noted_of-noted.ensures c.note.ensures.run _ _ _ _ _ _ c.self.invariant.kept
           (subst (λ core. MayTake g.T.Turner.stands (g.T.Turner.script core.store) core (Admit c.args.pid)) (sym c.self.view_is) c.requires) c.note.ensures.peak c.note.ensures.room c.set_phase.ensures.room;
-      sleeping = known_with g.T.Turner.stands _ _ _ _ c.args.pid (Admitted c.in-Waiting.asked) _ _ tt c.set_phase.ensures.items c.self.invariant.sleeping;
+      placed =
+          still_runnable (g.T.Turner.settled c.self.inside.store) _ _ c.args.pid (Admitted c.in-Waiting.asked) _ c.self.invariant.placed (ap is_asleep (found)) refl c.set_phase.ensures.items;
+      places = c.self.invariant.places;
+      counted = still_asleep _ _ c.args.pid (Waiting c.in-Waiting.asked) (Admitted c.in-Waiting.asked) _ c.self.invariant.counted (found) (λ e. (cc)) refl refl c.set_phase.ensures.items;
       waiting = waits_with _ _ _ c.args.pid (Admitted c.in-Waiting.asked) tt c.set_phase.ensures.items c.self.invariant.waiting;
       caches = c.self.invariant.caches;
     }

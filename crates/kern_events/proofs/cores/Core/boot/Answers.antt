@@ -4,8 +4,10 @@ use Rattle.posix_defs.specs.declared.phases.Task.{Task}
 use Rattle.posix_defs.specs.CoreState.{boot_state}
 use Rattle.posix_defs.specs.Memory.{no_places}
 use Rattle.posix_defs.specs.CoreRun.{IsCoreRun, boots, peak_of}
-use Rattle.std.specs.List.{AllByRecursion}
-use Rattle.kern_events.specs.Sleepers.{IsAwake, WaitsForAtMost}
+use Rattle.std.specs.List.{AllByRecursion, count_by}
+use Rattle.kern_tasks.specs.Room.{is_asleep}
+use Rattle.kern_tasks.specs.Runnable.{runnable_in}
+use Rattle.kern_events.specs.Sleepers.{WaitsForAtMost}
 use Rattle.kern_events.proofs.cores.Core.boot.Goals as goal
 
 pub invariant_of-result : goal.invariant_of-result
@@ -36,7 +38,14 @@ invariant_of-result g c =
             let same : vec_capacity c.push_reserved.new.self ≡ vec_capacity c.in_ok-tasks.tasks = c.push_reserved.ensures.capacity in
             omega arith;
       };
-      sleeping = subst (AllByRecursion (λ task. IsAwake task.phase)) (sym tasks) (tt, tt);
+      placed =
+          c.push_reserved-2.ensures.items ∙ ap (λ before. before ++ 0 ∷ []) c.in_ok-runnable.ensures.items
+          ∙ ap (runnable_in (g.T.Turner.settled c.args.store)) (sym tasks);
+      places =
+          let enough : c.args.steps + 2 ≤ vec_capacity c.in_ok-runnable.runnable = c.in_ok-runnable.ensures.capacity in
+          let same : vec_capacity c.push_reserved-2.new.self ≡ vec_capacity c.in_ok-runnable.runnable = c.push_reserved-2.ensures.capacity in
+          omega arith;
+      counted = ap (count_by (λ task. is_asleep task.phase)) (sym tasks);
       waiting = subst (AllByRecursion (λ task. WaitsForAtMost 0 task.phase)) (sym tasks) (tt, tt);
       caches = c.evictables_of-evictables.ensures;
     }

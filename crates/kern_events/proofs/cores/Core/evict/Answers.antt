@@ -1,8 +1,11 @@
-use Rattle.std.proofs.Common.{◌≡◌, ◌<◌, ◌≤◌, ◌+◌, length, vec_capacity, refl, sym, subst, arith}
+use Rattle.std.proofs.Common.{◌≡◌, ◌<◌, ◌≤◌, ◌+◌, length, vec_capacity, refl, sym, subst, ap, ◌∙◌, arith}
 use Rattle.kabi_types.specs.declared.entries.Event.TheVariants.{Evict}
+use Rattle.posix_defs.specs.SoundTasks.{AreRising}
+use Rattle.kern_tasks.specs.Runnable.{is_runnable, runnable_in}
 use Rattle.kern_tasks.specs.View.{MayTake}
 use Rattle.kern_tasks.proofs.HeapBounds.{inside}
-use Rattle.kern_tasks.proofs.NextRun.{evicted_charged, evicts, has_room, kept_next, takes_all}
+use Rattle.kern_tasks.proofs.NextRun.{evicted_charged, evicts, few_tasks, has_room, kept_next, places_fit, rising_now, takes_all}
+use Rattle.kern_tasks.proofs.Sorting.{stirred_is}
 use Rattle.kern_events.proofs.cores.Core.evict.Goals as goal
 
 pub evict-requires : goal.evict-requires
@@ -45,10 +48,38 @@ invariant_of-self g c =
           kept_next g.T.Turner.stands _ _ _ _ (Evict c.args.what) _ _ _ _ _ _ c.self.invariant.kept may
           (evicts g.T.Turner.stands _ _ may.state c.args.what _ after.0 c.live.result _ _ may.is_at may.enabled after.1 after.2 (c.live.ensures.bytes after.0 after.1))
           c.note.ensures.run refl c.note.ensures.peak c.note.ensures.room refl (omega arith) c.evict.ensures.script;
-      sleeping = tt;
+      placed =
+          c.sort_stirred.ensures.items (is_runnable (g.T.Turner.settled c.self.inside.store))
+          (c.self.invariant.placed ∙ ap (runnable_in (g.T.Turner.settled c.self.inside.store)) (sym c.as_slice.ensures.value))
+          ∙ stirred_is _ _ _ c.as_slice.result.now c.evict.ensures.named
+          ∙ ap (runnable_in (g.T.Turner.settled c.evict.new.self)) c.as_slice.ensures.value;
+      places = let before : c.self.inside.steps + 2 ≤ vec_capacity c.self.inside.runnable = c.self.invariant.places in omega (arith, c.sort_stirred.ensures.room);
+      counted = c.self.invariant.counted;
       waiting = c.self.invariant.waiting;
       caches = c.evictables_of-self-inside.ensures;
     }
+
+pub sort_stirred-requires-clause-rising : goal.sort_stirred-requires-clause-rising
+sort_stirred-requires-clause-rising g c =
+    subst (AreRising 0) (sym c.as_slice.ensures.value) (rising_now g.T.Turner.stands _ _ c.self.invariant.kept.has_run)
+
+pub sort_stirred-requires-clause-few : goal.sort_stirred-requires-clause-few
+sort_stirred-requires-clause-few g c =
+    let few : length c.self.inside.tasks.items ≤ 100001 = few_tasks g.T.Turner.stands _ _ _ _ _ c.self.invariant.kept in
+    subst (λ tasks. length tasks ≤ 100001) (sym c.as_slice.ensures.value) few
+
+pub sort_stirred-requires-clause-places : goal.sort_stirred-requires-clause-places
+sort_stirred-requires-clause-places g c = record {
+  passes = is_runnable (g.T.Turner.settled c.self.inside.store);
+  same = c.self.invariant.placed ∙ ap (runnable_in (g.T.Turner.settled c.self.inside.store)) (sym c.as_slice.ensures.value);
+}
+
+pub sort_stirred-requires-clause-room : goal.sort_stirred-requires-clause-room
+sort_stirred-requires-clause-room g c =
+    let may = subst (λ core. MayTake g.T.Turner.stands (g.T.Turner.script core.store) core (Evict c.args.what)) (sym c.self.view_is) c.requires in
+    let many : length c.as_slice.result.now ≡ length c.self.inside.tasks.items = ap length c.as_slice.ensures.value in
+    let fit = places_fit g.T.Turner.stands _ _ _ _ _ _ may.state (length c.as_slice.result.now) c.self.invariant.kept may.no_end c.self.invariant.places (omega arith) in
+    fit.room
 
 pub returns-clause-took : goal.returns-clause-took
 returns-clause-took g c =

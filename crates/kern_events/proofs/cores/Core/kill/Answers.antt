@@ -3,9 +3,12 @@ use Rattle.kabi_types.specs.declared.entries.Event.TheVariants.{Kill}
 use Rattle.posix_defs.specs.declared.phases.Phase.TheVariants.{Waiting}
 use Rattle.posix_defs.specs.CoreState.{waiting_in}
 use Rattle.kern_laws.proofs.BuriedTasks.{length-buried}
+use Rattle.std.specs.List.{count_by}
+use Rattle.kern_tasks.specs.Room.{is_asleep}
+use Rattle.kern_tasks.specs.Runnable.{runnable_in}
 use Rattle.kern_tasks.specs.View.{MayTake}
 use Rattle.kern_tasks.proofs.HeapBounds.{inside}
-use Rattle.kern_tasks.proofs.NextRun.{has_room, kept_next, kills, takes_all}
+use Rattle.kern_tasks.proofs.NextRun.{few_tasks, has_room, kept_next, kills, places_fit, takes_all}
 use Rattle.kern_tasks.proofs.Victims.{is_victim, less_charged, same_some, some_waiter}
 use Rattle.kern_events.proofs.cores.Core.kill.Goals as goal
 use Rattle.kern_events.proofs.Known.{waits_buried}
@@ -73,10 +76,32 @@ invariant_of-self g c =
           (let less : length c.bury.new.tasks.items ≤ length c.self.inside.tasks.items =
           subst (λ ts. length ts ≤ length c.self.inside.tasks.items) (sym (c.bury.ensures.items after.0 after.1)) (length-buried after.0.plain c.self.inside.tasks.items) in omega arith)
           c.kill.ensures.script;
-      sleeping = tt;
+      placed = c.sort_anew.ensures.items ∙ ap (runnable_in (g.T.Turner.settled c.kill.new.self)) c.as_slice-2.ensures.value;
+      places = let before : c.self.inside.steps + 2 ≤ vec_capacity c.self.inside.runnable = c.self.invariant.places in omega (arith, c.sort_anew.ensures.room);
+      counted = c.sort_anew.ensures.asleep ∙ ap (count_by (λ task. is_asleep task.phase)) c.as_slice-2.ensures.value;
       waiting = waits_buried _ after.0.plain _ _ (c.bury.ensures.items after.0 after.1) c.self.invariant.waiting;
       caches = c.evictables_of-self-inside.ensures;
     }
+
+pub sort_anew-requires-clause-few : goal.sort_anew-requires-clause-few
+sort_anew-requires-clause-few g c =
+    let may = subst (λ core. MayTake g.T.Turner.stands (g.T.Turner.script core.store) core (Kill c.args.pid)) (sym c.self.view_is) c.requires in
+    let victim = is_victim _ may.state c.args.pid may.enabled in
+    let after = c.kill.ensures.killed may.state.world may.is_at.stands victim.0 victim.1 in
+    let less : length c.as_slice-2.result.now ≤ length c.self.inside.tasks.items =
+    subst (λ ts. length ts ≤ length c.self.inside.tasks.items) (sym (c.as_slice-2.ensures.value ∙ c.bury.ensures.items after.0 after.1)) (length-buried after.0.plain c.self.inside.tasks.items) in
+    let few : length c.self.inside.tasks.items ≤ 100001 = few_tasks g.T.Turner.stands _ _ _ _ _ c.self.invariant.kept in
+    omega arith
+
+pub sort_anew-requires-clause-room : goal.sort_anew-requires-clause-room
+sort_anew-requires-clause-room g c =
+    let may = subst (λ core. MayTake g.T.Turner.stands (g.T.Turner.script core.store) core (Kill c.args.pid)) (sym c.self.view_is) c.requires in
+    let victim = is_victim _ may.state c.args.pid may.enabled in
+    let after = c.kill.ensures.killed may.state.world may.is_at.stands victim.0 victim.1 in
+    let less : length c.as_slice-2.result.now ≤ length c.self.inside.tasks.items =
+    subst (λ ts. length ts ≤ length c.self.inside.tasks.items) (sym (c.as_slice-2.ensures.value ∙ c.bury.ensures.items after.0 after.1)) (length-buried after.0.plain c.self.inside.tasks.items) in
+    let fit = places_fit g.T.Turner.stands _ _ _ _ _ _ may.state (length c.as_slice-2.result.now) c.self.invariant.kept may.no_end c.self.invariant.places (omega arith) in
+    let room = fit.room in omega arith
 
 pub returns-clause-took : goal.returns-clause-took
 returns-clause-took g c =

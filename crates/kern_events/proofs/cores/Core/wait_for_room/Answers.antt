@@ -2,12 +2,15 @@ use Rattle.std.proofs.Common.{◌≡◌, ◌<◌, ◌≤◌, ◌++◌, ◌∷◌
 use Rattle.kabi_types.specs.declared.entries.Event.TheVariants.{Ask}
 use Rattle.posix_defs.specs.declared.phases.Phase.TheVariants.{User, Waiting}
 use Rattle.posix_defs.specs.Sizes.{room}
+use Rattle.posix_defs.specs.CoreState.{phase_in}
 use Rattle.kern_laws.proofs.Sounds.{is_sound}
 use Rattle.kern_laws.proofs.Tasks.{found_fits, length-with}
+use Rattle.kern_tasks.specs.Room.{is_asleep}
 use Rattle.kern_tasks.specs.View.{IsAskedFor, MayTake}
 use Rattle.kern_tasks.proofs.NextRun.{asks, has_room, kept_next, takes_all, rising_now}
+use Rattle.kern_tasks.proofs.Sorting.{still_asleep, still_runnable}
 use Rattle.kern_events.proofs.cores.Core.wait_for_room.Goals as goal
-use Rattle.kern_events.proofs.Known.{known_with, waits_too}
+use Rattle.kern_events.proofs.Known.{waits_too}
 
 pub note-requires : goal.note-requires
 note-requires g c =
@@ -17,6 +20,8 @@ note-requires g c =
 
 pub invariant_of-self : goal.invariant_of-self
 invariant_of-self g c =
+    let may = subst (λ core. MayTake g.T.Turner.stands (g.T.Turner.script core.store) core (Ask c.args.pid)) (sym c.self.view_is) c.requires.may in
+    let found : phase_in c.self.inside.tasks.items c.args.pid ≡ User = ap (λ ts. phase_in ts c.args.pid) (sym may.is_at.tasks) ∙ may.enabled in
     record {
       kept =
           let stands = g.T.Turner.stands in
@@ -31,7 +36,10 @@ invariant_of-self g c =
           (c.note.ensures.run ∙ ap (λ n. c.self.inside.run.items ++ n ∷ []) c.noted_of-noted.ensures) refl
           (c.note.ensures.peak ∙ ap (λ n. max c.self.inside.peak n.charged) c.noted_of-noted.ensures) c.note.ensures.room c.set_phase.ensures.room
           (let few : length c.set_phase.new.tasks.items ≡ length c.self.inside.tasks.items = ap length c.set_phase.ensures.items ∙ length-with c.self.inside.tasks.items c.args.pid (Waiting c.args.asked) in omega arith) refl;
-      sleeping = known_with g.T.Turner.stands _ _ _ _ c.args.pid (Waiting c.args.asked) _ _ tt c.set_phase.ensures.items c.self.invariant.sleeping;
+      placed =
+          still_runnable (g.T.Turner.settled c.self.inside.store) _ _ c.args.pid (Waiting c.args.asked) _ c.self.invariant.placed (ap is_asleep (found)) refl c.set_phase.ensures.items;
+      places = c.self.invariant.places;
+      counted = still_asleep _ _ c.args.pid (User) (Waiting c.args.asked) _ c.self.invariant.counted (found) (λ e. (cc)) refl refl c.set_phase.ensures.items;
       waiting = waits_too _ _ _ _ c.args.pid c.args.asked (omega arith) c.set_phase.ensures.items c.self.invariant.waiting;
       caches = c.self.invariant.caches;
     }

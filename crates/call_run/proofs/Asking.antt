@@ -1,0 +1,138 @@
+-- The loops that ask sleepers again, from the last to the first.
+use Rattle.std.proofs.Common.{◌≡◌, ◌≢◌, ◌==◌, ℕ, zero, suc, ◌+◌, ◌-◌, ◌<◌, ◌≤◌, ℤ, Bool, true, false, if◌then◌else◌, Option, None, Some, eqb-true, List, [], ◌∷◌, drop, length, slice_set, slice_index_or, remove, refl, ap, sym, ◌∙◌, subst, arith, length-set}
+use Rattle.std.specs.List.{AllByRecursion}
+use Rattle.kabi_types.specs.declared.scripts.Script.{Script}
+use Rattle.posix_defs.specs.World.{World}
+use Rattle.posix_defs.specs.Process.{is_alive}
+use Rattle.store_objects.specs.declared.objects.Objects.{Objects}
+use Rattle.store_objects.specs.Standing.{StandsFor}
+use Rattle.call_run.specs.declared.sleepers.Sleeper.{Sleeper}
+use Rattle.call_run.specs.Sleepers.{AreFewer, AreNear, AreRising, AreTrulyTold, IsLookedAt, IsNear, IsTrulyTold, any_sleeper, is_asked, is_gone, is_known, is_learned, is_near, told_of}
+use Rattle.call_run.proofs.Telling.{each_other, rising_removed, rising_set, told_removed, told_set, told_there}
+
+-- ---- all are asked
+
+-- one is looked at: it is told truly of him and of those behind
+pub looked_truly : (script : Script) (objects : Objects) (place : ℕ) (old new : List Sleeper) → place < length old → IsLookedAt script objects old place new
+    → AreTrulyTold script objects (drop (suc place) old) → AreTrulyTold script objects (drop place new)
+looked_truly script objects place old new within (is_asked sleeper same truly) behind = λ world stands. set place old within (truly world stands) (behind world stands)
+  where
+    set : {P : Sleeper → Type 0} (at : ℕ) (ts : List Sleeper) → at < length ts → P sleeper → AllByRecursion P (drop (suc at) ts) → AllByRecursion P (drop at (slice_set ts at sleeper))
+    set at [] inside here all = absurd (omega arith)
+    set zero (t ∷ ts) inside here all = (here, all)
+    set (suc at) (t ∷ ts) inside here all = set at ts (omega arith) here all
+looked_truly script objects place old new within is_gone behind = λ world stands. gone place old (behind world stands)
+  where
+    gone : {P : Sleeper → Type 0} (at : ℕ) (ts : List Sleeper) → AllByRecursion P (drop (suc at) ts) → AllByRecursion P (drop at (remove ts at))
+    gone zero [] all = tt
+    gone (suc at) [] all = tt
+    gone zero (t ∷ ts) all = all
+    gone (suc at) (t ∷ ts) all = gone at ts all
+
+pub looked_rising : (script : Script) (objects : Objects) (place : ℕ) (old new : List Sleeper) → place < length old → IsLookedAt script objects old place new → AreRising 0 old → AreRising 0 new
+looked_rising script objects place old new within (is_asked sleeper same truly) rising = rising_set old 0 place any_sleeper sleeper rising within same
+looked_rising script objects place old new within is_gone rising = rising_removed old 0 place rising
+
+-- those before are there still
+pub looked_within : (script : Script) (objects : Objects) (place : ℕ) (old new : List Sleeper) → place < length old → IsLookedAt script objects old place new → place ≤ length new
+looked_within script objects place old new within (is_asked sleeper same truly) =
+    let many : length (slice_set old place sleeper) ≡ length old = length-set old place sleeper in omega arith
+looked_within script objects place old new within is_gone = removed old place within
+  where
+    removed : (ts : List Sleeper) (at : ℕ) → at < length ts → at ≤ length (remove ts at)
+    removed [] at inside = absurd (omega arith)
+    removed (t ∷ ts) zero inside = omega arith
+    removed (t ∷ ts) (suc at) inside = let later : at ≤ length (remove ts at) = removed ts at (omega arith) in omega arith
+
+-- ---- those who are near are asked
+
+-- those before a place are as they were
+abbrev pub AreNearFrom : Script → Objects → ℕ → ℤ → ℕ → ℕ → List Sleeper → List Sleeper → Bool → Type 0
+AreNearFrom script objects pid fd channel zero old new near = AreNear script objects pid fd channel old new near
+AreNearFrom script objects pid fd channel (suc place) (was ∷ old) (is ∷ new) near = (is ≡ was) × AreNearFrom script objects pid fd channel place old new near
+AreNearFrom script objects pid fd channel (suc place) _ _ near = ⊥
+
+module _ (script : Script) (objects : Objects) (pid : ℕ) (fd : ℤ) (channel : ℕ) where
+  -- at first all are
+  pub near_none : (told : List Sleeper) (near : Bool) → AreNearFrom script objects pid fd channel (length told) told told near
+  near_none [] near = tt
+  near_none (sleeper ∷ told) near = (refl, near_none told near)
+
+  near_more : (old new : List Sleeper) (near more : Bool) → (near ≡ true → more ≡ true) → AreNear script objects pid fd channel old new near → AreNear script objects pid fd channel old new more
+  near_more [] [] near more then asked = tt
+  near_more [] (y ∷ new) near more then asked = absurd asked
+  near_more (x ∷ old) [] near more then asked = absurd asked
+  near_more (x ∷ old) (y ∷ new) near more then asked =
+      ((asked.0.0, asked.0.1, (λ one. then (asked.0.2 one))), near_more old new near more then asked.1)
+
+  -- one more
+  pub near_step : (place : ℕ) (old new : List Sleeper) (d sleeper : Sleeper) (one near more : Bool) → place < length new → (near ≡ true → more ≡ true) → (one ≡ true → more ≡ true)
+      → IsNear script objects pid fd channel (slice_index_or new place d) sleeper one → AreNearFrom script objects pid fd channel (suc place) old new near
+      → AreNearFrom script objects pid fd channel place old (slice_set new place sleeper) more
+  near_step zero [] new d sleeper one near more within then here is asked = absurd asked
+  near_step zero (x ∷ old) [] d sleeper one near more within then here is asked = absurd asked
+  near_step zero (x ∷ old) (y ∷ new) d sleeper one near more within then here is asked =
+      ((one, subst (λ s. IsNear script objects pid fd channel s sleeper one) asked.0 is, here), near_more old new near more then asked.1)
+  near_step (suc place) [] new d sleeper one near more within then here is asked = absurd asked
+  near_step (suc place) (x ∷ old) [] d sleeper one near more within then here is asked = absurd asked
+  near_step (suc place) (x ∷ old) (y ∷ new) d sleeper one near more within then here is asked =
+      (asked.0, near_step place old new d sleeper one near more (omega arith) then here is asked.1)
+
+  -- who isn't looked at yet is alive as he was
+  pub alive_there : (world : World) (place : ℕ) (old new : List Sleeper) (d : Sleeper) (near : Bool) → AreNearFrom script objects pid fd channel (suc place) old new near
+      → AllByRecursion (λ sleeper. is_alive world.plain.table sleeper.pid ≡ true) old → is_alive world.plain.table (slice_index_or new place d).pid ≡ true
+  alive_there world place [] new d near asked all = absurd asked
+  alive_there world place (x ∷ old) [] d near asked all = absurd asked
+  alive_there world zero (x ∷ old) (y ∷ new) d near asked all = ap (λ (s : Sleeper). is_alive world.plain.table s.pid) asked.0 ∙ all.0
+  alive_there world (suc place) (x ∷ old) (y ∷ new) d near asked all = alive_there world place old new d near asked.1 all.1
+
+  same_pid : (old new : Sleeper) (one : Bool) → IsNear script objects pid fd channel old new one → new.pid ≡ old.pid
+  same_pid old new one (is_known sleeper told) = refl
+  same_pid old new one (is_learned sleeper apart) = refl
+  same_pid old new one (is_near sleeper blocks apart blocked) = refl
+
+  pub near_pid : (old new : Sleeper) (one : Bool) → IsNear script objects pid fd channel old new one → new.pid ≡ old.pid
+  near_pid = same_pid
+
+  -- all stand as they stood
+  pub near_rising : (least : ℕ) (old new : List Sleeper) (near : Bool) → AreNear script objects pid fd channel old new near → AreRising least old → AreRising least new
+  near_rising least [] [] near asked rising = tt
+  near_rising least [] (y ∷ new) near asked rising = absurd asked
+  near_rising least (x ∷ old) [] near asked rising = absurd asked
+  near_rising least (x ∷ old) (y ∷ new) near asked rising =
+      let same = same_pid x y asked.0.0 asked.0.1 in
+      (subst (λ n. least < n) (sym same) rising.0, subst (λ n. AreRising n new) (sym same) (near_rising x.pid old new near asked.1 rising.1))
+
+-- ---- of whom nothing was told nothing is
+
+never_some : {X : Type 0} {b : Bool} → Some b ≡ None → X
+never_some e = cc
+
+pub looked_fewer : (script : Script) (objects : Objects) (place : ℕ) (old new : List Sleeper) → place < length old → AreRising 0 old → IsLookedAt script objects old place new → AreFewer old new
+looked_fewer script objects place old new within rising (is_asked sleeper same truly) who none =
+    told_set old 0 place who any_sleeper sleeper rising within same ∙ go (sleeper.pid == who) refl
+  where
+    go : (b : Bool) → (sleeper.pid == who) ≡ b → (if b then Some sleeper.blocks else told_of old who) ≡ None
+    go false e = none
+    go true e =
+        let own : who ≡ (slice_index_or old place any_sleeper).pid = sym (eqb-true sleeper.pid who e) ∙ same in
+        never_some (sym (ap (told_of old) own ∙ told_there old 0 place any_sleeper rising within) ∙ none)
+looked_fewer script objects place old new within rising is_gone who none =
+    told_removed old 0 place who any_sleeper rising within ∙ go ((slice_index_or old place any_sleeper).pid == who)
+  where
+    go : (b : Bool) → (if b then None else told_of old who) ≡ None
+    go true = refl
+    go false = none
+
+-- the same pids, in turn
+pub same_fewer : (old new : List Sleeper) (pid : ℕ) → told_of old pid ≡ None → ((P : ℕ → Type 0) → AllByRecursion (λ sleeper. P sleeper.pid) old → AllByRecursion (λ sleeper. P sleeper.pid) new)
+    → told_of new pid ≡ None
+same_fewer old new pid none pids = untold new (pids (λ n. n ≢ pid) (each_other old pid none))
+  where
+    untold : (ts : List Sleeper) → AllByRecursion (λ sleeper. sleeper.pid ≢ pid) ts → told_of ts pid ≡ None
+    untold [] all = refl
+    untold (sleeper ∷ ts) all = go (sleeper.pid == pid) refl (untold ts all.1)
+      where
+        go : (b : Bool) → (sleeper.pid == pid) ≡ b → told_of ts pid ≡ None → (if b then Some sleeper.blocks else told_of ts pid) ≡ None
+        go true e later = absurd (all.0 (eqb-true sleeper.pid pid e))
+        go false e later = later

@@ -1,0 +1,33 @@
+use Rattle.std.proofs.Common.{◌≡◌, sym, ap, subst, ◌∙◌}
+use Rattle.call_run.specs.Sleepers.{AreMinded, came_of, stirs_of}
+use Rattle.call_run.proofs.Minding.{nobody_forgotten, nobody_stirred}
+use Rattle.call_run.proofs.sleepers.Sleepers.stir.Goals as goal
+
+pub touch-requires-clause-behind : goal.touch-requires-clause-behind
+touch-requires-clause-behind c =
+    let b = c.requires.behind in
+    (b.0, b.1, c.args.call.now, b.2, b.3, ap (stirs_of c.args.call.now) (sym b.4) ∙ sym c.stirs_of.ensures ∙ c.in-Through.is)
+
+pub returns-in-Through-clause-minded : goal.returns-in-Through-clause-minded
+returns-in-Through-clause-minded c = λ old new told behind came.
+    c.touch.ensures.minded old new c.args.call.now told behind (ap (stirs_of c.args.call.now) (sym came) ∙ sym c.stirs_of.ensures ∙ c.in-Through.is)
+
+pub ask_all-requires-clause-stands : goal.ask_all-requires-clause-stands
+ask_all-requires-clause-stands c = let b = c.requires.behind in (b.1, let behind = b.3 in behind.stands)
+
+pub returns-in-Everybody-clause-minded : goal.returns-in-Everybody-clause-minded
+returns-in-Everybody-clause-minded c = λ old new told behind came. c.ask_all.ensures.minded new behind.stands
+
+pub returns-in-Everybody-clause-up : goal.returns-in-Everybody-clause-up
+returns-in-Everybody-clause-up c = c.ask_all.ensures.fewer c.args.pid c.requires.up
+
+pub returns-else-gives_number-clause-minded : goal.returns-else-gives_number-clause-minded
+returns-else-gives_number-clause-minded c = λ old new told behind came.
+    nobody_stirred c.args.script.now c.args.objects.now old new c.args.pid c.args.call.now told _ _ behind c.requires.up
+    (ap (stirs_of c.args.call.now) (sym came) ∙ sym c.stirs_of.ensures ∙ c.in-Nobody.is) (sym c.gives_number.ensures ∙ c.if-gives_number.false)
+
+pub returns-then-gives_number-clause-minded : goal.returns-then-gives_number-clause-minded
+returns-then-gives_number-clause-minded c = λ old new told behind came.
+    subst (λ ts. AreMinded c.args.script.now new.plain ts c.forget_channels.new.self.channels) (sym c.forget_channels.ensures.told)
+    (nobody_forgotten c.args.script.now c.args.objects.now old new c.args.pid c.args.call.now told _ _ behind c.requires.up c.forget_channels.new.self.channels c.forget_channels.ensures.channels
+    (ap (stirs_of c.args.call.now) (sym came) ∙ sym c.stirs_of.ensures ∙ c.in-Nobody.is))

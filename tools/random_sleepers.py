@@ -1,0 +1,61 @@
+"""Programs of many processes that share a few pipes and sockets and mostly sleep on them, for tools/random_scripts.py."""
+
+EVENTS = ["POLLIN"] * 7 + ["POLLOUT", "POLLIN|POLLOUT", "0"]
+SIZES = [0, 1, 7, 512, 513, 4000, 4096, 5000]
+# How often one who mostly sleeps and one who mostly works makes each call, in the order of `call`.
+SLEEPER = [40, 40, 3, 5, 4, 2, .2, .3, .2, .2, .1, .1, .3, .3, .3, .2]
+WORKER = [4, 16, 24, 3, 2, 8, 1, 2, .5, 1, .4, .6, 1, 1, 1, .3]
+
+
+class Crowd:
+    """A first process that makes pipes and pairs of sockets, and children of it that call on these, each in rounds of its own."""
+
+    def __init__(self, rng):
+        self.rng = rng
+        self.pairs = [rng.choice(["pipe", "pipe", "socketpair"]) for _ in range(rng.randint(1, 4))]
+        self.children = rng.choice([6, 12, 20, 30, 45])
+        self.has_listener = rng.random() < 0.3
+        self.numbers = 2 * len(self.pairs) + self.has_listener
+
+    def number(self):
+        """A number that is mostly open."""
+        return self.rng.randint(0, self.numbers) if self.rng.random() < 0.97 else self.rng.randint(-1, 31)
+
+    def poll(self):
+        entries = " ".join(f"{self.number()} {self.rng.choice(EVENTS)}" for _ in range(self.rng.randint(1, 8)))
+        return f"r9 = poll {self.rng.choice([-1, -1, -1, 0])} {entries}"
+
+    def call(self, weights):
+        rng = self.rng
+        return rng.choices([
+            self.poll,
+            lambda: f"r9 = read {self.number()} r1 {rng.choice(SIZES)}",
+            lambda: f"r9 = write {self.number()} r1 {rng.choice(SIZES)}",
+            lambda: f"r9 r10 = waitpid {rng.choice([-1, -1, rng.randint(1, 40)])} {rng.choice(['0', '0', 'WNOHANG'])}",
+            lambda: f"r9 = accept {self.number()}",
+            lambda: f"r9 = {rng.choice(['getpid', 'sched_yield', 'getppid'])}",
+            lambda: f"r9 = close {self.number()}",
+            lambda: f"r9 = {rng.choice(['dup', 'fstat'])} {self.number()}",
+            lambda: f"r9 = dup2 {self.number()} {self.number()}",
+            lambda: f"r9 = fcntl {self.number()} F_SETFL {rng.choice(['0', 'O_NONBLOCK'])}",
+            lambda: f"r9 = shutdown {self.number()} {rng.choice(['SHUT_RD', 'SHUT_WR', 'SHUT_RDWR'])}",
+            lambda: f"r9 = kill {rng.randint(1, self.children + 3)} {rng.choice(['0', '9', '9'])}",
+            lambda: "r9 r10 = pipe",
+            lambda: 'r9 = open "/f" O_RDWR|O_CREAT',
+            lambda: 'r9 = connect 2 "/s"',
+            lambda: "exit 0",
+        ], weights)[0]()
+
+    def rounds(self, name, works):
+        """Some calls, over and over."""
+        rng = self.rng
+        calls = [self.call(WORKER if works else SLEEPER) for _ in range(rng.randint(1, 6))]
+        return [f"set r13 {rng.choice([3, 20, 100])}", f"label {name}", *calls, f"loop r13 {name}"]
+
+    def lines(self):
+        made = [line for at, pair in enumerate(self.pairs) for line in [f"r2 r3 = {pair}"]]
+        listener = ["r2 = socket", 'r3 = bind r2 "/s"', "r3 = listen r2"] if self.has_listener else []
+        forks = [line for child in range(self.children) for line in ("r15 = fork", f"if r15 == 0 child{child}")]
+        children = [line for child in range(self.children)
+                    for line in (f"label child{child}", *self.rounds(f"again{child}", self.rng.random() < 0.15), "exit 0")]
+        return ["r1 = mmap 8192", *made, *listener, *forks, *self.rounds("again", True), "exit 0", *children]
