@@ -18,13 +18,21 @@ use Rattle.store_objects.specs.Uses.{UsesAtMost}
 use Rattle.store_objects.specs.declared.purses.Target.TheVariants.{File, Queue}
 use Rattle.file_calls.specs.Bytes.{ReadsCached}
 use Rattle.call_run.proofs.BytesCached.{queue_cached}
-use Rattle.call_run.proofs.Dispatch.{does_one, does_that, does_three, does_two, done_is, serves_that, spelt_four, spelt_one, spelt_three, spelt_two}
+use Rattle.call_run.proofs.Dispatch.{does_one, does_that, does_three, does_two, done_is, named_as, serves_that, spelt_four, spelt_one, spelt_three, spelt_two}
 use Rattle.call_run.proofs.Naming.{has_file_need, has_need, may_fetch, paths_of_it, right_that, room_kept, room_less, walks_connecting, walks_one, walks_opening, walks_two}
 use Rattle.call_run.proofs.OnFiles.{fresh_is}
 use Rattle.call_run.proofs.Reaching.{served, unnamed_served}
-use Rattle.call_run.specs.Families.{IsOffFiles, IsOnFile, is_moving}
+use Rattle.call_run.specs.Families.{IsOffFiles, IsOnFile, is_moving, number_of}
 use Rattle.kabi_types.specs.declared.calls.Call.TheVariants as call
 use Rattle.call_run.proofs.calls.run_right.Goals as goal
+
+-- ---- what the number names
+
+pub named_by-named-requires-clause-kept : goal.named_by-named-requires-clause-kept
+named_by-named-requires-clause-kept c = (c.args.script.now, c.requires.stands.1.kept)
+
+pub named_by-named-requires-clause-placed : goal.named_by-named-requires-clause-placed
+named_by-named-requires-clause-placed c = c.requires.caller.placed
 
 -- ---- Getpid
 
@@ -422,6 +430,9 @@ returns-in-OpenFile-clause-cached c = subst (λ which. ReadsCached c.args.object
 pub close-requires-clause-runs : goal.close-requires-clause-runs
 close-requires-clause-runs c = caller_runs c.args.objects.now c.args.caller.now.place.pid c.args.caller.now c.requires.caller
 
+pub close-requires-clause-opened : goal.close-requires-clause-opened
+close-requires-clause-opened c = c.named_by-named.ensures.opened
+
 pub close-requires-clause-placed : goal.close-requires-clause-placed
 close-requires-clause-placed c = c.requires.caller.placed
 
@@ -436,8 +447,8 @@ returns-in-Close-clause-uses c = uses_more c.args.objects.now.heap c.close.new.o
 
 pub returns-in-Close-clause-does : goal.returns-in-Close-clause-does
 returns-in-Close-clause-does c =
-    serves_that c.args.script.now c.args.objects.now c.close.new.objects c.args.caller.now.place.pid c.args.call.now (call.Close (to_z w64 (of_z w64 c.in-Close.fd))) c.close.result
-    (spelt_one c.args.call.now call.Close c.in-Close.fd c.in-Close.is (search (rules, to_z-of_z))) c.close.ensures.does
+    serves_that c.args.script.now c.args.objects.now c.close.new.objects c.args.caller.now.place.pid c.args.call.now (call.Close c.named_by-named.result.fd) c.close.result
+    (named_as c.args.call.now call.Close c.in-Close.fd c.named_by-named.result.fd c.in-Close.is (c.named_by-named.ensures.number c.in-Close.fd (ap number_of c.in-Close.is))) c.close.ensures.does
 
 pub returns-in-Close-clause-cached : goal.returns-in-Close-clause-cached
 returns-in-Close-clause-cached c = subst (λ which. ReadsCached c.args.objects.now c.args.caller.now.place.pid which c.close.result c.close.new.objects) (sym c.in-Close.is) tt
@@ -446,6 +457,9 @@ returns-in-Close-clause-cached c = subst (λ which. ReadsCached c.args.objects.n
 
 pub dup-requires-clause-runs : goal.dup-requires-clause-runs
 dup-requires-clause-runs c = caller_runs c.args.objects.now c.args.caller.now.place.pid c.args.caller.now c.requires.caller
+
+pub dup-requires-clause-opened : goal.dup-requires-clause-opened
+dup-requires-clause-opened c = c.named_by-named.ensures.opened
 
 pub dup-requires-clause-placed : goal.dup-requires-clause-placed
 dup-requires-clause-placed c = c.requires.caller.placed
@@ -465,8 +479,8 @@ returns-in-Dup-clause-uses c =
 pub returns-in-Dup-clause-does : goal.returns-in-Dup-clause-does
 returns-in-Dup-clause-does c =
     unnamed_served c.args.script.now c.args.objects.now c.dup.new.objects c.args.caller.now.place.pid c.args.call.now c.dup.result (λ plain. answer_to c.args.script.now plain c.args.caller.now.place.pid c.args.call.now) (ap path_to_leave c.in-Dup.is)
-    (does_one c.args.script.now c.args.objects.now c.dup.new.objects c.args.caller.now.place.pid c.args.call.now c.dup.result call.Dup c.in-Dup.fd c.in-Dup.is
-    (search (rules, to_z-of_z)) c.dup.ensures.does)
+    (does_that c.args.script.now c.args.objects.now c.dup.new.objects c.args.caller.now.place.pid c.args.call.now (call.Dup c.named_by-named.result.fd) c.dup.result
+    (named_as c.args.call.now call.Dup c.in-Dup.fd c.named_by-named.result.fd c.in-Dup.is (c.named_by-named.ensures.number c.in-Dup.fd (ap number_of c.in-Dup.is))) c.dup.ensures.does)
 
 pub returns-in-Dup-clause-cached : goal.returns-in-Dup-clause-cached
 returns-in-Dup-clause-cached c = subst (λ which. ReadsCached c.args.objects.now c.args.caller.now.place.pid which c.dup.result c.dup.new.objects) (sym c.in-Dup.is) tt
@@ -475,6 +489,9 @@ returns-in-Dup-clause-cached c = subst (λ which. ReadsCached c.args.objects.now
 
 pub dup2-requires-clause-runs : goal.dup2-requires-clause-runs
 dup2-requires-clause-runs c = caller_runs c.args.objects.now c.args.caller.now.place.pid c.args.caller.now c.requires.caller
+
+pub dup2-requires-clause-opened : goal.dup2-requires-clause-opened
+dup2-requires-clause-opened c = c.named_by-named.ensures.opened
 
 pub dup2-requires-clause-placed : goal.dup2-requires-clause-placed
 dup2-requires-clause-placed c = c.requires.caller.placed
@@ -488,16 +505,16 @@ dup2-requires-clause-stands c = (c.requires.stands.0, c.requires.stands.1, c.req
 
 pub dup2-requires-clause-room : goal.dup2-requires-clause-room
 dup2-requires-clause-room c =
-    subst (λ w. live_bytes c.args.objects.now.heap + bound w + reserve ≤ c.args.objects.now.heap.heap) (spelt_two c.args.call.now call.Dup2 c.in-Dup2.fd c.in-Dup2.to c.in-Dup2.is (search (rules, to_z-of_z)) (search (rules, to_z-of_z))) c.requires.room
+    subst (λ w. live_bytes c.args.objects.now.heap + bound w + reserve ≤ c.args.objects.now.heap.heap) (spelt_one c.args.call.now (call.Dup2 c.named_by-named.result.fd) c.in-Dup2.to (named_as c.args.call.now (λ x. call.Dup2 x c.in-Dup2.to) c.in-Dup2.fd c.named_by-named.result.fd c.in-Dup2.is (c.named_by-named.ensures.number c.in-Dup2.fd (ap number_of c.in-Dup2.is))) (search (rules, to_z-of_z))) c.requires.room
 
 pub returns-in-Dup2-clause-uses : goal.returns-in-Dup2-clause-uses
 returns-in-Dup2-clause-uses c =
-    subst (λ w. UsesAtMost c.args.objects.now.heap c.dup2.new.objects.heap (bound w) (slack w)) (sym (spelt_two c.args.call.now call.Dup2 c.in-Dup2.fd c.in-Dup2.to c.in-Dup2.is (search (rules, to_z-of_z)) (search (rules, to_z-of_z)))) c.dup2.ensures.uses
+    subst (λ w. UsesAtMost c.args.objects.now.heap c.dup2.new.objects.heap (bound w) (slack w)) (sym (spelt_one c.args.call.now (call.Dup2 c.named_by-named.result.fd) c.in-Dup2.to (named_as c.args.call.now (λ x. call.Dup2 x c.in-Dup2.to) c.in-Dup2.fd c.named_by-named.result.fd c.in-Dup2.is (c.named_by-named.ensures.number c.in-Dup2.fd (ap number_of c.in-Dup2.is))) (search (rules, to_z-of_z)))) c.dup2.ensures.uses
 
 pub returns-in-Dup2-clause-does : goal.returns-in-Dup2-clause-does
 returns-in-Dup2-clause-does c =
-    serves_that c.args.script.now c.args.objects.now c.dup2.new.objects c.args.caller.now.place.pid c.args.call.now (call.Dup2 (to_z w64 (of_z w64 c.in-Dup2.fd)) (to_z w64 (of_z w64 c.in-Dup2.to))) c.dup2.result
-    (spelt_two c.args.call.now call.Dup2 c.in-Dup2.fd c.in-Dup2.to c.in-Dup2.is (search (rules, to_z-of_z)) (search (rules, to_z-of_z))) c.dup2.ensures.does
+    serves_that c.args.script.now c.args.objects.now c.dup2.new.objects c.args.caller.now.place.pid c.args.call.now (call.Dup2 c.named_by-named.result.fd (to_z w64 (of_z w64 c.in-Dup2.to))) c.dup2.result
+    (spelt_one c.args.call.now (call.Dup2 c.named_by-named.result.fd) c.in-Dup2.to (named_as c.args.call.now (λ x. call.Dup2 x c.in-Dup2.to) c.in-Dup2.fd c.named_by-named.result.fd c.in-Dup2.is (c.named_by-named.ensures.number c.in-Dup2.fd (ap number_of c.in-Dup2.is))) (search (rules, to_z-of_z))) c.dup2.ensures.does
 
 pub returns-in-Dup2-clause-cached : goal.returns-in-Dup2-clause-cached
 returns-in-Dup2-clause-cached c = subst (λ which. ReadsCached c.args.objects.now c.args.caller.now.place.pid which c.dup2.result c.dup2.new.objects) (sym c.in-Dup2.is) tt
@@ -506,6 +523,9 @@ returns-in-Dup2-clause-cached c = subst (λ which. ReadsCached c.args.objects.no
 
 pub fcntl-requires-clause-runs : goal.fcntl-requires-clause-runs
 fcntl-requires-clause-runs c = caller_runs c.args.objects.now c.args.caller.now.place.pid c.args.caller.now c.requires.caller
+
+pub fcntl-requires-clause-opened : goal.fcntl-requires-clause-opened
+fcntl-requires-clause-opened c = c.named_by-named.ensures.opened
 
 pub fcntl-requires-clause-placed : goal.fcntl-requires-clause-placed
 fcntl-requires-clause-placed c = c.requires.caller.placed
@@ -525,8 +545,8 @@ returns-in-Fcntl-clause-uses c =
 pub returns-in-Fcntl-clause-does : goal.returns-in-Fcntl-clause-does
 returns-in-Fcntl-clause-does c =
     unnamed_served c.args.script.now c.args.objects.now c.fcntl.new.objects c.args.caller.now.place.pid c.args.call.now c.fcntl.result (λ plain. answer_to c.args.script.now plain c.args.caller.now.place.pid c.args.call.now) (ap path_to_leave c.in-Fcntl.is)
-    (does_three c.args.script.now c.args.objects.now c.fcntl.new.objects c.args.caller.now.place.pid c.args.call.now c.fcntl.result call.Fcntl c.in-Fcntl.fd c.in-Fcntl.cmd c.in-Fcntl.arg c.in-Fcntl.is
-    (search (rules, to_z-of_z)) (search (rules, to_z-of_z)) (search (rules, to_z-of_z)) c.fcntl.ensures.does)
+    (does_two c.args.script.now c.args.objects.now c.fcntl.new.objects c.args.caller.now.place.pid c.args.call.now c.fcntl.result (call.Fcntl c.named_by-named.result.fd) c.in-Fcntl.cmd c.in-Fcntl.arg
+    (named_as c.args.call.now (λ x. call.Fcntl x c.in-Fcntl.cmd c.in-Fcntl.arg) c.in-Fcntl.fd c.named_by-named.result.fd c.in-Fcntl.is (c.named_by-named.ensures.number c.in-Fcntl.fd (ap number_of c.in-Fcntl.is))) (search (rules, to_z-of_z)) (search (rules, to_z-of_z)) c.fcntl.ensures.does)
 
 pub returns-in-Fcntl-clause-cached : goal.returns-in-Fcntl-clause-cached
 returns-in-Fcntl-clause-cached c = subst (λ which. ReadsCached c.args.objects.now c.args.caller.now.place.pid which c.fcntl.result c.fcntl.new.objects) (sym c.in-Fcntl.is) tt
@@ -536,24 +556,27 @@ returns-in-Fcntl-clause-cached c = subst (λ which. ReadsCached c.args.objects.n
 pub read-requires-clause-runs : goal.read-requires-clause-runs
 read-requires-clause-runs c = caller_runs c.args.objects.now c.args.caller.now.place.pid c.args.caller.now c.requires.caller
 
+pub read-requires-clause-opened : goal.read-requires-clause-opened
+read-requires-clause-opened c = c.named_by-named.ensures.opened
+
 pub read-requires-clause-placed : goal.read-requires-clause-placed
 read-requires-clause-placed c = c.requires.caller.placed
 
 pub read-requires-clause-right : goal.read-requires-clause-right
-read-requires-clause-right c = right_that c.args.call.now (call.Read (to_z w64 (of_z w64 c.in-Read.fd)) (to_z w64 (of_z w64 c.in-Read.addr)) (to_z w64 (of_z w64 c.in-Read.n))) c.requires.right (spelt_three c.args.call.now call.Read c.in-Read.fd c.in-Read.addr c.in-Read.n c.in-Read.is (search (rules, to_z-of_z)) (search (rules, to_z-of_z)) (search (rules, to_z-of_z)))
+read-requires-clause-right c = right_that c.args.call.now (call.Read c.named_by-named.result.fd (to_z w64 (of_z w64 c.in-Read.addr)) (to_z w64 (of_z w64 c.in-Read.n))) c.requires.right (spelt_two c.args.call.now (call.Read c.named_by-named.result.fd) c.in-Read.addr c.in-Read.n (named_as c.args.call.now (λ x. call.Read x c.in-Read.addr c.in-Read.n) c.in-Read.fd c.named_by-named.result.fd c.in-Read.is (c.named_by-named.ensures.number c.in-Read.fd (ap number_of c.in-Read.is))) (search (rules, to_z-of_z)) (search (rules, to_z-of_z)))
 
 pub read-requires-clause-may : goal.read-requires-clause-may
 read-requires-clause-may c =
-    may_fetch c.args.objects.now.heap c.purse_for-paid.result c.args.need c.args.call.now (call.Read (to_z w64 (of_z w64 c.in-Read.fd)) (to_z w64 (of_z w64 c.in-Read.addr)) (to_z w64 (of_z w64 c.in-Read.n))) (c.purse_for-paid.ensures.value ∙ ap (λ t. unspent (need_for t c.args.need)) c.in-File.is) c.requires.needed c.requires.right
-    (spelt_three c.args.call.now call.Read c.in-Read.fd c.in-Read.addr c.in-Read.n c.in-Read.is (search (rules, to_z-of_z)) (search (rules, to_z-of_z)) (search (rules, to_z-of_z))) refl (room_less c.args.objects.now.heap c.args.call.now c.requires.room)
+    may_fetch c.args.objects.now.heap c.purse_for-paid.result c.args.need c.args.call.now (call.Read c.named_by-named.result.fd (to_z w64 (of_z w64 c.in-Read.addr)) (to_z w64 (of_z w64 c.in-Read.n))) (c.purse_for-paid.ensures.value ∙ ap (λ t. unspent (need_for t c.args.need)) c.in-File.is) c.requires.needed c.requires.right
+    (spelt_two c.args.call.now (call.Read c.named_by-named.result.fd) c.in-Read.addr c.in-Read.n (named_as c.args.call.now (λ x. call.Read x c.in-Read.addr c.in-Read.n) c.in-Read.fd c.named_by-named.result.fd c.in-Read.is (c.named_by-named.ensures.number c.in-Read.fd (ap number_of c.in-Read.is))) (search (rules, to_z-of_z)) (search (rules, to_z-of_z))) refl (room_less c.args.objects.now.heap c.args.call.now c.requires.room)
 
 pub read-requires-clause-needed : goal.read-requires-clause-needed
 read-requires-clause-needed c =
-    has_file_need c.args.objects.now.heap c.purse_for-paid.result c.args.need c.args.call.now (call.Read (to_z w64 (of_z w64 c.in-Read.fd)) (to_z w64 (of_z w64 c.in-Read.addr)) (to_z w64 (of_z w64 c.in-Read.n))) (c.purse_for-paid.ensures.value ∙ ap (λ t. unspent (need_for t c.args.need)) c.in-File.is) c.requires.needed c.requires.right
-    (spelt_three c.args.call.now call.Read c.in-Read.fd c.in-Read.addr c.in-Read.n c.in-Read.is (search (rules, to_z-of_z)) (search (rules, to_z-of_z)) (search (rules, to_z-of_z)))
+    has_file_need c.args.objects.now.heap c.purse_for-paid.result c.args.need c.args.call.now (call.Read c.named_by-named.result.fd (to_z w64 (of_z w64 c.in-Read.addr)) (to_z w64 (of_z w64 c.in-Read.n))) (c.purse_for-paid.ensures.value ∙ ap (λ t. unspent (need_for t c.args.need)) c.in-File.is) c.requires.needed c.requires.right
+    (spelt_two c.args.call.now (call.Read c.named_by-named.result.fd) c.in-Read.addr c.in-Read.n (named_as c.args.call.now (λ x. call.Read x c.in-Read.addr c.in-Read.n) c.in-Read.fd c.named_by-named.result.fd c.in-Read.is (c.named_by-named.ensures.number c.in-Read.fd (ap number_of c.in-Read.is))) (search (rules, to_z-of_z)) (search (rules, to_z-of_z)))
 
 pub read-requires-clause-on : goal.read-requires-clause-on
-read-requires-clause-on c = subst (IsOnFile c.args.objects.now.heap c.args.objects.now.procs c.args.caller.now.place.pid) (spelt_three c.args.call.now call.Read c.in-Read.fd c.in-Read.addr c.in-Read.n c.in-Read.is (search (rules, to_z-of_z)) (search (rules, to_z-of_z)) (search (rules, to_z-of_z))) (c.target_of-target.ensures.on c.in-File.is)
+read-requires-clause-on c = subst (IsOnFile c.args.objects.now.heap c.args.objects.now.procs c.args.caller.now.place.pid) (spelt_two c.args.call.now (call.Read c.named_by-named.result.fd) c.in-Read.addr c.in-Read.n (named_as c.args.call.now (λ x. call.Read x c.in-Read.addr c.in-Read.n) c.in-Read.fd c.named_by-named.result.fd c.in-Read.is (c.named_by-named.ensures.number c.in-Read.fd (ap number_of c.in-Read.is))) (search (rules, to_z-of_z)) (search (rules, to_z-of_z))) (c.target_of-target.ensures.on c.args.objects.now.heap c.args.objects.now.procs c.args.caller.now.place.pid c.named_by-named.ensures.opened (ap number_of (named_as c.args.call.now (λ x. call.Read x c.in-Read.addr c.in-Read.n) c.in-Read.fd c.named_by-named.result.fd c.in-Read.is (c.named_by-named.ensures.number c.in-Read.fd (ap number_of c.in-Read.is)))) c.in-File.is)
 
 pub read-requires-clause-stands : goal.read-requires-clause-stands
 read-requires-clause-stands c = (c.requires.stands.0, c.requires.stands.1, c.requires.stands.2)
@@ -565,13 +588,13 @@ returns-in-File-clause-uses c =
 
 pub returns-in-File-clause-does : goal.returns-in-File-clause-does
 returns-in-File-clause-does c =
-    serves_that c.args.script.now c.args.objects.now c.read.new.objects c.args.caller.now.place.pid c.args.call.now (call.Read (to_z w64 (of_z w64 c.in-Read.fd)) (to_z w64 (of_z w64 c.in-Read.addr)) (to_z w64 (of_z w64 c.in-Read.n))) c.read.result
-    (spelt_three c.args.call.now call.Read c.in-Read.fd c.in-Read.addr c.in-Read.n c.in-Read.is (search (rules, to_z-of_z)) (search (rules, to_z-of_z)) (search (rules, to_z-of_z))) c.read.ensures.does
+    serves_that c.args.script.now c.args.objects.now c.read.new.objects c.args.caller.now.place.pid c.args.call.now (call.Read c.named_by-named.result.fd (to_z w64 (of_z w64 c.in-Read.addr)) (to_z w64 (of_z w64 c.in-Read.n))) c.read.result
+    (spelt_two c.args.call.now (call.Read c.named_by-named.result.fd) c.in-Read.addr c.in-Read.n (named_as c.args.call.now (λ x. call.Read x c.in-Read.addr c.in-Read.n) c.in-Read.fd c.named_by-named.result.fd c.in-Read.is (c.named_by-named.ensures.number c.in-Read.fd (ap number_of c.in-Read.is))) (search (rules, to_z-of_z)) (search (rules, to_z-of_z))) c.read.ensures.does
 
 pub returns-in-File-clause-cached : goal.returns-in-File-clause-cached
 returns-in-File-clause-cached c =
     subst (λ which. ReadsCached c.args.objects.now c.args.caller.now.place.pid which c.read.result c.read.new.objects)
-    (sym (spelt_three c.args.call.now call.Read c.in-Read.fd c.in-Read.addr c.in-Read.n c.in-Read.is (search (rules, to_z-of_z)) (search (rules, to_z-of_z)) (search (rules, to_z-of_z)))) c.read.ensures.cached
+    (sym (spelt_two c.args.call.now (call.Read c.named_by-named.result.fd) c.in-Read.addr c.in-Read.n (named_as c.args.call.now (λ x. call.Read x c.in-Read.addr c.in-Read.n) c.in-Read.fd c.named_by-named.result.fd c.in-Read.is (c.named_by-named.ensures.number c.in-Read.fd (ap number_of c.in-Read.is))) (search (rules, to_z-of_z)) (search (rules, to_z-of_z)))) c.read.ensures.cached
 
 -- ---- Read of a queue
 
@@ -589,10 +612,13 @@ read-requires-in-Queue-clause-left c =
     (sym (left_is c.purse_for-paid.result Queue c.args.need c.args.call.now (call.Read c.in-Read.fd c.in-Read.addr c.in-Read.n) (c.purse_for-paid.ensures.value ∙ ap (λ t. unspent (need_for t c.args.need)) c.in-Queue.is) c.requires.needed c.requires.right c.in-Read.is)) (le_refl _)))
 
 pub read-requires-in-Queue-clause-off : goal.read-requires-in-Queue-clause-off
-read-requires-in-Queue-clause-off c = subst (IsOffFiles c.args.objects.now.heap c.args.objects.now.procs c.args.caller.now.place.pid) (spelt_three c.args.call.now call.Read c.in-Read.fd c.in-Read.addr c.in-Read.n c.in-Read.is (search (rules, to_z-of_z)) (search (rules, to_z-of_z)) (search (rules, to_z-of_z))) (c.target_of-target.ensures.off c.in-Queue.is)
+read-requires-in-Queue-clause-off c = subst (IsOffFiles c.args.objects.now.heap c.args.objects.now.procs c.args.caller.now.place.pid) (spelt_two c.args.call.now (call.Read c.named_by-named.result.fd) c.in-Read.addr c.in-Read.n (named_as c.args.call.now (λ x. call.Read x c.in-Read.addr c.in-Read.n) c.in-Read.fd c.named_by-named.result.fd c.in-Read.is (c.named_by-named.ensures.number c.in-Read.fd (ap number_of c.in-Read.is))) (search (rules, to_z-of_z)) (search (rules, to_z-of_z))) (c.target_of-target.ensures.off c.args.objects.now.heap c.args.objects.now.procs c.args.caller.now.place.pid c.named_by-named.ensures.opened (ap number_of (named_as c.args.call.now (λ x. call.Read x c.in-Read.addr c.in-Read.n) c.in-Read.fd c.named_by-named.result.fd c.in-Read.is (c.named_by-named.ensures.number c.in-Read.fd (ap number_of c.in-Read.is)))) c.in-Queue.is)
 
 pub read-requires-in-Queue-clause-runs : goal.read-requires-in-Queue-clause-runs
 read-requires-in-Queue-clause-runs c = caller_runs c.args.objects.now c.args.caller.now.place.pid c.args.caller.now c.requires.caller
+
+pub read-requires-in-Queue-clause-opened : goal.read-requires-in-Queue-clause-opened
+read-requires-in-Queue-clause-opened c = c.named_by-named.ensures.opened
 
 pub read-requires-in-Queue-clause-placed : goal.read-requires-in-Queue-clause-placed
 read-requires-in-Queue-clause-placed c = c.requires.caller.placed
@@ -608,36 +634,39 @@ returns-in-Queue-clause-uses c =
 pub returns-in-Queue-clause-does : goal.returns-in-Queue-clause-does
 returns-in-Queue-clause-does c =
     unnamed_served c.args.script.now c.args.objects.now c.read-in-Queue.new.objects c.args.caller.now.place.pid c.args.call.now c.read-in-Queue.result (λ plain. answer_to c.args.script.now plain c.args.caller.now.place.pid c.args.call.now) (ap path_to_leave c.in-Read.is)
-    (does_three c.args.script.now c.args.objects.now c.read-in-Queue.new.objects c.args.caller.now.place.pid c.args.call.now c.read-in-Queue.result call.Read c.in-Read.fd c.in-Read.addr c.in-Read.n c.in-Read.is
-    (search (rules, to_z-of_z)) (search (rules, to_z-of_z)) (search (rules, to_z-of_z)) c.read-in-Queue.ensures.does)
+    (does_two c.args.script.now c.args.objects.now c.read-in-Queue.new.objects c.args.caller.now.place.pid c.args.call.now c.read-in-Queue.result (call.Read c.named_by-named.result.fd) c.in-Read.addr c.in-Read.n
+    (named_as c.args.call.now (λ x. call.Read x c.in-Read.addr c.in-Read.n) c.in-Read.fd c.named_by-named.result.fd c.in-Read.is (c.named_by-named.ensures.number c.in-Read.fd (ap number_of c.in-Read.is))) (search (rules, to_z-of_z)) (search (rules, to_z-of_z)) c.read-in-Queue.ensures.does)
 
 pub returns-in-Queue-clause-cached : goal.returns-in-Queue-clause-cached
 returns-in-Queue-clause-cached c =
-    queue_cached c.args.objects.now c.read-in-Queue.new.objects c.args.caller.now.place.pid c.args.call.now c.in-Read.fd c.in-Read.addr c.in-Read.n c.read-in-Queue.result c.in-Read.is (c.target_of-target.ensures.off c.in-Queue.is)
+    queue_cached c.args.objects.now c.read-in-Queue.new.objects c.args.caller.now.place.pid c.args.call.now c.in-Read.fd c.in-Read.addr c.in-Read.n c.read-in-Queue.result c.in-Read.is (c.target_of-target.ensures.off c.args.objects.now.heap c.args.objects.now.procs c.args.caller.now.place.pid c.named_by-named.ensures.opened (ap number_of (named_as c.args.call.now (λ x. call.Read x c.in-Read.addr c.in-Read.n) c.in-Read.fd c.named_by-named.result.fd c.in-Read.is (c.named_by-named.ensures.number c.in-Read.fd (ap number_of c.in-Read.is)))) c.in-Queue.is)
 
 -- ---- Write to a file
 
 pub write-requires-clause-runs : goal.write-requires-clause-runs
 write-requires-clause-runs c = caller_runs c.args.objects.now c.args.caller.now.place.pid c.args.caller.now c.requires.caller
 
+pub write-requires-clause-opened : goal.write-requires-clause-opened
+write-requires-clause-opened c = c.named_by-named.ensures.opened
+
 pub write-requires-clause-placed : goal.write-requires-clause-placed
 write-requires-clause-placed c = c.requires.caller.placed
 
 pub write-requires-clause-right : goal.write-requires-clause-right
-write-requires-clause-right c = right_that c.args.call.now (call.Write (to_z w64 (of_z w64 c.in-Write.fd)) (to_z w64 (of_z w64 c.in-Write.addr)) (to_z w64 (of_z w64 c.in-Write.n)) 0) c.requires.right (spelt_three c.args.call.now (λ x y z. call.Write x y z c.in-Write.done) c.in-Write.fd c.in-Write.addr c.in-Write.n c.in-Write.is (search (rules, to_z-of_z)) (search (rules, to_z-of_z)) (search (rules, to_z-of_z)) ∙ ap (call.Write (to_z w64 (of_z w64 c.in-Write.fd)) (to_z w64 (of_z w64 c.in-Write.addr)) (to_z w64 (of_z w64 c.in-Write.n))) (fresh_is c.args.call.now c.in-Write.fd c.in-Write.addr c.in-Write.n c.in-Write.done c.in-Write.is (c.target_of-target.ensures.fresh c.in-File-target.is c.args.script.now c.requires.stands.0 c.requires.stands.1 c.requires.stands.3)))
+write-requires-clause-right c = right_that c.args.call.now (call.Write c.named_by-named.result.fd (to_z w64 (of_z w64 c.in-Write.addr)) (to_z w64 (of_z w64 c.in-Write.n)) 0) c.requires.right (spelt_two c.args.call.now (λ y z. call.Write c.named_by-named.result.fd y z c.in-Write.done) c.in-Write.addr c.in-Write.n (named_as c.args.call.now (λ x. call.Write x c.in-Write.addr c.in-Write.n c.in-Write.done) c.in-Write.fd c.named_by-named.result.fd c.in-Write.is (c.named_by-named.ensures.number c.in-Write.fd (ap number_of c.in-Write.is))) (search (rules, to_z-of_z)) (search (rules, to_z-of_z)) ∙ ap (call.Write c.named_by-named.result.fd (to_z w64 (of_z w64 c.in-Write.addr)) (to_z w64 (of_z w64 c.in-Write.n))) (fresh_is c.args.call.now c.in-Write.fd c.in-Write.addr c.in-Write.n c.in-Write.done c.in-Write.is (c.target_of-target.ensures.fresh c.args.script.now c.args.objects.now c.requires.stands.0 c.args.caller.now.place.pid c.named_by-named.ensures.opened (ap number_of (named_as c.args.call.now (λ x. call.Write x c.in-Write.addr c.in-Write.n c.in-Write.done) c.in-Write.fd c.named_by-named.result.fd c.in-Write.is (c.named_by-named.ensures.number c.in-Write.fd (ap number_of c.in-Write.is)))) c.in-File-target.is c.requires.stands.1 c.requires.stands.3)))
 
 pub write-requires-clause-may : goal.write-requires-clause-may
 write-requires-clause-may c =
-    may_fetch c.args.objects.now.heap c.purse_for-paid.result c.args.need c.args.call.now (call.Write (to_z w64 (of_z w64 c.in-Write.fd)) (to_z w64 (of_z w64 c.in-Write.addr)) (to_z w64 (of_z w64 c.in-Write.n)) 0) (c.purse_for-paid.ensures.value ∙ ap (λ t. unspent (need_for t c.args.need)) c.in-File-target.is) c.requires.needed c.requires.right
-    (spelt_three c.args.call.now (λ x y z. call.Write x y z c.in-Write.done) c.in-Write.fd c.in-Write.addr c.in-Write.n c.in-Write.is (search (rules, to_z-of_z)) (search (rules, to_z-of_z)) (search (rules, to_z-of_z)) ∙ ap (call.Write (to_z w64 (of_z w64 c.in-Write.fd)) (to_z w64 (of_z w64 c.in-Write.addr)) (to_z w64 (of_z w64 c.in-Write.n))) (fresh_is c.args.call.now c.in-Write.fd c.in-Write.addr c.in-Write.n c.in-Write.done c.in-Write.is (c.target_of-target.ensures.fresh c.in-File-target.is c.args.script.now c.requires.stands.0 c.requires.stands.1 c.requires.stands.3))) refl (room_less c.args.objects.now.heap c.args.call.now c.requires.room)
+    may_fetch c.args.objects.now.heap c.purse_for-paid.result c.args.need c.args.call.now (call.Write c.named_by-named.result.fd (to_z w64 (of_z w64 c.in-Write.addr)) (to_z w64 (of_z w64 c.in-Write.n)) 0) (c.purse_for-paid.ensures.value ∙ ap (λ t. unspent (need_for t c.args.need)) c.in-File-target.is) c.requires.needed c.requires.right
+    (spelt_two c.args.call.now (λ y z. call.Write c.named_by-named.result.fd y z c.in-Write.done) c.in-Write.addr c.in-Write.n (named_as c.args.call.now (λ x. call.Write x c.in-Write.addr c.in-Write.n c.in-Write.done) c.in-Write.fd c.named_by-named.result.fd c.in-Write.is (c.named_by-named.ensures.number c.in-Write.fd (ap number_of c.in-Write.is))) (search (rules, to_z-of_z)) (search (rules, to_z-of_z)) ∙ ap (call.Write c.named_by-named.result.fd (to_z w64 (of_z w64 c.in-Write.addr)) (to_z w64 (of_z w64 c.in-Write.n))) (fresh_is c.args.call.now c.in-Write.fd c.in-Write.addr c.in-Write.n c.in-Write.done c.in-Write.is (c.target_of-target.ensures.fresh c.args.script.now c.args.objects.now c.requires.stands.0 c.args.caller.now.place.pid c.named_by-named.ensures.opened (ap number_of (named_as c.args.call.now (λ x. call.Write x c.in-Write.addr c.in-Write.n c.in-Write.done) c.in-Write.fd c.named_by-named.result.fd c.in-Write.is (c.named_by-named.ensures.number c.in-Write.fd (ap number_of c.in-Write.is)))) c.in-File-target.is c.requires.stands.1 c.requires.stands.3))) refl (room_less c.args.objects.now.heap c.args.call.now c.requires.room)
 
 pub write-requires-clause-needed : goal.write-requires-clause-needed
 write-requires-clause-needed c =
-    has_file_need c.args.objects.now.heap c.purse_for-paid.result c.args.need c.args.call.now (call.Write (to_z w64 (of_z w64 c.in-Write.fd)) (to_z w64 (of_z w64 c.in-Write.addr)) (to_z w64 (of_z w64 c.in-Write.n)) 0) (c.purse_for-paid.ensures.value ∙ ap (λ t. unspent (need_for t c.args.need)) c.in-File-target.is) c.requires.needed c.requires.right
-    (spelt_three c.args.call.now (λ x y z. call.Write x y z c.in-Write.done) c.in-Write.fd c.in-Write.addr c.in-Write.n c.in-Write.is (search (rules, to_z-of_z)) (search (rules, to_z-of_z)) (search (rules, to_z-of_z)) ∙ ap (call.Write (to_z w64 (of_z w64 c.in-Write.fd)) (to_z w64 (of_z w64 c.in-Write.addr)) (to_z w64 (of_z w64 c.in-Write.n))) (fresh_is c.args.call.now c.in-Write.fd c.in-Write.addr c.in-Write.n c.in-Write.done c.in-Write.is (c.target_of-target.ensures.fresh c.in-File-target.is c.args.script.now c.requires.stands.0 c.requires.stands.1 c.requires.stands.3)))
+    has_file_need c.args.objects.now.heap c.purse_for-paid.result c.args.need c.args.call.now (call.Write c.named_by-named.result.fd (to_z w64 (of_z w64 c.in-Write.addr)) (to_z w64 (of_z w64 c.in-Write.n)) 0) (c.purse_for-paid.ensures.value ∙ ap (λ t. unspent (need_for t c.args.need)) c.in-File-target.is) c.requires.needed c.requires.right
+    (spelt_two c.args.call.now (λ y z. call.Write c.named_by-named.result.fd y z c.in-Write.done) c.in-Write.addr c.in-Write.n (named_as c.args.call.now (λ x. call.Write x c.in-Write.addr c.in-Write.n c.in-Write.done) c.in-Write.fd c.named_by-named.result.fd c.in-Write.is (c.named_by-named.ensures.number c.in-Write.fd (ap number_of c.in-Write.is))) (search (rules, to_z-of_z)) (search (rules, to_z-of_z)) ∙ ap (call.Write c.named_by-named.result.fd (to_z w64 (of_z w64 c.in-Write.addr)) (to_z w64 (of_z w64 c.in-Write.n))) (fresh_is c.args.call.now c.in-Write.fd c.in-Write.addr c.in-Write.n c.in-Write.done c.in-Write.is (c.target_of-target.ensures.fresh c.args.script.now c.args.objects.now c.requires.stands.0 c.args.caller.now.place.pid c.named_by-named.ensures.opened (ap number_of (named_as c.args.call.now (λ x. call.Write x c.in-Write.addr c.in-Write.n c.in-Write.done) c.in-Write.fd c.named_by-named.result.fd c.in-Write.is (c.named_by-named.ensures.number c.in-Write.fd (ap number_of c.in-Write.is)))) c.in-File-target.is c.requires.stands.1 c.requires.stands.3)))
 
 pub write-requires-clause-on : goal.write-requires-clause-on
-write-requires-clause-on c = subst (IsOnFile c.args.objects.now.heap c.args.objects.now.procs c.args.caller.now.place.pid) (spelt_three c.args.call.now (λ x y z. call.Write x y z c.in-Write.done) c.in-Write.fd c.in-Write.addr c.in-Write.n c.in-Write.is (search (rules, to_z-of_z)) (search (rules, to_z-of_z)) (search (rules, to_z-of_z)) ∙ ap (call.Write (to_z w64 (of_z w64 c.in-Write.fd)) (to_z w64 (of_z w64 c.in-Write.addr)) (to_z w64 (of_z w64 c.in-Write.n))) (fresh_is c.args.call.now c.in-Write.fd c.in-Write.addr c.in-Write.n c.in-Write.done c.in-Write.is (c.target_of-target.ensures.fresh c.in-File-target.is c.args.script.now c.requires.stands.0 c.requires.stands.1 c.requires.stands.3))) (c.target_of-target.ensures.on c.in-File-target.is)
+write-requires-clause-on c = subst (IsOnFile c.args.objects.now.heap c.args.objects.now.procs c.args.caller.now.place.pid) (spelt_two c.args.call.now (λ y z. call.Write c.named_by-named.result.fd y z c.in-Write.done) c.in-Write.addr c.in-Write.n (named_as c.args.call.now (λ x. call.Write x c.in-Write.addr c.in-Write.n c.in-Write.done) c.in-Write.fd c.named_by-named.result.fd c.in-Write.is (c.named_by-named.ensures.number c.in-Write.fd (ap number_of c.in-Write.is))) (search (rules, to_z-of_z)) (search (rules, to_z-of_z)) ∙ ap (call.Write c.named_by-named.result.fd (to_z w64 (of_z w64 c.in-Write.addr)) (to_z w64 (of_z w64 c.in-Write.n))) (fresh_is c.args.call.now c.in-Write.fd c.in-Write.addr c.in-Write.n c.in-Write.done c.in-Write.is (c.target_of-target.ensures.fresh c.args.script.now c.args.objects.now c.requires.stands.0 c.args.caller.now.place.pid c.named_by-named.ensures.opened (ap number_of (named_as c.args.call.now (λ x. call.Write x c.in-Write.addr c.in-Write.n c.in-Write.done) c.in-Write.fd c.named_by-named.result.fd c.in-Write.is (c.named_by-named.ensures.number c.in-Write.fd (ap number_of c.in-Write.is)))) c.in-File-target.is c.requires.stands.1 c.requires.stands.3))) (c.target_of-target.ensures.on c.args.objects.now.heap c.args.objects.now.procs c.args.caller.now.place.pid c.named_by-named.ensures.opened (ap number_of (named_as c.args.call.now (λ x. call.Write x c.in-Write.addr c.in-Write.n c.in-Write.done) c.in-Write.fd c.named_by-named.result.fd c.in-Write.is (c.named_by-named.ensures.number c.in-Write.fd (ap number_of c.in-Write.is)))) c.in-File-target.is)
 
 pub write-requires-clause-stands : goal.write-requires-clause-stands
 write-requires-clause-stands c = (c.requires.stands.0, c.requires.stands.1, c.requires.stands.2)
@@ -649,8 +678,8 @@ returns-in-File-target-clause-uses c =
 
 pub returns-in-File-target-clause-does : goal.returns-in-File-target-clause-does
 returns-in-File-target-clause-does c =
-    serves_that c.args.script.now c.args.objects.now c.write.new.objects c.args.caller.now.place.pid c.args.call.now (call.Write (to_z w64 (of_z w64 c.in-Write.fd)) (to_z w64 (of_z w64 c.in-Write.addr)) (to_z w64 (of_z w64 c.in-Write.n)) 0) c.write.result
-    (spelt_three c.args.call.now (λ x y z. call.Write x y z c.in-Write.done) c.in-Write.fd c.in-Write.addr c.in-Write.n c.in-Write.is (search (rules, to_z-of_z)) (search (rules, to_z-of_z)) (search (rules, to_z-of_z)) ∙ ap (call.Write (to_z w64 (of_z w64 c.in-Write.fd)) (to_z w64 (of_z w64 c.in-Write.addr)) (to_z w64 (of_z w64 c.in-Write.n))) (fresh_is c.args.call.now c.in-Write.fd c.in-Write.addr c.in-Write.n c.in-Write.done c.in-Write.is (c.target_of-target.ensures.fresh c.in-File-target.is c.args.script.now c.requires.stands.0 c.requires.stands.1 c.requires.stands.3))) c.write.ensures.does
+    serves_that c.args.script.now c.args.objects.now c.write.new.objects c.args.caller.now.place.pid c.args.call.now (call.Write c.named_by-named.result.fd (to_z w64 (of_z w64 c.in-Write.addr)) (to_z w64 (of_z w64 c.in-Write.n)) 0) c.write.result
+    (spelt_two c.args.call.now (λ y z. call.Write c.named_by-named.result.fd y z c.in-Write.done) c.in-Write.addr c.in-Write.n (named_as c.args.call.now (λ x. call.Write x c.in-Write.addr c.in-Write.n c.in-Write.done) c.in-Write.fd c.named_by-named.result.fd c.in-Write.is (c.named_by-named.ensures.number c.in-Write.fd (ap number_of c.in-Write.is))) (search (rules, to_z-of_z)) (search (rules, to_z-of_z)) ∙ ap (call.Write c.named_by-named.result.fd (to_z w64 (of_z w64 c.in-Write.addr)) (to_z w64 (of_z w64 c.in-Write.n))) (fresh_is c.args.call.now c.in-Write.fd c.in-Write.addr c.in-Write.n c.in-Write.done c.in-Write.is (c.target_of-target.ensures.fresh c.args.script.now c.args.objects.now c.requires.stands.0 c.args.caller.now.place.pid c.named_by-named.ensures.opened (ap number_of (named_as c.args.call.now (λ x. call.Write x c.in-Write.addr c.in-Write.n c.in-Write.done) c.in-Write.fd c.named_by-named.result.fd c.in-Write.is (c.named_by-named.ensures.number c.in-Write.fd (ap number_of c.in-Write.is)))) c.in-File-target.is c.requires.stands.1 c.requires.stands.3))) c.write.ensures.does
 
 pub returns-in-File-target-clause-cached : goal.returns-in-File-target-clause-cached
 returns-in-File-target-clause-cached c = subst (λ which. ReadsCached c.args.objects.now c.args.caller.now.place.pid which c.write.result c.write.new.objects) (sym c.in-Write.is) tt
@@ -672,10 +701,13 @@ write-requires-in-Queue-target-clause-left c =
     (sym (left_is c.purse_for-paid.result Queue c.args.need c.args.call.now (call.Write c.in-Write.fd c.in-Write.addr c.in-Write.n c.in-Write.done) (c.purse_for-paid.ensures.value ∙ ap (λ t. unspent (need_for t c.args.need)) c.in-Queue-target.is) c.requires.needed c.requires.right c.in-Write.is)) (le_refl _))
 
 pub write-requires-in-Queue-target-clause-off : goal.write-requires-in-Queue-target-clause-off
-write-requires-in-Queue-target-clause-off c = subst (IsOffFiles c.args.objects.now.heap c.args.objects.now.procs c.args.caller.now.place.pid) (spelt_three c.args.call.now (λ x y z. call.Write x y z c.in-Write.done) c.in-Write.fd c.in-Write.addr c.in-Write.n c.in-Write.is (search (rules, to_z-of_z)) (search (rules, to_z-of_z)) (search (rules, to_z-of_z))) (c.target_of-target.ensures.off c.in-Queue-target.is)
+write-requires-in-Queue-target-clause-off c = subst (IsOffFiles c.args.objects.now.heap c.args.objects.now.procs c.args.caller.now.place.pid) (spelt_two c.args.call.now (λ y z. call.Write c.named_by-named.result.fd y z c.in-Write.done) c.in-Write.addr c.in-Write.n (named_as c.args.call.now (λ x. call.Write x c.in-Write.addr c.in-Write.n c.in-Write.done) c.in-Write.fd c.named_by-named.result.fd c.in-Write.is (c.named_by-named.ensures.number c.in-Write.fd (ap number_of c.in-Write.is))) (search (rules, to_z-of_z)) (search (rules, to_z-of_z))) (c.target_of-target.ensures.off c.args.objects.now.heap c.args.objects.now.procs c.args.caller.now.place.pid c.named_by-named.ensures.opened (ap number_of (named_as c.args.call.now (λ x. call.Write x c.in-Write.addr c.in-Write.n c.in-Write.done) c.in-Write.fd c.named_by-named.result.fd c.in-Write.is (c.named_by-named.ensures.number c.in-Write.fd (ap number_of c.in-Write.is)))) c.in-Queue-target.is)
 
 pub write-requires-in-Queue-target-clause-runs : goal.write-requires-in-Queue-target-clause-runs
 write-requires-in-Queue-target-clause-runs c = caller_runs c.args.objects.now c.args.caller.now.place.pid c.args.caller.now c.requires.caller
+
+pub write-requires-in-Queue-target-clause-opened : goal.write-requires-in-Queue-target-clause-opened
+write-requires-in-Queue-target-clause-opened c = c.named_by-named.ensures.opened
 
 pub write-requires-in-Queue-target-clause-placed : goal.write-requires-in-Queue-target-clause-placed
 write-requires-in-Queue-target-clause-placed c = c.requires.caller.placed
@@ -691,8 +723,8 @@ returns-in-Queue-target-clause-uses c =
 pub returns-in-Queue-target-clause-does : goal.returns-in-Queue-target-clause-does
 returns-in-Queue-target-clause-does c =
     unnamed_served c.args.script.now c.args.objects.now c.write-in-Queue-target.new.objects c.args.caller.now.place.pid c.args.call.now c.write-in-Queue-target.result (λ plain. answer_to c.args.script.now plain c.args.caller.now.place.pid c.args.call.now) (ap path_to_leave c.in-Write.is)
-    (does_three c.args.script.now c.args.objects.now c.write-in-Queue-target.new.objects c.args.caller.now.place.pid c.args.call.now c.write-in-Queue-target.result (λ x y z. call.Write x y z c.in-Write.done) c.in-Write.fd c.in-Write.addr c.in-Write.n c.in-Write.is
-    (search (rules, to_z-of_z)) (search (rules, to_z-of_z)) (search (rules, to_z-of_z)) c.write-in-Queue-target.ensures.does)
+    (does_two c.args.script.now c.args.objects.now c.write-in-Queue-target.new.objects c.args.caller.now.place.pid c.args.call.now c.write-in-Queue-target.result (λ y z. call.Write c.named_by-named.result.fd y z c.in-Write.done) c.in-Write.addr c.in-Write.n
+    (named_as c.args.call.now (λ x. call.Write x c.in-Write.addr c.in-Write.n c.in-Write.done) c.in-Write.fd c.named_by-named.result.fd c.in-Write.is (c.named_by-named.ensures.number c.in-Write.fd (ap number_of c.in-Write.is))) (search (rules, to_z-of_z)) (search (rules, to_z-of_z)) c.write-in-Queue-target.ensures.does)
 
 pub returns-in-Queue-target-clause-cached : goal.returns-in-Queue-target-clause-cached
 returns-in-Queue-target-clause-cached c = subst (λ which. ReadsCached c.args.objects.now c.args.caller.now.place.pid which c.write-in-Queue-target.result c.write-in-Queue-target.new.objects) (sym c.in-Write.is) tt
@@ -702,21 +734,24 @@ returns-in-Queue-target-clause-cached c = subst (λ which. ReadsCached c.args.ob
 pub pread-requires-clause-runs : goal.pread-requires-clause-runs
 pread-requires-clause-runs c = caller_runs c.args.objects.now c.args.caller.now.place.pid c.args.caller.now c.requires.caller
 
+pub pread-requires-clause-opened : goal.pread-requires-clause-opened
+pread-requires-clause-opened c = c.named_by-named.ensures.opened
+
 pub pread-requires-clause-placed : goal.pread-requires-clause-placed
 pread-requires-clause-placed c = c.requires.caller.placed
 
 pub pread-requires-clause-right : goal.pread-requires-clause-right
-pread-requires-clause-right c = right_that c.args.call.now (call.Pread (to_z w64 (of_z w64 c.in-Pread.fd)) (to_z w64 (of_z w64 c.in-Pread.addr)) (to_z w64 (of_z w64 c.in-Pread.n)) (to_z w64 (of_z w64 c.in-Pread.at))) c.requires.right (spelt_four c.args.call.now call.Pread c.in-Pread.fd c.in-Pread.addr c.in-Pread.n c.in-Pread.at c.in-Pread.is (search (rules, to_z-of_z)) (search (rules, to_z-of_z)) (search (rules, to_z-of_z)) (search (rules, to_z-of_z)))
+pread-requires-clause-right c = right_that c.args.call.now (call.Pread c.named_by-named.result.fd (to_z w64 (of_z w64 c.in-Pread.addr)) (to_z w64 (of_z w64 c.in-Pread.n)) (to_z w64 (of_z w64 c.in-Pread.at))) c.requires.right (spelt_three c.args.call.now (call.Pread c.named_by-named.result.fd) c.in-Pread.addr c.in-Pread.n c.in-Pread.at (named_as c.args.call.now (λ x. call.Pread x c.in-Pread.addr c.in-Pread.n c.in-Pread.at) c.in-Pread.fd c.named_by-named.result.fd c.in-Pread.is (c.named_by-named.ensures.number c.in-Pread.fd (ap number_of c.in-Pread.is))) (search (rules, to_z-of_z)) (search (rules, to_z-of_z)) (search (rules, to_z-of_z)))
 
 pub pread-requires-clause-may : goal.pread-requires-clause-may
 pread-requires-clause-may c =
-    may_fetch c.args.objects.now.heap c.purse_for-paid.result c.args.need c.args.call.now (call.Pread (to_z w64 (of_z w64 c.in-Pread.fd)) (to_z w64 (of_z w64 c.in-Pread.addr)) (to_z w64 (of_z w64 c.in-Pread.n)) (to_z w64 (of_z w64 c.in-Pread.at))) (c.purse_for-paid.ensures.value ∙ ap (λ t. unspent (need_for t c.args.need)) (c.target_of-target.ensures.other (ap (λ w. is_moving (kind_of w)) c.in-Pread.is))) c.requires.needed c.requires.right
-    (spelt_four c.args.call.now call.Pread c.in-Pread.fd c.in-Pread.addr c.in-Pread.n c.in-Pread.at c.in-Pread.is (search (rules, to_z-of_z)) (search (rules, to_z-of_z)) (search (rules, to_z-of_z)) (search (rules, to_z-of_z))) refl (room_less c.args.objects.now.heap c.args.call.now c.requires.room)
+    may_fetch c.args.objects.now.heap c.purse_for-paid.result c.args.need c.args.call.now (call.Pread c.named_by-named.result.fd (to_z w64 (of_z w64 c.in-Pread.addr)) (to_z w64 (of_z w64 c.in-Pread.n)) (to_z w64 (of_z w64 c.in-Pread.at))) (c.purse_for-paid.ensures.value ∙ ap (λ t. unspent (need_for t c.args.need)) (c.target_of-target.ensures.other (ap (λ w. is_moving (kind_of w)) c.in-Pread.is))) c.requires.needed c.requires.right
+    (spelt_three c.args.call.now (call.Pread c.named_by-named.result.fd) c.in-Pread.addr c.in-Pread.n c.in-Pread.at (named_as c.args.call.now (λ x. call.Pread x c.in-Pread.addr c.in-Pread.n c.in-Pread.at) c.in-Pread.fd c.named_by-named.result.fd c.in-Pread.is (c.named_by-named.ensures.number c.in-Pread.fd (ap number_of c.in-Pread.is))) (search (rules, to_z-of_z)) (search (rules, to_z-of_z)) (search (rules, to_z-of_z))) refl (room_less c.args.objects.now.heap c.args.call.now c.requires.room)
 
 pub pread-requires-clause-needed : goal.pread-requires-clause-needed
 pread-requires-clause-needed c =
-    has_file_need c.args.objects.now.heap c.purse_for-paid.result c.args.need c.args.call.now (call.Pread (to_z w64 (of_z w64 c.in-Pread.fd)) (to_z w64 (of_z w64 c.in-Pread.addr)) (to_z w64 (of_z w64 c.in-Pread.n)) (to_z w64 (of_z w64 c.in-Pread.at))) (c.purse_for-paid.ensures.value ∙ ap (λ t. unspent (need_for t c.args.need)) (c.target_of-target.ensures.other (ap (λ w. is_moving (kind_of w)) c.in-Pread.is))) c.requires.needed c.requires.right
-    (spelt_four c.args.call.now call.Pread c.in-Pread.fd c.in-Pread.addr c.in-Pread.n c.in-Pread.at c.in-Pread.is (search (rules, to_z-of_z)) (search (rules, to_z-of_z)) (search (rules, to_z-of_z)) (search (rules, to_z-of_z)))
+    has_file_need c.args.objects.now.heap c.purse_for-paid.result c.args.need c.args.call.now (call.Pread c.named_by-named.result.fd (to_z w64 (of_z w64 c.in-Pread.addr)) (to_z w64 (of_z w64 c.in-Pread.n)) (to_z w64 (of_z w64 c.in-Pread.at))) (c.purse_for-paid.ensures.value ∙ ap (λ t. unspent (need_for t c.args.need)) (c.target_of-target.ensures.other (ap (λ w. is_moving (kind_of w)) c.in-Pread.is))) c.requires.needed c.requires.right
+    (spelt_three c.args.call.now (call.Pread c.named_by-named.result.fd) c.in-Pread.addr c.in-Pread.n c.in-Pread.at (named_as c.args.call.now (λ x. call.Pread x c.in-Pread.addr c.in-Pread.n c.in-Pread.at) c.in-Pread.fd c.named_by-named.result.fd c.in-Pread.is (c.named_by-named.ensures.number c.in-Pread.fd (ap number_of c.in-Pread.is))) (search (rules, to_z-of_z)) (search (rules, to_z-of_z)) (search (rules, to_z-of_z)))
 
 pub pread-requires-clause-stands : goal.pread-requires-clause-stands
 pread-requires-clause-stands c = (c.requires.stands.0, c.requires.stands.1, c.requires.stands.2)
@@ -728,34 +763,37 @@ returns-in-Pread-clause-uses c =
 
 pub returns-in-Pread-clause-does : goal.returns-in-Pread-clause-does
 returns-in-Pread-clause-does c =
-    serves_that c.args.script.now c.args.objects.now c.pread.new.objects c.args.caller.now.place.pid c.args.call.now (call.Pread (to_z w64 (of_z w64 c.in-Pread.fd)) (to_z w64 (of_z w64 c.in-Pread.addr)) (to_z w64 (of_z w64 c.in-Pread.n)) (to_z w64 (of_z w64 c.in-Pread.at))) c.pread.result
-    (spelt_four c.args.call.now call.Pread c.in-Pread.fd c.in-Pread.addr c.in-Pread.n c.in-Pread.at c.in-Pread.is (search (rules, to_z-of_z)) (search (rules, to_z-of_z)) (search (rules, to_z-of_z)) (search (rules, to_z-of_z))) c.pread.ensures.does
+    serves_that c.args.script.now c.args.objects.now c.pread.new.objects c.args.caller.now.place.pid c.args.call.now (call.Pread c.named_by-named.result.fd (to_z w64 (of_z w64 c.in-Pread.addr)) (to_z w64 (of_z w64 c.in-Pread.n)) (to_z w64 (of_z w64 c.in-Pread.at))) c.pread.result
+    (spelt_three c.args.call.now (call.Pread c.named_by-named.result.fd) c.in-Pread.addr c.in-Pread.n c.in-Pread.at (named_as c.args.call.now (λ x. call.Pread x c.in-Pread.addr c.in-Pread.n c.in-Pread.at) c.in-Pread.fd c.named_by-named.result.fd c.in-Pread.is (c.named_by-named.ensures.number c.in-Pread.fd (ap number_of c.in-Pread.is))) (search (rules, to_z-of_z)) (search (rules, to_z-of_z)) (search (rules, to_z-of_z))) c.pread.ensures.does
 
 pub returns-in-Pread-clause-cached : goal.returns-in-Pread-clause-cached
 returns-in-Pread-clause-cached c =
     subst (λ which. ReadsCached c.args.objects.now c.args.caller.now.place.pid which c.pread.result c.pread.new.objects)
-    (sym (spelt_four c.args.call.now call.Pread c.in-Pread.fd c.in-Pread.addr c.in-Pread.n c.in-Pread.at c.in-Pread.is (search (rules, to_z-of_z)) (search (rules, to_z-of_z)) (search (rules, to_z-of_z)) (search (rules, to_z-of_z)))) c.pread.ensures.cached
+    (sym (spelt_three c.args.call.now (call.Pread c.named_by-named.result.fd) c.in-Pread.addr c.in-Pread.n c.in-Pread.at (named_as c.args.call.now (λ x. call.Pread x c.in-Pread.addr c.in-Pread.n c.in-Pread.at) c.in-Pread.fd c.named_by-named.result.fd c.in-Pread.is (c.named_by-named.ensures.number c.in-Pread.fd (ap number_of c.in-Pread.is))) (search (rules, to_z-of_z)) (search (rules, to_z-of_z)) (search (rules, to_z-of_z)))) c.pread.ensures.cached
 
 -- ---- Pwrite
 
 pub pwrite-requires-clause-runs : goal.pwrite-requires-clause-runs
 pwrite-requires-clause-runs c = caller_runs c.args.objects.now c.args.caller.now.place.pid c.args.caller.now c.requires.caller
 
+pub pwrite-requires-clause-opened : goal.pwrite-requires-clause-opened
+pwrite-requires-clause-opened c = c.named_by-named.ensures.opened
+
 pub pwrite-requires-clause-placed : goal.pwrite-requires-clause-placed
 pwrite-requires-clause-placed c = c.requires.caller.placed
 
 pub pwrite-requires-clause-right : goal.pwrite-requires-clause-right
-pwrite-requires-clause-right c = right_that c.args.call.now (call.Pwrite (to_z w64 (of_z w64 c.in-Pwrite.fd)) (to_z w64 (of_z w64 c.in-Pwrite.addr)) (to_z w64 (of_z w64 c.in-Pwrite.n)) (to_z w64 (of_z w64 c.in-Pwrite.at))) c.requires.right (spelt_four c.args.call.now call.Pwrite c.in-Pwrite.fd c.in-Pwrite.addr c.in-Pwrite.n c.in-Pwrite.at c.in-Pwrite.is (search (rules, to_z-of_z)) (search (rules, to_z-of_z)) (search (rules, to_z-of_z)) (search (rules, to_z-of_z)))
+pwrite-requires-clause-right c = right_that c.args.call.now (call.Pwrite c.named_by-named.result.fd (to_z w64 (of_z w64 c.in-Pwrite.addr)) (to_z w64 (of_z w64 c.in-Pwrite.n)) (to_z w64 (of_z w64 c.in-Pwrite.at))) c.requires.right (spelt_three c.args.call.now (call.Pwrite c.named_by-named.result.fd) c.in-Pwrite.addr c.in-Pwrite.n c.in-Pwrite.at (named_as c.args.call.now (λ x. call.Pwrite x c.in-Pwrite.addr c.in-Pwrite.n c.in-Pwrite.at) c.in-Pwrite.fd c.named_by-named.result.fd c.in-Pwrite.is (c.named_by-named.ensures.number c.in-Pwrite.fd (ap number_of c.in-Pwrite.is))) (search (rules, to_z-of_z)) (search (rules, to_z-of_z)) (search (rules, to_z-of_z)))
 
 pub pwrite-requires-clause-may : goal.pwrite-requires-clause-may
 pwrite-requires-clause-may c =
-    may_fetch c.args.objects.now.heap c.purse_for-paid.result c.args.need c.args.call.now (call.Pwrite (to_z w64 (of_z w64 c.in-Pwrite.fd)) (to_z w64 (of_z w64 c.in-Pwrite.addr)) (to_z w64 (of_z w64 c.in-Pwrite.n)) (to_z w64 (of_z w64 c.in-Pwrite.at))) (c.purse_for-paid.ensures.value ∙ ap (λ t. unspent (need_for t c.args.need)) (c.target_of-target.ensures.other (ap (λ w. is_moving (kind_of w)) c.in-Pwrite.is))) c.requires.needed c.requires.right
-    (spelt_four c.args.call.now call.Pwrite c.in-Pwrite.fd c.in-Pwrite.addr c.in-Pwrite.n c.in-Pwrite.at c.in-Pwrite.is (search (rules, to_z-of_z)) (search (rules, to_z-of_z)) (search (rules, to_z-of_z)) (search (rules, to_z-of_z))) refl (room_less c.args.objects.now.heap c.args.call.now c.requires.room)
+    may_fetch c.args.objects.now.heap c.purse_for-paid.result c.args.need c.args.call.now (call.Pwrite c.named_by-named.result.fd (to_z w64 (of_z w64 c.in-Pwrite.addr)) (to_z w64 (of_z w64 c.in-Pwrite.n)) (to_z w64 (of_z w64 c.in-Pwrite.at))) (c.purse_for-paid.ensures.value ∙ ap (λ t. unspent (need_for t c.args.need)) (c.target_of-target.ensures.other (ap (λ w. is_moving (kind_of w)) c.in-Pwrite.is))) c.requires.needed c.requires.right
+    (spelt_three c.args.call.now (call.Pwrite c.named_by-named.result.fd) c.in-Pwrite.addr c.in-Pwrite.n c.in-Pwrite.at (named_as c.args.call.now (λ x. call.Pwrite x c.in-Pwrite.addr c.in-Pwrite.n c.in-Pwrite.at) c.in-Pwrite.fd c.named_by-named.result.fd c.in-Pwrite.is (c.named_by-named.ensures.number c.in-Pwrite.fd (ap number_of c.in-Pwrite.is))) (search (rules, to_z-of_z)) (search (rules, to_z-of_z)) (search (rules, to_z-of_z))) refl (room_less c.args.objects.now.heap c.args.call.now c.requires.room)
 
 pub pwrite-requires-clause-needed : goal.pwrite-requires-clause-needed
 pwrite-requires-clause-needed c =
-    has_file_need c.args.objects.now.heap c.purse_for-paid.result c.args.need c.args.call.now (call.Pwrite (to_z w64 (of_z w64 c.in-Pwrite.fd)) (to_z w64 (of_z w64 c.in-Pwrite.addr)) (to_z w64 (of_z w64 c.in-Pwrite.n)) (to_z w64 (of_z w64 c.in-Pwrite.at))) (c.purse_for-paid.ensures.value ∙ ap (λ t. unspent (need_for t c.args.need)) (c.target_of-target.ensures.other (ap (λ w. is_moving (kind_of w)) c.in-Pwrite.is))) c.requires.needed c.requires.right
-    (spelt_four c.args.call.now call.Pwrite c.in-Pwrite.fd c.in-Pwrite.addr c.in-Pwrite.n c.in-Pwrite.at c.in-Pwrite.is (search (rules, to_z-of_z)) (search (rules, to_z-of_z)) (search (rules, to_z-of_z)) (search (rules, to_z-of_z)))
+    has_file_need c.args.objects.now.heap c.purse_for-paid.result c.args.need c.args.call.now (call.Pwrite c.named_by-named.result.fd (to_z w64 (of_z w64 c.in-Pwrite.addr)) (to_z w64 (of_z w64 c.in-Pwrite.n)) (to_z w64 (of_z w64 c.in-Pwrite.at))) (c.purse_for-paid.ensures.value ∙ ap (λ t. unspent (need_for t c.args.need)) (c.target_of-target.ensures.other (ap (λ w. is_moving (kind_of w)) c.in-Pwrite.is))) c.requires.needed c.requires.right
+    (spelt_three c.args.call.now (call.Pwrite c.named_by-named.result.fd) c.in-Pwrite.addr c.in-Pwrite.n c.in-Pwrite.at (named_as c.args.call.now (λ x. call.Pwrite x c.in-Pwrite.addr c.in-Pwrite.n c.in-Pwrite.at) c.in-Pwrite.fd c.named_by-named.result.fd c.in-Pwrite.is (c.named_by-named.ensures.number c.in-Pwrite.fd (ap number_of c.in-Pwrite.is))) (search (rules, to_z-of_z)) (search (rules, to_z-of_z)) (search (rules, to_z-of_z)))
 
 pub pwrite-requires-clause-stands : goal.pwrite-requires-clause-stands
 pwrite-requires-clause-stands c = (c.requires.stands.0, c.requires.stands.1, c.requires.stands.2)
@@ -767,8 +805,8 @@ returns-in-Pwrite-clause-uses c =
 
 pub returns-in-Pwrite-clause-does : goal.returns-in-Pwrite-clause-does
 returns-in-Pwrite-clause-does c =
-    serves_that c.args.script.now c.args.objects.now c.pwrite.new.objects c.args.caller.now.place.pid c.args.call.now (call.Pwrite (to_z w64 (of_z w64 c.in-Pwrite.fd)) (to_z w64 (of_z w64 c.in-Pwrite.addr)) (to_z w64 (of_z w64 c.in-Pwrite.n)) (to_z w64 (of_z w64 c.in-Pwrite.at))) c.pwrite.result
-    (spelt_four c.args.call.now call.Pwrite c.in-Pwrite.fd c.in-Pwrite.addr c.in-Pwrite.n c.in-Pwrite.at c.in-Pwrite.is (search (rules, to_z-of_z)) (search (rules, to_z-of_z)) (search (rules, to_z-of_z)) (search (rules, to_z-of_z))) c.pwrite.ensures.does
+    serves_that c.args.script.now c.args.objects.now c.pwrite.new.objects c.args.caller.now.place.pid c.args.call.now (call.Pwrite c.named_by-named.result.fd (to_z w64 (of_z w64 c.in-Pwrite.addr)) (to_z w64 (of_z w64 c.in-Pwrite.n)) (to_z w64 (of_z w64 c.in-Pwrite.at))) c.pwrite.result
+    (spelt_three c.args.call.now (call.Pwrite c.named_by-named.result.fd) c.in-Pwrite.addr c.in-Pwrite.n c.in-Pwrite.at (named_as c.args.call.now (λ x. call.Pwrite x c.in-Pwrite.addr c.in-Pwrite.n c.in-Pwrite.at) c.in-Pwrite.fd c.named_by-named.result.fd c.in-Pwrite.is (c.named_by-named.ensures.number c.in-Pwrite.fd (ap number_of c.in-Pwrite.is))) (search (rules, to_z-of_z)) (search (rules, to_z-of_z)) (search (rules, to_z-of_z))) c.pwrite.ensures.does
 
 pub returns-in-Pwrite-clause-cached : goal.returns-in-Pwrite-clause-cached
 returns-in-Pwrite-clause-cached c = subst (λ which. ReadsCached c.args.objects.now c.args.caller.now.place.pid which c.pwrite.result c.pwrite.new.objects) (sym c.in-Pwrite.is) tt
@@ -778,11 +816,14 @@ returns-in-Pwrite-clause-cached c = subst (λ which. ReadsCached c.args.objects.
 pub lseek-requires-clause-runs : goal.lseek-requires-clause-runs
 lseek-requires-clause-runs c = caller_runs c.args.objects.now c.args.caller.now.place.pid c.args.caller.now c.requires.caller
 
+pub lseek-requires-clause-opened : goal.lseek-requires-clause-opened
+lseek-requires-clause-opened c = c.named_by-named.ensures.opened
+
 pub lseek-requires-clause-placed : goal.lseek-requires-clause-placed
 lseek-requires-clause-placed c = c.requires.caller.placed
 
 pub lseek-requires-clause-right : goal.lseek-requires-clause-right
-lseek-requires-clause-right c = right_that c.args.call.now (call.Lseek (to_z w64 (of_z w64 c.in-Lseek.fd)) (to_z w64 (of_z w64 c.in-Lseek.offset)) (to_z w64 (of_z w64 c.in-Lseek.whence))) c.requires.right (spelt_three c.args.call.now call.Lseek c.in-Lseek.fd c.in-Lseek.offset c.in-Lseek.whence c.in-Lseek.is (search (rules, to_z-of_z)) (search (rules, to_z-of_z)) (search (rules, to_z-of_z)))
+lseek-requires-clause-right c = right_that c.args.call.now (call.Lseek c.named_by-named.result.fd (to_z w64 (of_z w64 c.in-Lseek.offset)) (to_z w64 (of_z w64 c.in-Lseek.whence))) c.requires.right (spelt_two c.args.call.now (call.Lseek c.named_by-named.result.fd) c.in-Lseek.offset c.in-Lseek.whence (named_as c.args.call.now (λ x. call.Lseek x c.in-Lseek.offset c.in-Lseek.whence) c.in-Lseek.fd c.named_by-named.result.fd c.in-Lseek.is (c.named_by-named.ensures.number c.in-Lseek.fd (ap number_of c.in-Lseek.is))) (search (rules, to_z-of_z)) (search (rules, to_z-of_z)))
 
 pub lseek-requires-clause-stands : goal.lseek-requires-clause-stands
 lseek-requires-clause-stands c = (c.requires.stands.0, c.requires.stands.1, c.requires.stands.2)
@@ -792,8 +833,8 @@ returns-in-Lseek-clause-uses c = uses_nothing c.args.objects.now.heap c.lseek.ne
 
 pub returns-in-Lseek-clause-does : goal.returns-in-Lseek-clause-does
 returns-in-Lseek-clause-does c =
-    serves_that c.args.script.now c.args.objects.now c.lseek.new.objects c.args.caller.now.place.pid c.args.call.now (call.Lseek (to_z w64 (of_z w64 c.in-Lseek.fd)) (to_z w64 (of_z w64 c.in-Lseek.offset)) (to_z w64 (of_z w64 c.in-Lseek.whence))) c.lseek.result
-    (spelt_three c.args.call.now call.Lseek c.in-Lseek.fd c.in-Lseek.offset c.in-Lseek.whence c.in-Lseek.is (search (rules, to_z-of_z)) (search (rules, to_z-of_z)) (search (rules, to_z-of_z))) c.lseek.ensures.does
+    serves_that c.args.script.now c.args.objects.now c.lseek.new.objects c.args.caller.now.place.pid c.args.call.now (call.Lseek c.named_by-named.result.fd (to_z w64 (of_z w64 c.in-Lseek.offset)) (to_z w64 (of_z w64 c.in-Lseek.whence))) c.lseek.result
+    (spelt_two c.args.call.now (call.Lseek c.named_by-named.result.fd) c.in-Lseek.offset c.in-Lseek.whence (named_as c.args.call.now (λ x. call.Lseek x c.in-Lseek.offset c.in-Lseek.whence) c.in-Lseek.fd c.named_by-named.result.fd c.in-Lseek.is (c.named_by-named.ensures.number c.in-Lseek.fd (ap number_of c.in-Lseek.is))) (search (rules, to_z-of_z)) (search (rules, to_z-of_z))) c.lseek.ensures.does
 
 pub returns-in-Lseek-clause-cached : goal.returns-in-Lseek-clause-cached
 returns-in-Lseek-clause-cached c = subst (λ which. ReadsCached c.args.objects.now c.args.caller.now.place.pid which c.lseek.result c.lseek.new.objects) (sym c.in-Lseek.is) tt
@@ -803,21 +844,24 @@ returns-in-Lseek-clause-cached c = subst (λ which. ReadsCached c.args.objects.n
 pub readdir-requires-clause-runs : goal.readdir-requires-clause-runs
 readdir-requires-clause-runs c = caller_runs c.args.objects.now c.args.caller.now.place.pid c.args.caller.now c.requires.caller
 
+pub readdir-requires-clause-opened : goal.readdir-requires-clause-opened
+readdir-requires-clause-opened c = c.named_by-named.ensures.opened
+
 pub readdir-requires-clause-placed : goal.readdir-requires-clause-placed
 readdir-requires-clause-placed c = c.requires.caller.placed
 
 pub readdir-requires-clause-right : goal.readdir-requires-clause-right
-readdir-requires-clause-right c = right_that c.args.call.now (call.Readdir (to_z w64 (of_z w64 c.in-Readdir.fd)) (to_z w64 (of_z w64 c.in-Readdir.addr)) (to_z w64 (of_z w64 c.in-Readdir.n))) c.requires.right (spelt_three c.args.call.now call.Readdir c.in-Readdir.fd c.in-Readdir.addr c.in-Readdir.n c.in-Readdir.is (search (rules, to_z-of_z)) (search (rules, to_z-of_z)) (search (rules, to_z-of_z)))
+readdir-requires-clause-right c = right_that c.args.call.now (call.Readdir c.named_by-named.result.fd (to_z w64 (of_z w64 c.in-Readdir.addr)) (to_z w64 (of_z w64 c.in-Readdir.n))) c.requires.right (spelt_two c.args.call.now (call.Readdir c.named_by-named.result.fd) c.in-Readdir.addr c.in-Readdir.n (named_as c.args.call.now (λ x. call.Readdir x c.in-Readdir.addr c.in-Readdir.n) c.in-Readdir.fd c.named_by-named.result.fd c.in-Readdir.is (c.named_by-named.ensures.number c.in-Readdir.fd (ap number_of c.in-Readdir.is))) (search (rules, to_z-of_z)) (search (rules, to_z-of_z)))
 
 pub readdir-requires-clause-may : goal.readdir-requires-clause-may
 readdir-requires-clause-may c =
-    may_fetch c.args.objects.now.heap c.purse_for-paid.result c.args.need c.args.call.now (call.Readdir (to_z w64 (of_z w64 c.in-Readdir.fd)) (to_z w64 (of_z w64 c.in-Readdir.addr)) (to_z w64 (of_z w64 c.in-Readdir.n))) (c.purse_for-paid.ensures.value ∙ ap (λ t. unspent (need_for t c.args.need)) (c.target_of-target.ensures.other (ap (λ w. is_moving (kind_of w)) c.in-Readdir.is))) c.requires.needed c.requires.right
-    (spelt_three c.args.call.now call.Readdir c.in-Readdir.fd c.in-Readdir.addr c.in-Readdir.n c.in-Readdir.is (search (rules, to_z-of_z)) (search (rules, to_z-of_z)) (search (rules, to_z-of_z))) refl (room_less c.args.objects.now.heap c.args.call.now c.requires.room)
+    may_fetch c.args.objects.now.heap c.purse_for-paid.result c.args.need c.args.call.now (call.Readdir c.named_by-named.result.fd (to_z w64 (of_z w64 c.in-Readdir.addr)) (to_z w64 (of_z w64 c.in-Readdir.n))) (c.purse_for-paid.ensures.value ∙ ap (λ t. unspent (need_for t c.args.need)) (c.target_of-target.ensures.other (ap (λ w. is_moving (kind_of w)) c.in-Readdir.is))) c.requires.needed c.requires.right
+    (spelt_two c.args.call.now (call.Readdir c.named_by-named.result.fd) c.in-Readdir.addr c.in-Readdir.n (named_as c.args.call.now (λ x. call.Readdir x c.in-Readdir.addr c.in-Readdir.n) c.in-Readdir.fd c.named_by-named.result.fd c.in-Readdir.is (c.named_by-named.ensures.number c.in-Readdir.fd (ap number_of c.in-Readdir.is))) (search (rules, to_z-of_z)) (search (rules, to_z-of_z))) refl (room_less c.args.objects.now.heap c.args.call.now c.requires.room)
 
 pub readdir-requires-clause-needed : goal.readdir-requires-clause-needed
 readdir-requires-clause-needed c =
-    has_file_need c.args.objects.now.heap c.purse_for-paid.result c.args.need c.args.call.now (call.Readdir (to_z w64 (of_z w64 c.in-Readdir.fd)) (to_z w64 (of_z w64 c.in-Readdir.addr)) (to_z w64 (of_z w64 c.in-Readdir.n))) (c.purse_for-paid.ensures.value ∙ ap (λ t. unspent (need_for t c.args.need)) (c.target_of-target.ensures.other (ap (λ w. is_moving (kind_of w)) c.in-Readdir.is))) c.requires.needed c.requires.right
-    (spelt_three c.args.call.now call.Readdir c.in-Readdir.fd c.in-Readdir.addr c.in-Readdir.n c.in-Readdir.is (search (rules, to_z-of_z)) (search (rules, to_z-of_z)) (search (rules, to_z-of_z)))
+    has_file_need c.args.objects.now.heap c.purse_for-paid.result c.args.need c.args.call.now (call.Readdir c.named_by-named.result.fd (to_z w64 (of_z w64 c.in-Readdir.addr)) (to_z w64 (of_z w64 c.in-Readdir.n))) (c.purse_for-paid.ensures.value ∙ ap (λ t. unspent (need_for t c.args.need)) (c.target_of-target.ensures.other (ap (λ w. is_moving (kind_of w)) c.in-Readdir.is))) c.requires.needed c.requires.right
+    (spelt_two c.args.call.now (call.Readdir c.named_by-named.result.fd) c.in-Readdir.addr c.in-Readdir.n (named_as c.args.call.now (λ x. call.Readdir x c.in-Readdir.addr c.in-Readdir.n) c.in-Readdir.fd c.named_by-named.result.fd c.in-Readdir.is (c.named_by-named.ensures.number c.in-Readdir.fd (ap number_of c.in-Readdir.is))) (search (rules, to_z-of_z)) (search (rules, to_z-of_z)))
 
 pub readdir-requires-clause-stands : goal.readdir-requires-clause-stands
 readdir-requires-clause-stands c = (c.requires.stands.0, c.requires.stands.1, c.requires.stands.2)
@@ -829,34 +873,37 @@ returns-in-Readdir-clause-uses c =
 
 pub returns-in-Readdir-clause-does : goal.returns-in-Readdir-clause-does
 returns-in-Readdir-clause-does c =
-    serves_that c.args.script.now c.args.objects.now c.readdir.new.objects c.args.caller.now.place.pid c.args.call.now (call.Readdir (to_z w64 (of_z w64 c.in-Readdir.fd)) (to_z w64 (of_z w64 c.in-Readdir.addr)) (to_z w64 (of_z w64 c.in-Readdir.n))) c.readdir.result
-    (spelt_three c.args.call.now call.Readdir c.in-Readdir.fd c.in-Readdir.addr c.in-Readdir.n c.in-Readdir.is (search (rules, to_z-of_z)) (search (rules, to_z-of_z)) (search (rules, to_z-of_z))) c.readdir.ensures.does
+    serves_that c.args.script.now c.args.objects.now c.readdir.new.objects c.args.caller.now.place.pid c.args.call.now (call.Readdir c.named_by-named.result.fd (to_z w64 (of_z w64 c.in-Readdir.addr)) (to_z w64 (of_z w64 c.in-Readdir.n))) c.readdir.result
+    (spelt_two c.args.call.now (call.Readdir c.named_by-named.result.fd) c.in-Readdir.addr c.in-Readdir.n (named_as c.args.call.now (λ x. call.Readdir x c.in-Readdir.addr c.in-Readdir.n) c.in-Readdir.fd c.named_by-named.result.fd c.in-Readdir.is (c.named_by-named.ensures.number c.in-Readdir.fd (ap number_of c.in-Readdir.is))) (search (rules, to_z-of_z)) (search (rules, to_z-of_z))) c.readdir.ensures.does
 
 pub returns-in-Readdir-clause-cached : goal.returns-in-Readdir-clause-cached
 returns-in-Readdir-clause-cached c =
     subst (λ which. ReadsCached c.args.objects.now c.args.caller.now.place.pid which c.readdir.result c.readdir.new.objects)
-    (sym (spelt_three c.args.call.now call.Readdir c.in-Readdir.fd c.in-Readdir.addr c.in-Readdir.n c.in-Readdir.is (search (rules, to_z-of_z)) (search (rules, to_z-of_z)) (search (rules, to_z-of_z)))) c.readdir.ensures.cached
+    (sym (spelt_two c.args.call.now (call.Readdir c.named_by-named.result.fd) c.in-Readdir.addr c.in-Readdir.n (named_as c.args.call.now (λ x. call.Readdir x c.in-Readdir.addr c.in-Readdir.n) c.in-Readdir.fd c.named_by-named.result.fd c.in-Readdir.is (c.named_by-named.ensures.number c.in-Readdir.fd (ap number_of c.in-Readdir.is))) (search (rules, to_z-of_z)) (search (rules, to_z-of_z)))) c.readdir.ensures.cached
 
 -- ---- Ftruncate
 
 pub ftruncate-requires-clause-runs : goal.ftruncate-requires-clause-runs
 ftruncate-requires-clause-runs c = caller_runs c.args.objects.now c.args.caller.now.place.pid c.args.caller.now c.requires.caller
 
+pub ftruncate-requires-clause-opened : goal.ftruncate-requires-clause-opened
+ftruncate-requires-clause-opened c = c.named_by-named.ensures.opened
+
 pub ftruncate-requires-clause-placed : goal.ftruncate-requires-clause-placed
 ftruncate-requires-clause-placed c = c.requires.caller.placed
 
 pub ftruncate-requires-clause-right : goal.ftruncate-requires-clause-right
-ftruncate-requires-clause-right c = right_that c.args.call.now (call.Ftruncate (to_z w64 (of_z w64 c.in-Ftruncate.fd)) (to_z w64 (of_z w64 c.in-Ftruncate.length))) c.requires.right (spelt_two c.args.call.now call.Ftruncate c.in-Ftruncate.fd c.in-Ftruncate.length c.in-Ftruncate.is (search (rules, to_z-of_z)) (search (rules, to_z-of_z)))
+ftruncate-requires-clause-right c = right_that c.args.call.now (call.Ftruncate c.named_by-named.result.fd (to_z w64 (of_z w64 c.in-Ftruncate.length))) c.requires.right (spelt_one c.args.call.now (call.Ftruncate c.named_by-named.result.fd) c.in-Ftruncate.length (named_as c.args.call.now (λ x. call.Ftruncate x c.in-Ftruncate.length) c.in-Ftruncate.fd c.named_by-named.result.fd c.in-Ftruncate.is (c.named_by-named.ensures.number c.in-Ftruncate.fd (ap number_of c.in-Ftruncate.is))) (search (rules, to_z-of_z)))
 
 pub ftruncate-requires-clause-may : goal.ftruncate-requires-clause-may
 ftruncate-requires-clause-may c =
-    may_fetch c.args.objects.now.heap c.purse_for-paid.result c.args.need c.args.call.now (call.Ftruncate (to_z w64 (of_z w64 c.in-Ftruncate.fd)) (to_z w64 (of_z w64 c.in-Ftruncate.length))) (c.purse_for-paid.ensures.value ∙ ap (λ t. unspent (need_for t c.args.need)) (c.target_of-target.ensures.other (ap (λ w. is_moving (kind_of w)) c.in-Ftruncate.is))) c.requires.needed c.requires.right
-    (spelt_two c.args.call.now call.Ftruncate c.in-Ftruncate.fd c.in-Ftruncate.length c.in-Ftruncate.is (search (rules, to_z-of_z)) (search (rules, to_z-of_z))) refl (room_less c.args.objects.now.heap c.args.call.now c.requires.room)
+    may_fetch c.args.objects.now.heap c.purse_for-paid.result c.args.need c.args.call.now (call.Ftruncate c.named_by-named.result.fd (to_z w64 (of_z w64 c.in-Ftruncate.length))) (c.purse_for-paid.ensures.value ∙ ap (λ t. unspent (need_for t c.args.need)) (c.target_of-target.ensures.other (ap (λ w. is_moving (kind_of w)) c.in-Ftruncate.is))) c.requires.needed c.requires.right
+    (spelt_one c.args.call.now (call.Ftruncate c.named_by-named.result.fd) c.in-Ftruncate.length (named_as c.args.call.now (λ x. call.Ftruncate x c.in-Ftruncate.length) c.in-Ftruncate.fd c.named_by-named.result.fd c.in-Ftruncate.is (c.named_by-named.ensures.number c.in-Ftruncate.fd (ap number_of c.in-Ftruncate.is))) (search (rules, to_z-of_z))) refl (room_less c.args.objects.now.heap c.args.call.now c.requires.room)
 
 pub ftruncate-requires-clause-needed : goal.ftruncate-requires-clause-needed
 ftruncate-requires-clause-needed c =
-    has_file_need c.args.objects.now.heap c.purse_for-paid.result c.args.need c.args.call.now (call.Ftruncate (to_z w64 (of_z w64 c.in-Ftruncate.fd)) (to_z w64 (of_z w64 c.in-Ftruncate.length))) (c.purse_for-paid.ensures.value ∙ ap (λ t. unspent (need_for t c.args.need)) (c.target_of-target.ensures.other (ap (λ w. is_moving (kind_of w)) c.in-Ftruncate.is))) c.requires.needed c.requires.right
-    (spelt_two c.args.call.now call.Ftruncate c.in-Ftruncate.fd c.in-Ftruncate.length c.in-Ftruncate.is (search (rules, to_z-of_z)) (search (rules, to_z-of_z)))
+    has_file_need c.args.objects.now.heap c.purse_for-paid.result c.args.need c.args.call.now (call.Ftruncate c.named_by-named.result.fd (to_z w64 (of_z w64 c.in-Ftruncate.length))) (c.purse_for-paid.ensures.value ∙ ap (λ t. unspent (need_for t c.args.need)) (c.target_of-target.ensures.other (ap (λ w. is_moving (kind_of w)) c.in-Ftruncate.is))) c.requires.needed c.requires.right
+    (spelt_one c.args.call.now (call.Ftruncate c.named_by-named.result.fd) c.in-Ftruncate.length (named_as c.args.call.now (λ x. call.Ftruncate x c.in-Ftruncate.length) c.in-Ftruncate.fd c.named_by-named.result.fd c.in-Ftruncate.is (c.named_by-named.ensures.number c.in-Ftruncate.fd (ap number_of c.in-Ftruncate.is))) (search (rules, to_z-of_z)))
 
 pub ftruncate-requires-clause-stands : goal.ftruncate-requires-clause-stands
 ftruncate-requires-clause-stands c = (c.requires.stands.0, c.requires.stands.1, c.requires.stands.2)
@@ -868,8 +915,8 @@ returns-in-Ftruncate-clause-uses c =
 
 pub returns-in-Ftruncate-clause-does : goal.returns-in-Ftruncate-clause-does
 returns-in-Ftruncate-clause-does c =
-    serves_that c.args.script.now c.args.objects.now c.ftruncate.new.objects c.args.caller.now.place.pid c.args.call.now (call.Ftruncate (to_z w64 (of_z w64 c.in-Ftruncate.fd)) (to_z w64 (of_z w64 c.in-Ftruncate.length))) c.ftruncate.result
-    (spelt_two c.args.call.now call.Ftruncate c.in-Ftruncate.fd c.in-Ftruncate.length c.in-Ftruncate.is (search (rules, to_z-of_z)) (search (rules, to_z-of_z))) c.ftruncate.ensures.does
+    serves_that c.args.script.now c.args.objects.now c.ftruncate.new.objects c.args.caller.now.place.pid c.args.call.now (call.Ftruncate c.named_by-named.result.fd (to_z w64 (of_z w64 c.in-Ftruncate.length))) c.ftruncate.result
+    (spelt_one c.args.call.now (call.Ftruncate c.named_by-named.result.fd) c.in-Ftruncate.length (named_as c.args.call.now (λ x. call.Ftruncate x c.in-Ftruncate.length) c.in-Ftruncate.fd c.named_by-named.result.fd c.in-Ftruncate.is (c.named_by-named.ensures.number c.in-Ftruncate.fd (ap number_of c.in-Ftruncate.is))) (search (rules, to_z-of_z))) c.ftruncate.ensures.does
 
 pub returns-in-Ftruncate-clause-cached : goal.returns-in-Ftruncate-clause-cached
 returns-in-Ftruncate-clause-cached c = subst (λ which. ReadsCached c.args.objects.now c.args.caller.now.place.pid which c.ftruncate.result c.ftruncate.new.objects) (sym c.in-Ftruncate.is) tt
@@ -878,6 +925,9 @@ returns-in-Ftruncate-clause-cached c = subst (λ which. ReadsCached c.args.objec
 
 pub fstat-requires-clause-runs : goal.fstat-requires-clause-runs
 fstat-requires-clause-runs c = caller_runs c.args.objects.now c.args.caller.now.place.pid c.args.caller.now c.requires.caller
+
+pub fstat-requires-clause-opened : goal.fstat-requires-clause-opened
+fstat-requires-clause-opened c = c.named_by-named.ensures.opened
 
 pub fstat-requires-clause-placed : goal.fstat-requires-clause-placed
 fstat-requires-clause-placed c = c.requires.caller.placed
@@ -890,8 +940,8 @@ returns-in-Fstat-clause-uses c = uses_nothing c.args.objects.now.heap c.fstat.ne
 
 pub returns-in-Fstat-clause-does : goal.returns-in-Fstat-clause-does
 returns-in-Fstat-clause-does c =
-    serves_that c.args.script.now c.args.objects.now c.fstat.new.objects c.args.caller.now.place.pid c.args.call.now (call.Fstat (to_z w64 (of_z w64 c.in-Fstat.fd))) c.fstat.result
-    (spelt_one c.args.call.now call.Fstat c.in-Fstat.fd c.in-Fstat.is (search (rules, to_z-of_z))) c.fstat.ensures.does
+    serves_that c.args.script.now c.args.objects.now c.fstat.new.objects c.args.caller.now.place.pid c.args.call.now (call.Fstat c.named_by-named.result.fd) c.fstat.result
+    (named_as c.args.call.now call.Fstat c.in-Fstat.fd c.named_by-named.result.fd c.in-Fstat.is (c.named_by-named.ensures.number c.in-Fstat.fd (ap number_of c.in-Fstat.is))) c.fstat.ensures.does
 
 pub returns-in-Fstat-clause-cached : goal.returns-in-Fstat-clause-cached
 returns-in-Fstat-clause-cached c = subst (λ which. ReadsCached c.args.objects.now c.args.caller.now.place.pid which c.fstat.result c.fstat.new.objects) (sym c.in-Fstat.is) tt
@@ -1288,25 +1338,28 @@ bind-requires-clause-stands c = (c.requires.stands.0, c.requires.stands.1, c.req
 pub bind-requires-clause-runs : goal.bind-requires-clause-runs
 bind-requires-clause-runs c = caller_runs c.args.objects.now c.args.caller.now.place.pid c.args.caller.now c.requires.caller
 
+pub bind-requires-clause-opened : goal.bind-requires-clause-opened
+bind-requires-clause-opened c = c.named_by-named.ensures.opened
+
 pub bind-requires-clause-placed : goal.bind-requires-clause-placed
 bind-requires-clause-placed c = c.requires.caller.placed
 
 pub bind-requires-clause-right : goal.bind-requires-clause-right
-bind-requires-clause-right c = right_that c.args.call.now (call.Bind (to_z w64 (of_z w64 c.in-Bind.fd)) c.items-in-Bind.result.now) c.requires.right (spelt_one c.args.call.now (λ z. call.Bind z c.in-Bind.path) c.in-Bind.fd c.in-Bind.is (search (rules, to_z-of_z)) ∙ ap (call.Bind (to_z w64 (of_z w64 c.in-Bind.fd))) (sym c.items-in-Bind.ensures.same))
+bind-requires-clause-right c = right_that c.args.call.now (call.Bind c.named_by-named.result.fd c.items-in-Bind.result.now) c.requires.right (named_as c.args.call.now (λ x. call.Bind x c.in-Bind.path) c.in-Bind.fd c.named_by-named.result.fd c.in-Bind.is (c.named_by-named.ensures.number c.in-Bind.fd (ap number_of c.in-Bind.is)) ∙ ap (call.Bind c.named_by-named.result.fd) (sym c.items-in-Bind.ensures.same))
 
 pub bind-requires-clause-may : goal.bind-requires-clause-may
 bind-requires-clause-may c =
-    walks_one c.args.objects.now.heap c.purse_for-paid.result c.args.need c.args.call.now (call.Bind (to_z w64 (of_z w64 c.in-Bind.fd)) c.items-in-Bind.result.now) (c.purse_for-paid.ensures.value ∙ ap (λ t. unspent (need_for t c.args.need)) (c.target_of-target.ensures.other (ap (λ w. is_moving (kind_of w)) c.in-Bind.is))) c.requires.needed c.requires.right
-    (spelt_one c.args.call.now (λ z. call.Bind z c.in-Bind.path) c.in-Bind.fd c.in-Bind.is (search (rules, to_z-of_z)) ∙ ap (call.Bind (to_z w64 (of_z w64 c.in-Bind.fd))) (sym c.items-in-Bind.ensures.same)) refl (room_less c.args.objects.now.heap c.args.call.now c.requires.room)
+    walks_one c.args.objects.now.heap c.purse_for-paid.result c.args.need c.args.call.now (call.Bind c.named_by-named.result.fd c.items-in-Bind.result.now) (c.purse_for-paid.ensures.value ∙ ap (λ t. unspent (need_for t c.args.need)) (c.target_of-target.ensures.other (ap (λ w. is_moving (kind_of w)) c.in-Bind.is))) c.requires.needed c.requires.right
+    (named_as c.args.call.now (λ x. call.Bind x c.in-Bind.path) c.in-Bind.fd c.named_by-named.result.fd c.in-Bind.is (c.named_by-named.ensures.number c.in-Bind.fd (ap number_of c.in-Bind.is)) ∙ ap (call.Bind c.named_by-named.result.fd) (sym c.items-in-Bind.ensures.same)) refl (room_less c.args.objects.now.heap c.args.call.now c.requires.room)
 
 pub bind-requires-clause-needed : goal.bind-requires-clause-needed
 bind-requires-clause-needed c =
-    has_need c.args.objects.now.heap c.purse_for-paid.result c.args.need c.args.call.now (call.Bind (to_z w64 (of_z w64 c.in-Bind.fd)) c.items-in-Bind.result.now) (c.purse_for-paid.ensures.value ∙ ap (λ t. unspent (need_for t c.args.need)) (c.target_of-target.ensures.other (ap (λ w. is_moving (kind_of w)) c.in-Bind.is))) c.requires.needed c.requires.right
-    (spelt_one c.args.call.now (λ z. call.Bind z c.in-Bind.path) c.in-Bind.fd c.in-Bind.is (search (rules, to_z-of_z)) ∙ ap (call.Bind (to_z w64 (of_z w64 c.in-Bind.fd))) (sym c.items-in-Bind.ensures.same)) refl
+    has_need c.args.objects.now.heap c.purse_for-paid.result c.args.need c.args.call.now (call.Bind c.named_by-named.result.fd c.items-in-Bind.result.now) (c.purse_for-paid.ensures.value ∙ ap (λ t. unspent (need_for t c.args.need)) (c.target_of-target.ensures.other (ap (λ w. is_moving (kind_of w)) c.in-Bind.is))) c.requires.needed c.requires.right
+    (named_as c.args.call.now (λ x. call.Bind x c.in-Bind.path) c.in-Bind.fd c.named_by-named.result.fd c.in-Bind.is (c.named_by-named.ensures.number c.in-Bind.fd (ap number_of c.in-Bind.is)) ∙ ap (call.Bind c.named_by-named.result.fd) (sym c.items-in-Bind.ensures.same)) refl
 
 pub bind-requires-clause-bytes : goal.bind-requires-clause-bytes
 bind-requires-clause-bytes c =
-    let paths = paths_of_it c.args.call.now (call.Bind (to_z w64 (of_z w64 c.in-Bind.fd)) c.items-in-Bind.result.now) (spelt_one c.args.call.now (λ z. call.Bind z c.in-Bind.path) c.in-Bind.fd c.in-Bind.is (search (rules, to_z-of_z)) ∙ ap (call.Bind (to_z w64 (of_z w64 c.in-Bind.fd))) (sym c.items-in-Bind.ensures.same)) c.requires.paths in paths.0
+    let paths = paths_of_it c.args.call.now (call.Bind c.named_by-named.result.fd c.items-in-Bind.result.now) (named_as c.args.call.now (λ x. call.Bind x c.in-Bind.path) c.in-Bind.fd c.named_by-named.result.fd c.in-Bind.is (c.named_by-named.ensures.number c.in-Bind.fd (ap number_of c.in-Bind.is)) ∙ ap (call.Bind c.named_by-named.result.fd) (sym c.items-in-Bind.ensures.same)) c.requires.paths in paths.0
 
 pub returns-in-Bind-clause-uses : goal.returns-in-Bind-clause-uses
 returns-in-Bind-clause-uses c =
@@ -1315,8 +1368,8 @@ returns-in-Bind-clause-uses c =
 
 pub returns-in-Bind-clause-does : goal.returns-in-Bind-clause-does
 returns-in-Bind-clause-does c =
-    serves_that c.args.script.now c.args.objects.now c.bind.new.objects c.args.caller.now.place.pid c.args.call.now (call.Bind (to_z w64 (of_z w64 c.in-Bind.fd)) c.items-in-Bind.result.now) c.bind.result
-    (spelt_one c.args.call.now (λ z. call.Bind z c.in-Bind.path) c.in-Bind.fd c.in-Bind.is (search (rules, to_z-of_z)) ∙ ap (call.Bind (to_z w64 (of_z w64 c.in-Bind.fd))) (sym c.items-in-Bind.ensures.same)) c.bind.ensures.does
+    serves_that c.args.script.now c.args.objects.now c.bind.new.objects c.args.caller.now.place.pid c.args.call.now (call.Bind c.named_by-named.result.fd c.items-in-Bind.result.now) c.bind.result
+    (named_as c.args.call.now (λ x. call.Bind x c.in-Bind.path) c.in-Bind.fd c.named_by-named.result.fd c.in-Bind.is (c.named_by-named.ensures.number c.in-Bind.fd (ap number_of c.in-Bind.is)) ∙ ap (call.Bind c.named_by-named.result.fd) (sym c.items-in-Bind.ensures.same)) c.bind.ensures.does
 
 pub returns-in-Bind-clause-cached : goal.returns-in-Bind-clause-cached
 returns-in-Bind-clause-cached c = subst (λ which. ReadsCached c.args.objects.now c.args.caller.now.place.pid which c.bind.result c.bind.new.objects) (sym c.in-Bind.is) tt
@@ -1325,6 +1378,9 @@ returns-in-Bind-clause-cached c = subst (λ which. ReadsCached c.args.objects.no
 
 pub listen-requires-clause-runs : goal.listen-requires-clause-runs
 listen-requires-clause-runs c = caller_runs c.args.objects.now c.args.caller.now.place.pid c.args.caller.now c.requires.caller
+
+pub listen-requires-clause-opened : goal.listen-requires-clause-opened
+listen-requires-clause-opened c = c.named_by-named.ensures.opened
 
 pub listen-requires-clause-placed : goal.listen-requires-clause-placed
 listen-requires-clause-placed c = c.requires.caller.placed
@@ -1338,8 +1394,8 @@ returns-in-Listen-clause-uses c = uses_nothing c.args.objects.now.heap c.listen.
 pub returns-in-Listen-clause-does : goal.returns-in-Listen-clause-does
 returns-in-Listen-clause-does c =
     unnamed_served c.args.script.now c.args.objects.now c.listen.new.objects c.args.caller.now.place.pid c.args.call.now c.listen.result (λ plain. answer_to c.args.script.now plain c.args.caller.now.place.pid c.args.call.now) (ap path_to_leave c.in-Listen.is)
-    (does_one c.args.script.now c.args.objects.now c.listen.new.objects c.args.caller.now.place.pid c.args.call.now c.listen.result call.Listen c.in-Listen.fd c.in-Listen.is
-    (search (rules, to_z-of_z)) c.listen.ensures.does)
+    (does_that c.args.script.now c.args.objects.now c.listen.new.objects c.args.caller.now.place.pid c.args.call.now (call.Listen c.named_by-named.result.fd) c.listen.result
+    (named_as c.args.call.now call.Listen c.in-Listen.fd c.named_by-named.result.fd c.in-Listen.is (c.named_by-named.ensures.number c.in-Listen.fd (ap number_of c.in-Listen.is))) c.listen.ensures.does)
 
 pub returns-in-Listen-clause-cached : goal.returns-in-Listen-clause-cached
 returns-in-Listen-clause-cached c = subst (λ which. ReadsCached c.args.objects.now c.args.caller.now.place.pid which c.listen.result c.listen.new.objects) (sym c.in-Listen.is) tt
@@ -1352,21 +1408,24 @@ connect-requires-clause-stands c = (c.requires.stands.0, c.requires.stands.1, c.
 pub connect-requires-clause-runs : goal.connect-requires-clause-runs
 connect-requires-clause-runs c = caller_runs c.args.objects.now c.args.caller.now.place.pid c.args.caller.now c.requires.caller
 
+pub connect-requires-clause-opened : goal.connect-requires-clause-opened
+connect-requires-clause-opened c = c.named_by-named.ensures.opened
+
 pub connect-requires-clause-placed : goal.connect-requires-clause-placed
 connect-requires-clause-placed c = c.requires.caller.placed
 
 pub connect-requires-clause-right : goal.connect-requires-clause-right
-connect-requires-clause-right c = right_that c.args.call.now (call.Connect (to_z w64 (of_z w64 c.in-Connect.fd)) c.items-in-Connect.result.now) c.requires.right (spelt_one c.args.call.now (λ z. call.Connect z c.in-Connect.path) c.in-Connect.fd c.in-Connect.is (search (rules, to_z-of_z)) ∙ ap (call.Connect (to_z w64 (of_z w64 c.in-Connect.fd))) (sym c.items-in-Connect.ensures.same))
+connect-requires-clause-right c = right_that c.args.call.now (call.Connect c.named_by-named.result.fd c.items-in-Connect.result.now) c.requires.right (named_as c.args.call.now (λ x. call.Connect x c.in-Connect.path) c.in-Connect.fd c.named_by-named.result.fd c.in-Connect.is (c.named_by-named.ensures.number c.in-Connect.fd (ap number_of c.in-Connect.is)) ∙ ap (call.Connect c.named_by-named.result.fd) (sym c.items-in-Connect.ensures.same))
 
 pub connect-requires-clause-may : goal.connect-requires-clause-may
 connect-requires-clause-may c =
-    walks_connecting c.args.objects.now.heap c.purse_for-paid.result c.args.need c.args.call.now (call.Connect (to_z w64 (of_z w64 c.in-Connect.fd)) c.items-in-Connect.result.now) (c.purse_for-paid.ensures.value ∙ ap (λ t. unspent (need_for t c.args.need)) (c.target_of-target.ensures.other (ap (λ w. is_moving (kind_of w)) c.in-Connect.is))) c.requires.needed c.requires.right
-    (spelt_one c.args.call.now (λ z. call.Connect z c.in-Connect.path) c.in-Connect.fd c.in-Connect.is (search (rules, to_z-of_z)) ∙ ap (call.Connect (to_z w64 (of_z w64 c.in-Connect.fd))) (sym c.items-in-Connect.ensures.same)) refl (room_less c.args.objects.now.heap c.args.call.now c.requires.room)
+    walks_connecting c.args.objects.now.heap c.purse_for-paid.result c.args.need c.args.call.now (call.Connect c.named_by-named.result.fd c.items-in-Connect.result.now) (c.purse_for-paid.ensures.value ∙ ap (λ t. unspent (need_for t c.args.need)) (c.target_of-target.ensures.other (ap (λ w. is_moving (kind_of w)) c.in-Connect.is))) c.requires.needed c.requires.right
+    (named_as c.args.call.now (λ x. call.Connect x c.in-Connect.path) c.in-Connect.fd c.named_by-named.result.fd c.in-Connect.is (c.named_by-named.ensures.number c.in-Connect.fd (ap number_of c.in-Connect.is)) ∙ ap (call.Connect c.named_by-named.result.fd) (sym c.items-in-Connect.ensures.same)) refl (room_less c.args.objects.now.heap c.args.call.now c.requires.room)
 
 pub connect-requires-clause-needed : goal.connect-requires-clause-needed
 connect-requires-clause-needed c =
-    has_need c.args.objects.now.heap c.purse_for-paid.result c.args.need c.args.call.now (call.Connect (to_z w64 (of_z w64 c.in-Connect.fd)) c.items-in-Connect.result.now) (c.purse_for-paid.ensures.value ∙ ap (λ t. unspent (need_for t c.args.need)) (c.target_of-target.ensures.other (ap (λ w. is_moving (kind_of w)) c.in-Connect.is))) c.requires.needed c.requires.right
-    (spelt_one c.args.call.now (λ z. call.Connect z c.in-Connect.path) c.in-Connect.fd c.in-Connect.is (search (rules, to_z-of_z)) ∙ ap (call.Connect (to_z w64 (of_z w64 c.in-Connect.fd))) (sym c.items-in-Connect.ensures.same)) refl
+    has_need c.args.objects.now.heap c.purse_for-paid.result c.args.need c.args.call.now (call.Connect c.named_by-named.result.fd c.items-in-Connect.result.now) (c.purse_for-paid.ensures.value ∙ ap (λ t. unspent (need_for t c.args.need)) (c.target_of-target.ensures.other (ap (λ w. is_moving (kind_of w)) c.in-Connect.is))) c.requires.needed c.requires.right
+    (named_as c.args.call.now (λ x. call.Connect x c.in-Connect.path) c.in-Connect.fd c.named_by-named.result.fd c.in-Connect.is (c.named_by-named.ensures.number c.in-Connect.fd (ap number_of c.in-Connect.is)) ∙ ap (call.Connect c.named_by-named.result.fd) (sym c.items-in-Connect.ensures.same)) refl
 
 pub returns-in-Connect-clause-uses : goal.returns-in-Connect-clause-uses
 returns-in-Connect-clause-uses c =
@@ -1375,8 +1434,8 @@ returns-in-Connect-clause-uses c =
 
 pub returns-in-Connect-clause-does : goal.returns-in-Connect-clause-does
 returns-in-Connect-clause-does c =
-    serves_that c.args.script.now c.args.objects.now c.connect.new.objects c.args.caller.now.place.pid c.args.call.now (call.Connect (to_z w64 (of_z w64 c.in-Connect.fd)) c.items-in-Connect.result.now) c.connect.result
-    (spelt_one c.args.call.now (λ z. call.Connect z c.in-Connect.path) c.in-Connect.fd c.in-Connect.is (search (rules, to_z-of_z)) ∙ ap (call.Connect (to_z w64 (of_z w64 c.in-Connect.fd))) (sym c.items-in-Connect.ensures.same)) c.connect.ensures.does
+    serves_that c.args.script.now c.args.objects.now c.connect.new.objects c.args.caller.now.place.pid c.args.call.now (call.Connect c.named_by-named.result.fd c.items-in-Connect.result.now) c.connect.result
+    (named_as c.args.call.now (λ x. call.Connect x c.in-Connect.path) c.in-Connect.fd c.named_by-named.result.fd c.in-Connect.is (c.named_by-named.ensures.number c.in-Connect.fd (ap number_of c.in-Connect.is)) ∙ ap (call.Connect c.named_by-named.result.fd) (sym c.items-in-Connect.ensures.same)) c.connect.ensures.does
 
 pub returns-in-Connect-clause-cached : goal.returns-in-Connect-clause-cached
 returns-in-Connect-clause-cached c = subst (λ which. ReadsCached c.args.objects.now c.args.caller.now.place.pid which c.connect.result c.connect.new.objects) (sym c.in-Connect.is) tt
@@ -1394,6 +1453,9 @@ accept-requires-clause-left_desc c =
 pub accept-requires-clause-runs : goal.accept-requires-clause-runs
 accept-requires-clause-runs c = caller_runs c.args.objects.now c.args.caller.now.place.pid c.args.caller.now c.requires.caller
 
+pub accept-requires-clause-opened : goal.accept-requires-clause-opened
+accept-requires-clause-opened c = c.named_by-named.ensures.opened
+
 pub accept-requires-clause-placed : goal.accept-requires-clause-placed
 accept-requires-clause-placed c = c.requires.caller.placed
 
@@ -1408,8 +1470,8 @@ returns-in-Accept-clause-uses c =
 pub returns-in-Accept-clause-does : goal.returns-in-Accept-clause-does
 returns-in-Accept-clause-does c =
     unnamed_served c.args.script.now c.args.objects.now c.accept.new.objects c.args.caller.now.place.pid c.args.call.now c.accept.result (λ plain. answer_to c.args.script.now plain c.args.caller.now.place.pid c.args.call.now) (ap path_to_leave c.in-Accept.is)
-    (does_one c.args.script.now c.args.objects.now c.accept.new.objects c.args.caller.now.place.pid c.args.call.now c.accept.result call.Accept c.in-Accept.fd c.in-Accept.is
-    (search (rules, to_z-of_z)) c.accept.ensures.does)
+    (does_that c.args.script.now c.args.objects.now c.accept.new.objects c.args.caller.now.place.pid c.args.call.now (call.Accept c.named_by-named.result.fd) c.accept.result
+    (named_as c.args.call.now call.Accept c.in-Accept.fd c.named_by-named.result.fd c.in-Accept.is (c.named_by-named.ensures.number c.in-Accept.fd (ap number_of c.in-Accept.is))) c.accept.ensures.does)
 
 pub returns-in-Accept-clause-cached : goal.returns-in-Accept-clause-cached
 returns-in-Accept-clause-cached c = subst (λ which. ReadsCached c.args.objects.now c.args.caller.now.place.pid which c.accept.result c.accept.new.objects) (sym c.in-Accept.is) tt
@@ -1418,6 +1480,9 @@ returns-in-Accept-clause-cached c = subst (λ which. ReadsCached c.args.objects.
 
 pub shutdown-requires-clause-runs : goal.shutdown-requires-clause-runs
 shutdown-requires-clause-runs c = caller_runs c.args.objects.now c.args.caller.now.place.pid c.args.caller.now c.requires.caller
+
+pub shutdown-requires-clause-opened : goal.shutdown-requires-clause-opened
+shutdown-requires-clause-opened c = c.named_by-named.ensures.opened
 
 pub shutdown-requires-clause-placed : goal.shutdown-requires-clause-placed
 shutdown-requires-clause-placed c = c.requires.caller.placed
@@ -1431,8 +1496,8 @@ returns-in-Shutdown-clause-uses c = uses_nothing c.args.objects.now.heap c.shutd
 pub returns-in-Shutdown-clause-does : goal.returns-in-Shutdown-clause-does
 returns-in-Shutdown-clause-does c =
     unnamed_served c.args.script.now c.args.objects.now c.shutdown.new.objects c.args.caller.now.place.pid c.args.call.now c.shutdown.result (λ plain. answer_to c.args.script.now plain c.args.caller.now.place.pid c.args.call.now) (ap path_to_leave c.in-Shutdown.is)
-    (does_two c.args.script.now c.args.objects.now c.shutdown.new.objects c.args.caller.now.place.pid c.args.call.now c.shutdown.result call.Shutdown c.in-Shutdown.fd c.in-Shutdown.how c.in-Shutdown.is
-    (search (rules, to_z-of_z)) (search (rules, to_z-of_z)) c.shutdown.ensures.does)
+    (does_one c.args.script.now c.args.objects.now c.shutdown.new.objects c.args.caller.now.place.pid c.args.call.now c.shutdown.result (call.Shutdown c.named_by-named.result.fd) c.in-Shutdown.how
+    (named_as c.args.call.now (λ x. call.Shutdown x c.in-Shutdown.how) c.in-Shutdown.fd c.named_by-named.result.fd c.in-Shutdown.is (c.named_by-named.ensures.number c.in-Shutdown.fd (ap number_of c.in-Shutdown.is))) (search (rules, to_z-of_z)) c.shutdown.ensures.does)
 
 pub returns-in-Shutdown-clause-cached : goal.returns-in-Shutdown-clause-cached
 returns-in-Shutdown-clause-cached c = subst (λ which. ReadsCached c.args.objects.now c.args.caller.now.place.pid which c.shutdown.result c.shutdown.new.objects) (sym c.in-Shutdown.is) tt
