@@ -49,6 +49,10 @@ module _ {which : Call} where
   spelt_four of {a} {b} {c} {d} is one other third fourth =
       spelt_three (λ x y z. of x y z d) is one other third ∙ ap (of (to_z w64 (of_z w64 a)) (to_z w64 (of_z w64 b)) (to_z w64 (of_z w64 c))) (sym fourth)
 
+-- the number is handed on as it was found
+pub named_as : (which : Call) (of : ℤ → Call) (a b : ℤ) → which ≡ of a → b ≡ a → which ≡ of b
+named_as which of a b is same = is ∙ ap of (sym same)
+
 -- ---- what a call does that is another, spelt in other words
 
 module _ {script : Script} {old new : Objects} {pid : ℕ} {which that : Call} {told : Turned} (is : which ≡ that) where

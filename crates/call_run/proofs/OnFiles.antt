@@ -2,6 +2,7 @@
 use Rattle.std.proofs.Common.{◌≡◌, ℕ, zero, suc, ℤ, true, false, Option, None, Some, refl, sym, subst, arith}
 use Rattle.kabi_types.specs.declared.calls.Call.{Call}
 use Rattle.kabi_types.specs.declared.calls.Call.TheVariants as call
+use Rattle.kabi_types.specs.Call.{kind_of}
 use Rattle.kheap_slabs.specs.Heap.{Heap}
 use Rattle.posix_defs.specs.Calls.Opened.{Opened, opened_at}
 use Rattle.posix_defs.specs.Files.Descriptions.{Target, OnNode, OnPipe, OnSocket}
@@ -9,8 +10,9 @@ use Rattle.posix_defs.specs.Files.State.{Files, node_of}
 use Rattle.posix_defs.specs.Files.Whole.{is_queue, is_queue_in}
 use Rattle.posix_defs.specs.Reaching.{is_on_node}
 use Rattle.std.specs.Prelude.{is_some}
+use Rattle.proc_numbers.specs.Found.{IsOffNodes, IsOnNode}
 use Rattle.proc_table.specs.Table.{TableView}
-use Rattle.call_run.specs.Families.{HasHalf, IsFresh, IsOnFile}
+use Rattle.call_run.specs.Families.{HasHalf, IsFresh, IsOffFiles, IsOnFile, is_moving, number_of}
 
 never : {X : Type 0} → false ≡ true → X
 never e = cc
@@ -30,20 +32,33 @@ fresh_of : (files : Files) (pid : ℕ) (fd addr n : ℤ) (done : ℕ) → is_on_
 fresh_of files pid fd addr n zero on half = refl
 fresh_of files pid fd addr n (suc done) on half = absurd (no_queue files (opened_at files pid fd) on (half (omega arith)))
 
-pub fresh_write : (files : Files) (pid : ℕ) (which : Call) (fd addr n : ℤ) (done : ℕ) → which ≡ call.Write fd addr n done → is_on_node files (opened_at files pid fd) ≡ true → HasHalf files pid which → IsFresh which
-fresh_write files pid which fd addr n done is on half = subst IsFresh (sym is) (fresh_of files pid fd addr n done on (subst (HasHalf files pid) is half))
+pub fresh_on : (files : Files) (pid : ℕ) (which : Call) (fd : ℤ) → number_of which ≡ Some fd → is_on_node files (opened_at files pid fd) ≡ true → HasHalf files pid which → IsFresh which
+fresh_on files pid (call.Write at addr n done) fd is on half = let same : fd ≡ at = cc in
+    fresh_of files pid at addr n done (subst (λ z. is_on_node files (opened_at files pid z) ≡ true) same on) half
+fresh_on files pid _ fd is on half = tt
 
 pub fresh_is : (which : Call) (fd addr n : ℤ) (done : ℕ) → which ≡ call.Write fd addr n done → IsFresh which → done ≡ 0
 fresh_is which fd addr n done is fresh = subst IsFresh is fresh
 
+-- ---- what a call moves bytes of is what its number names
+
+pub on_file : (h : Heap) (kept : TableView) (pid : ℕ) (which : Call) (fd : ℤ) → number_of which ≡ Some fd → IsOnNode h kept pid fd → IsOnFile h kept pid which
+on_file h kept pid (call.Read at addr n) fd is on = let same : fd ≡ at = cc in subst (IsOnNode h kept pid) same on
+on_file h kept pid (call.Write at addr n done) fd is on = let same : fd ≡ at = cc in subst (IsOnNode h kept pid) same on
+on_file h kept pid _ fd is on = tt
+
+pub off_files : (h : Heap) (kept : TableView) (pid : ℕ) (which : Call) (fd : ℤ) → number_of which ≡ Some fd → IsOffNodes h kept pid fd → IsOffFiles h kept pid which
+off_files h kept pid (call.Read at addr n) fd is off = let same : fd ≡ at = cc in subst (IsOffNodes h kept pid) same off
+off_files h kept pid (call.Write at addr n done) fd is off = let same : fd ≡ at = cc in subst (IsOffNodes h kept pid) same off
+off_files h kept pid _ fd is off = tt
+
 -- ---- a call that moves no bytes
 
-pub other_on : (h : Heap) (kept : TableView) (pid : ℕ) (which : Call) → ((a b c : ℤ) → which ≡ call.Read a b c → ⊥) → ((a b c : ℤ) (done : ℕ) → which ≡ call.Write a b c done → ⊥)
-    → IsOnFile h kept pid which
-other_on h kept pid (call.Read a b c) r w = absurd (r a b c refl)
-other_on h kept pid (call.Write a b c done) r w = absurd (w a b c done refl)
-other_on h kept pid _ r w = tt
+pub other_on : (h : Heap) (kept : TableView) (pid : ℕ) (which : Call) → is_moving (kind_of which) ≡ false → IsOnFile h kept pid which
+other_on h kept pid (call.Read a b c) still = never (sym still)
+other_on h kept pid (call.Write a b c done) still = never (sym still)
+other_on h kept pid _ still = tt
 
-pub other_fresh : (which : Call) → ((a b c : ℤ) (done : ℕ) → which ≡ call.Write a b c done → ⊥) → IsFresh which
-other_fresh (call.Write a b c done) w = absurd (w a b c done refl)
-other_fresh _ w = tt
+pub other_fresh : (which : Call) → is_moving (kind_of which) ≡ false → IsFresh which
+other_fresh (call.Write a b c done) still = never (sym still)
+other_fresh _ still = tt

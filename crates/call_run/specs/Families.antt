@@ -1,5 +1,5 @@
--- What the paths of a call are, and what it moves bytes of.
-use Rattle.std.specs.Prelude.{ℕ, ◌≡◌, ◌<◌, Bool, true, false}
+-- The number that a call has, what the paths of a call are, and what it moves bytes of.
+use Rattle.std.specs.Prelude.{ℕ, ℤ, ◌≡◌, ◌<◌, Bool, true, false, Option, None, Some}
 use Rattle.std.specs.List.{AllByRecursion}
 use Rattle.kabi_types.specs.declared.calls.Call.{Call}
 use Rattle.kabi_types.specs.declared.calls.Call.TheVariants as call
@@ -21,6 +21,27 @@ abbrev pub is_moving : Call → Bool
 is_moving (call.Read fd addr n) = true
 is_moving (call.Write fd addr n done) = true
 is_moving _ = false
+
+-- the number of a descriptor that a call has; of a dup2 that of the one that is copied
+abbrev pub number_of : Call → Option ℤ
+number_of (call.Close fd) = Some fd
+number_of (call.Dup fd) = Some fd
+number_of (call.Dup2 fd to) = Some fd
+number_of (call.Fcntl fd cmd arg) = Some fd
+number_of (call.Read fd addr n) = Some fd
+number_of (call.Write fd addr n done) = Some fd
+number_of (call.Pread fd addr n at) = Some fd
+number_of (call.Pwrite fd addr n at) = Some fd
+number_of (call.Lseek fd offset whence) = Some fd
+number_of (call.Readdir fd addr n) = Some fd
+number_of (call.Ftruncate fd length) = Some fd
+number_of (call.Fstat fd) = Some fd
+number_of (call.Bind fd path) = Some fd
+number_of (call.Listen fd) = Some fd
+number_of (call.Connect fd path) = Some fd
+number_of (call.Accept fd) = Some fd
+number_of (call.Shutdown fd how) = Some fd
+number_of _ = None
 
 -- a call that moves bytes moves those of a file or a directory
 abbrev pub IsOnFile : Heap → TableView → ℕ → Call → Type 0

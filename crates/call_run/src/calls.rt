@@ -9,25 +9,22 @@ ghost use Rattle.kabi_types.specs.declared.replies.Reply.TheVariants.{Val};
 ghost use Rattle.kabi_types.specs.declared.scripts.Script.{Script};
 ghost use Rattle.kheap_slabs.specs.Heap.{live_bytes};
 ghost use Rattle.kheap_slabs.specs.Paid.{TakesNothing};
-ghost use Rattle.posix_defs.specs.Calls.Opened.{opened_at};
 ghost use Rattle.posix_defs.specs.Machine.{answer_to, blocks, machine};
 ghost use Rattle.posix_defs.specs.Needs.{bound, need_of, slack};
 ghost use Rattle.posix_defs.specs.Process.{is_alive};
-ghost use Rattle.posix_defs.specs.Reaching.{is_on_node as plain_on_node};
 ghost use Rattle.posix_defs.specs.Sizes.{reserve};
 ghost use Rattle.posix_defs.specs.World.{World};
 ghost use Rattle.posix_defs.specs.declared.turner.Turned.TheVariants as turned;
-ghost use Rattle.proc_numbers.specs.Found.{IsOffNodes, IsOnNode};
-ghost use Rattle.proc_table.specs.Procs.{IsAlive};
 ghost use Rattle.prog_ctl.specs.Waits.{wait_of};
 ghost use Rattle.proc_table.specs.Table.{IsPlaced};
-ghost use Rattle.store_objects.specs.Objects.{AreKept, IsCaller, Runs, procs_of};
+ghost use Rattle.store_objects.specs.Objects.{AreKept, IsCaller, Runs};
 ghost use Rattle.store_objects.specs.Standing.{IsSound, StandsFor, answered_in};
 ghost use Rattle.store_objects.specs.Uses.{UsesAtMost};
 ghost use Rattle.store_objects.specs.Walking.{Serves};
 ghost use Rattle.store_objects.specs.declared.purses.Target.TheVariants.{File, Queue};
-ghost use Rattle.call_run.specs.Families.{HasDone, HasHalf, HasPaths, IsFresh, IsOffFiles, IsOnFile, is_moving};
+ghost use Rattle.call_run.specs.Families.{HasDone, HasHalf, HasPaths};
 
+use crate::numbers::{named_by, target_of};
 use file_calls::{
     bind, close, connect, dup2, exec, fstat, ftruncate, lseek, open, pread, pwrite,
     read as read_file, readdir, write as write_file,
@@ -35,7 +32,7 @@ use file_calls::{
 use kabi_types::{Call, Errno, Memory, Need, Reply, Script, may_wait};
 use path_calls::{chdir, link, mkdir, rename, rmdir, stat, unlink};
 use posix_defs::Turned;
-use proc_files::{FileBuffer, MOST_MOVED, is_on_node};
+use proc_files::{FileBuffer, MOST_MOVED};
 use proc_table::Place;
 use process_calls::{exit, fork, load, mmap, munmap, signal_process, store, wait, would_sleep};
 use prog_ctl::Awaited;
@@ -61,41 +58,6 @@ impl Buffers {
         let file = Box::new(alloc, [0; MOST_MOVED])?;
         let queue = Box::new(alloc, [0; CAPACITY])?;
         Ok(Buffers { queue, file })
-    }
-}
-
-/// What a live process's call moves bytes of: a queue where it reads or writes a number that isn't open on a node, and else a file, or
-/// nothing. Of a file nobody has written a part, so that a write to one begins anew.
-fn target_of(objects: &Objects, place: Place, call: &Call) -> Target
-    requires kept { (script : Script) × AreKept script objects.now }
-    requires alive { IsAlive (procs_of objects.now) place.pid }
-    requires placed { IsPlaced objects.now.procs place }
-    ensures other { is_moving call.now ≡ false → result ≡ File }
-    ensures on { result ≡ File → IsOnFile objects.now.heap objects.now.procs place.pid call.now }
-    ensures off { result ≡ Queue → IsOffFiles objects.now.heap objects.now.procs place.pid call.now }
-    ensures fresh { result ≡ File → (script : Script) (world : World) → StandsFor script objects.now world → HasHalf world.plain.files place.pid call.now → IsFresh call.now }
-{
-    match call {
-        Call::Read { fd, .. } => moved_by(objects, place, *fd),
-        Call::Write { fd, .. } => moved_by(objects, place, *fd),
-        _ => Target::File,
-    }
-}
-
-/// What is moved through a number.
-fn moved_by(objects: &Objects, place: Place, fd: i64) -> Target
-    requires kept { (script : Script) × AreKept script objects.now }
-    requires alive { IsAlive (procs_of objects.now) place.pid }
-    requires placed { IsPlaced objects.now.procs place }
-    ensures on { result ≡ File → IsOnNode objects.now.heap objects.now.procs place.pid fd }
-    ensures off { result ≡ Queue → IsOffNodes objects.now.heap objects.now.procs place.pid fd }
-    ensures tells { result ≡ File → (script : Script) (world : World) → StandsFor script objects.now world
-        → plain_on_node world.plain.files (opened_at world.plain.files place.pid fd) ≡ true }
-{
-    if is_on_node(&objects.heap, &objects.procs, place, fd) {
-        Target::File
-    } else {
-        Target::Queue
     }
 }
 
@@ -139,7 +101,9 @@ fn run_right(
     ensures does { Serves script.now objects.old caller.now.place.pid call.now (λ plain. answer_to script.now plain caller.now.place.pid call.now) result objects.new }
     ensures cached { ReadsCached objects.old caller.now.place.pid call.now result objects.new }
 {
-    let target = target_of(objects, caller.place, call);
+    let named = named_by(objects, caller.place, call);
+    let on = &named;
+    let target = target_of(call, on);
     let mut paid = purse_for(need, target);
     let purse = &mut paid;
     let file = &mut buffers.file;
@@ -164,36 +128,36 @@ fn run_right(
             path.items(),
             *flags,
         ),
-        Call::Close { fd } => close(script, objects, caller, *fd),
-        Call::Dup { fd } => dup(script, objects, purse, caller, *fd),
-        Call::Dup2 { fd, to } => dup2(script, objects, purse, caller, *fd, *to),
-        Call::Fcntl { fd, cmd, arg } => fcntl(script, objects, purse, caller, *fd, *cmd, *arg),
-        Call::Read { fd, addr, n } => match target {
-            Target::File => read_file(script, objects, purse, file, caller, *fd, *addr, *n),
+        Call::Close { .. } => close(script, objects, caller, on),
+        Call::Dup { .. } => dup(script, objects, purse, caller, on),
+        Call::Dup2 { to, .. } => dup2(script, objects, purse, caller, on, *to),
+        Call::Fcntl { cmd, arg, .. } => fcntl(script, objects, purse, caller, on, *cmd, *arg),
+        Call::Read { addr, n, .. } => match target {
+            Target::File => read_file(script, objects, purse, file, caller, on, *addr, *n),
             Target::Queue => {
                 let queue = &mut buffers.queue;
-                read_queue(script, objects, purse, queue, caller, *fd, *addr, *n)
+                read_queue(script, objects, purse, queue, caller, on, *addr, *n)
             }
         },
-        Call::Write { fd, addr, n, done } => match target {
-            Target::File => write_file(script, objects, purse, file, caller, *fd, *addr, *n),
+        Call::Write { addr, n, done, .. } => match target {
+            Target::File => write_file(script, objects, purse, file, caller, on, *addr, *n),
             Target::Queue => {
                 let queue = &mut buffers.queue;
-                write_queue(script, objects, purse, queue, caller, *fd, *addr, *n, *done)
+                write_queue(script, objects, purse, queue, caller, on, *addr, *n, *done)
             }
         },
-        Call::Pread { fd, addr, n, at } => pread(
-            script, objects, purse, file, caller, *fd, *addr, *n, *at,
+        Call::Pread { addr, n, at, .. } => pread(
+            script, objects, purse, file, caller, on, *addr, *n, *at,
         ),
-        Call::Pwrite { fd, addr, n, at } => pwrite(
-            script, objects, purse, file, caller, *fd, *addr, *n, *at,
+        Call::Pwrite { addr, n, at, .. } => pwrite(
+            script, objects, purse, file, caller, on, *addr, *n, *at,
         ),
-        Call::Lseek { fd, offset, whence } => lseek(script, objects, caller, *fd, *offset, *whence),
-        Call::Readdir { fd, addr, n } => readdir(
-            script, objects, purse, file, caller, *fd, *addr, *n,
+        Call::Lseek { offset, whence, .. } => lseek(script, objects, caller, on, *offset, *whence),
+        Call::Readdir { addr, n, .. } => readdir(
+            script, objects, purse, file, caller, on, *addr, *n,
         ),
-        Call::Ftruncate { fd, length } => ftruncate(script, objects, purse, caller, *fd, *length),
-        Call::Fstat { fd } => fstat(script, objects, caller, *fd),
+        Call::Ftruncate { length, .. } => ftruncate(script, objects, purse, caller, on, *length),
+        Call::Fstat { .. } => fstat(script, objects, caller, on),
         Call::Stat { path } => stat(script, objects, purse, caller, path.items()),
         Call::Chdir { path } => chdir(script, objects, purse, caller, path.items()),
         Call::Mkdir { path } => mkdir(script, objects, purse, caller, path.items()),
@@ -211,11 +175,11 @@ fn run_right(
         Call::Pipe => pipe(script, objects, purse, caller),
         Call::Socket => socket(script, objects, purse, caller),
         Call::Socketpair => socketpair(script, objects, purse, caller),
-        Call::Bind { fd, path } => bind(script, objects, purse, caller, *fd, path.items()),
-        Call::Listen { fd } => listen(script, objects, caller, *fd),
-        Call::Connect { fd, path } => connect(script, objects, purse, caller, *fd, path.items()),
-        Call::Accept { fd } => accept(script, objects, purse, caller, *fd),
-        Call::Shutdown { fd, how } => shutdown(script, objects, caller, *fd, *how),
+        Call::Bind { path, .. } => bind(script, objects, purse, caller, on, path.items()),
+        Call::Listen { .. } => listen(script, objects, caller, on),
+        Call::Connect { path, .. } => connect(script, objects, purse, caller, on, path.items()),
+        Call::Accept { .. } => accept(script, objects, purse, caller, on),
+        Call::Shutdown { how, .. } => shutdown(script, objects, caller, on, *how),
         Call::Poll { timeout, entries } => poll(script, objects, caller, *timeout, entries),
     }
 }

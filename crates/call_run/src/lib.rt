@@ -3,6 +3,7 @@
 
 mod calls;
 pub mod laws;
+mod numbers;
 mod sleepers;
 mod store;
 mod touching;

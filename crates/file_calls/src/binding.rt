@@ -9,6 +9,7 @@ ghost use Rattle.memfs_ops.specs.FileTree.{MayWalk};
 ghost use Rattle.posix_defs.specs.Calls.OnSockets.{bind};
 ghost use Rattle.posix_defs.specs.Needs.{need_of};
 ghost use Rattle.posix_defs.specs.World.{World};
+ghost use Rattle.proc_numbers.specs.Found.{IsOpened};
 ghost use Rattle.proc_table.specs.Table.{IsPlaced};
 ghost use Rattle.store_objects.specs.Objects.{AreKept, Runs};
 ghost use Rattle.store_objects.specs.Standing.{IsSound, StandsFor};
@@ -19,6 +20,7 @@ use kabi_types::Script;
 use kheap_slabs::Purse;
 use posix_defs::Turned;
 use proc_files::bind_number;
+use proc_numbers::Named;
 use store_objects::{Caller, Objects, go_on};
 
 /// Gives the socket that a number is open on a new name in the tree of files.
@@ -34,19 +36,20 @@ pub fn bind(
     objects: &mut Objects,
     purse: &mut Purse,
     caller: &Caller,
-    fd: i64,
+    on: &Named,
     path: &[u8],
 ) -> Turned
     requires stands { (world : World) × StandsFor script.now objects.old world × IsSound world.plain }
     requires runs { Runs objects.old caller.now.place.pid caller.now.control }
     requires placed { IsPlaced objects.old.procs caller.now.place }
-    requires right { argument_fault (Call.Bind fd path.now) ≡ None }
+    requires opened { IsOpened objects.old.heap objects.old.procs caller.now.place.pid on.now }
+    requires right { argument_fault (Call.Bind on.now.fd path.now) ≡ None }
     requires bytes { All (λ byte. (0 < byte) × (byte < 2 ^ 8)) path.now }
     requires may { MayWalk objects.old.heap purse.old }
-    requires needed { purse.old.left ≡ need_of (Call.Bind fd path.now) }
+    requires needed { purse.old.left ≡ need_of (Call.Bind on.now.fd path.now) }
     ensures kept { AreKept script.now objects.new }
     ensures paid { IsPaid objects.old.heap purse.old objects.new.heap purse.new }
-    ensures does { Serves script.now objects.old caller.now.place.pid (Call.Bind fd path.now) (λ plain. bind script.now plain caller.now.place.pid fd path.now) result objects.new }
+    ensures does { Serves script.now objects.old caller.now.place.pid (Call.Bind on.now.fd path.now) (λ plain. bind script.now plain caller.now.place.pid on.now.fd path.now) result objects.new }
 {
     objects.heap_is_well_formed();
     let done = bind_number(
@@ -56,7 +59,7 @@ pub fn bind(
         &mut objects.tree,
         &mut objects.names,
         caller.place,
-        fd,
+        on,
         path,
     );
     go_on(script, objects, caller, zero(done))

@@ -8,6 +8,7 @@ ghost use Rattle.posix_defs.specs.Calls.OnDescriptors.{close, dup2};
 ghost use Rattle.posix_defs.specs.Needs.{bound};
 ghost use Rattle.posix_defs.specs.Sizes.{reserve};
 ghost use Rattle.posix_defs.specs.World.{World};
+ghost use Rattle.proc_numbers.specs.Found.{IsOpened};
 ghost use Rattle.proc_table.specs.Table.{IsPlaced};
 ghost use Rattle.store_objects.specs.Objects.{AreKept, Runs};
 ghost use Rattle.store_objects.specs.Standing.{IsSound, StandsFor};
@@ -19,6 +20,7 @@ use kabi_types::Script;
 use kheap_slabs::Purse;
 use posix_defs::Turned;
 use proc_files::{close_number, dup_number};
+use proc_numbers::Named;
 use store_objects::{Caller, Objects, go_on, kept_back};
 
 /// Closes a number; with the last that names it a description goes, and what it was open on. A file without links goes with the last
@@ -28,14 +30,15 @@ use store_objects::{Caller, Objects, go_on, kept_back};
 ///
 /// <https://pubs.opengroup.org/onlinepubs/9699919799/functions/close.html>
 #[inline(never)]
-pub fn close(script: &Script, objects: &mut Objects, caller: &Caller, fd: i64) -> Turned
+pub fn close(script: &Script, objects: &mut Objects, caller: &Caller, on: &Named) -> Turned
     requires stands { (world : World) × StandsFor script.now objects.old world × IsSound world.plain }
     requires runs { Runs objects.old caller.now.place.pid caller.now.control }
     requires placed { IsPlaced objects.old.procs caller.now.place }
+    requires opened { IsOpened objects.old.heap objects.old.procs caller.now.place.pid on.now }
     requires room { live_bytes objects.old.heap + reserve ≤ objects.old.heap.heap }
     ensures kept { AreKept script.now objects.new }
     ensures uses { UsesAtMost objects.old.heap objects.new.heap 0 reserve }
-    ensures does { Serves script.now objects.old caller.now.place.pid (Call.Close fd) (λ plain. close script.now plain caller.now.place.pid fd) result objects.new }
+    ensures does { Serves script.now objects.old caller.now.place.pid (Call.Close on.now.fd) (λ plain. close script.now plain caller.now.place.pid on.now.fd) result objects.new }
 {
     objects.heap_is_well_formed();
     let mut purse = kept_back();
@@ -46,7 +49,7 @@ pub fn close(script: &Script, objects: &mut Objects, caller: &Caller, fd: i64) -
         &mut objects.tree,
         &mut objects.names,
         caller.place,
-        fd,
+        on,
     );
     go_on(script, objects, caller, zero(closed))
 }
@@ -63,17 +66,18 @@ pub fn dup2(
     objects: &mut Objects,
     purse: &mut Purse,
     caller: &Caller,
-    fd: i64,
+    on: &Named,
     to: i64,
 ) -> Turned
     requires stands { (world : World) × StandsFor script.now objects.old world × IsSound world.plain }
     requires runs { Runs objects.old caller.now.place.pid caller.now.control }
     requires placed { IsPlaced objects.old.procs caller.now.place }
+    requires opened { IsOpened objects.old.heap objects.old.procs caller.now.place.pid on.now }
     requires pays { CanPay objects.old.heap purse.old }
-    requires room { live_bytes objects.old.heap + bound (Call.Dup2 fd to) + reserve ≤ objects.old.heap.heap }
+    requires room { live_bytes objects.old.heap + bound (Call.Dup2 on.now.fd to) + reserve ≤ objects.old.heap.heap }
     ensures kept { AreKept script.now objects.new }
-    ensures uses { UsesAtMost objects.old.heap objects.new.heap (bound (Call.Dup2 fd to)) reserve }
-    ensures does { Serves script.now objects.old caller.now.place.pid (Call.Dup2 fd to) (λ plain. dup2 script.now plain caller.now.place.pid fd to) result objects.new }
+    ensures uses { UsesAtMost objects.old.heap objects.new.heap (bound (Call.Dup2 on.now.fd to)) reserve }
+    ensures does { Serves script.now objects.old caller.now.place.pid (Call.Dup2 on.now.fd to) (λ plain. dup2 script.now plain caller.now.place.pid on.now.fd to) result objects.new }
 {
     objects.heap_is_well_formed();
     let mut back = kept_back();
@@ -85,7 +89,7 @@ pub fn dup2(
         &mut objects.tree,
         &mut objects.names,
         caller.place,
-        fd,
+        on,
         to,
     );
     go_on(script, objects, caller, value(made))

@@ -8,6 +8,7 @@ ghost use Rattle.memfs_ops.specs.FileTree.{MayWalk};
 ghost use Rattle.posix_defs.specs.Calls.OnSockets.{connect};
 ghost use Rattle.posix_defs.specs.Needs.{need_of};
 ghost use Rattle.posix_defs.specs.World.{World};
+ghost use Rattle.proc_numbers.specs.Found.{IsOpened};
 ghost use Rattle.proc_table.specs.Table.{IsPlaced};
 ghost use Rattle.store_objects.specs.Objects.{AreKept, Runs};
 ghost use Rattle.store_objects.specs.Standing.{IsSound, StandsFor};
@@ -18,6 +19,7 @@ use kabi_types::Script;
 use kheap_slabs::Purse;
 use posix_defs::Turned;
 use proc_files::connect_number;
+use proc_numbers::Named;
 use store_objects::{Caller, Objects, go_on};
 
 /// Connects the socket that a number is open on to a new one, which waits behind the others for the socket that listens under a
@@ -34,18 +36,19 @@ pub fn connect(
     objects: &mut Objects,
     purse: &mut Purse,
     caller: &Caller,
-    fd: i64,
+    on: &Named,
     path: &[u8],
 ) -> Turned
     requires stands { (world : World) × StandsFor script.now objects.old world × IsSound world.plain }
     requires runs { Runs objects.old caller.now.place.pid caller.now.control }
     requires placed { IsPlaced objects.old.procs caller.now.place }
-    requires right { argument_fault (Call.Connect fd path.now) ≡ None }
+    requires opened { IsOpened objects.old.heap objects.old.procs caller.now.place.pid on.now }
+    requires right { argument_fault (Call.Connect on.now.fd path.now) ≡ None }
     requires may { MayWalk objects.old.heap purse.old }
-    requires needed { purse.old.left ≡ need_of (Call.Connect fd path.now) }
+    requires needed { purse.old.left ≡ need_of (Call.Connect on.now.fd path.now) }
     ensures kept { AreKept script.now objects.new }
     ensures paid { IsPaid objects.old.heap purse.old objects.new.heap purse.new }
-    ensures does { Serves script.now objects.old caller.now.place.pid (Call.Connect fd path.now) (λ plain. connect script.now plain caller.now.place.pid fd path.now) result objects.new }
+    ensures does { Serves script.now objects.old caller.now.place.pid (Call.Connect on.now.fd path.now) (λ plain. connect script.now plain caller.now.place.pid on.now.fd path.now) result objects.new }
 {
     objects.heap_is_well_formed();
     let done = connect_number(
@@ -55,7 +58,7 @@ pub fn connect(
         &mut objects.tree,
         &objects.names,
         caller.place,
-        fd,
+        on,
         path,
     );
     go_on(script, objects, caller, zero(done))

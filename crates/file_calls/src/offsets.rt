@@ -8,6 +8,7 @@ ghost use Rattle.memfs_ops.specs.Fetching.{MayFetch};
 ghost use Rattle.posix_defs.specs.Calls.OnFiles.{ftruncate, lseek};
 ghost use Rattle.posix_defs.specs.Needs.{need_of};
 ghost use Rattle.posix_defs.specs.World.{World};
+ghost use Rattle.proc_numbers.specs.Found.{IsOpened};
 ghost use Rattle.proc_table.specs.Table.{IsPlaced};
 ghost use Rattle.store_objects.specs.Objects.{AreKept, Runs};
 ghost use Rattle.store_objects.specs.Purses.{need_for};
@@ -20,6 +21,7 @@ use kabi_types::Script;
 use kheap_slabs::Purse;
 use posix_defs::Turned;
 use proc_files::{seek_number, size_number};
+use proc_numbers::Named;
 use store_objects::{Caller, Objects, go_on};
 
 /// Has the description that a number names stand at another offset, counted from the beginning, from where it is, or from the end of
@@ -34,17 +36,18 @@ pub fn lseek(
     script: &Script,
     objects: &mut Objects,
     caller: &Caller,
-    fd: i64,
+    on: &Named,
     distance: i64,
     whence: i64,
 ) -> Turned
     requires stands { (world : World) × StandsFor script.now objects.old world × IsSound world.plain }
     requires runs { Runs objects.old caller.now.place.pid caller.now.control }
     requires placed { IsPlaced objects.old.procs caller.now.place }
-    requires right { argument_fault (Call.Lseek fd distance whence) ≡ None }
+    requires opened { IsOpened objects.old.heap objects.old.procs caller.now.place.pid on.now }
+    requires right { argument_fault (Call.Lseek on.now.fd distance whence) ≡ None }
     ensures kept { AreKept script.now objects.new }
     ensures takes { TakesNothing objects.old.heap objects.new.heap }
-    ensures does { Serves script.now objects.old caller.now.place.pid (Call.Lseek fd distance whence) (λ plain. lseek script.now plain caller.now.place.pid fd distance whence) result objects.new }
+    ensures does { Serves script.now objects.old caller.now.place.pid (Call.Lseek on.now.fd distance whence) (λ plain. lseek script.now plain caller.now.place.pid on.now.fd distance whence) result objects.new }
 {
     objects.heap_is_well_formed();
     let sought = seek_number(
@@ -52,7 +55,7 @@ pub fn lseek(
         &objects.procs,
         &mut objects.tree,
         caller.place,
-        fd,
+        on,
         distance,
         whence,
     );
@@ -71,18 +74,19 @@ pub fn ftruncate(
     objects: &mut Objects,
     purse: &mut Purse,
     caller: &Caller,
-    fd: i64,
+    on: &Named,
     size: i64,
 ) -> Turned
     requires stands { (world : World) × StandsFor script.now objects.old world × IsSound world.plain }
     requires runs { Runs objects.old caller.now.place.pid caller.now.control }
     requires placed { IsPlaced objects.old.procs caller.now.place }
-    requires right { argument_fault (Call.Ftruncate fd size) ≡ None }
+    requires opened { IsOpened objects.old.heap objects.old.procs caller.now.place.pid on.now }
+    requires right { argument_fault (Call.Ftruncate on.now.fd size) ≡ None }
     requires may { MayFetch objects.old.heap purse.old }
-    requires needed { purse.old.left ≡ need_for File (need_of (Call.Ftruncate fd size)) }
+    requires needed { purse.old.left ≡ need_for File (need_of (Call.Ftruncate on.now.fd size)) }
     ensures kept { AreKept script.now objects.new }
     ensures paid { IsPaid objects.old.heap purse.old objects.new.heap purse.new }
-    ensures does { Serves script.now objects.old caller.now.place.pid (Call.Ftruncate fd size) (λ plain. ftruncate script.now plain caller.now.place.pid fd size) result objects.new }
+    ensures does { Serves script.now objects.old caller.now.place.pid (Call.Ftruncate on.now.fd size) (λ plain. ftruncate script.now plain caller.now.place.pid on.now.fd size) result objects.new }
 {
     objects.heap_is_well_formed();
     let done = size_number(
@@ -91,7 +95,7 @@ pub fn ftruncate(
         &objects.procs,
         &mut objects.tree,
         caller.place,
-        fd,
+        on,
         size,
     );
     go_on(script, objects, caller, zero(done))

@@ -10,7 +10,7 @@ ghost use Rattle.memfs_ops.specs.Fetching.{MayFetch};
 ghost use Rattle.posix_defs.specs.Calls.Reading.{pread, read, readdir};
 ghost use Rattle.posix_defs.specs.Needs.{need_of};
 ghost use Rattle.posix_defs.specs.World.{World};
-ghost use Rattle.proc_numbers.specs.Found.{IsOnNode};
+ghost use Rattle.proc_numbers.specs.Found.{IsOnNode, IsOpened};
 ghost use Rattle.proc_table.specs.Table.{IsPlaced};
 ghost use Rattle.store_objects.specs.Objects.{AreKept, Runs};
 ghost use Rattle.store_objects.specs.Purses.{need_for};
@@ -23,6 +23,7 @@ use kabi_types::Script;
 use kheap_slabs::Purse;
 use posix_defs::Turned;
 use proc_files::{FileBuffer, pread_file, read_entries, read_file};
+use proc_numbers::Named;
 use store_objects::{Caller, Objects, go_on};
 
 /// Reads at most n bytes of the file that a number is open on into memory, from the description's offset on, as many as are there;
@@ -39,21 +40,22 @@ pub fn read(
     purse: &mut Purse,
     buffer: &mut FileBuffer,
     caller: &Caller,
-    fd: i64,
+    on: &Named,
     addr: i64,
     n: i64,
 ) -> Turned
     requires stands { (world : World) × StandsFor script.now objects.old world × IsSound world.plain }
     requires runs { Runs objects.old caller.now.place.pid caller.now.control }
     requires placed { IsPlaced objects.old.procs caller.now.place }
-    requires on { IsOnNode objects.old.heap objects.old.procs caller.now.place.pid fd }
-    requires right { argument_fault (Call.Read fd addr n) ≡ None }
+    requires opened { IsOpened objects.old.heap objects.old.procs caller.now.place.pid on.now }
+    requires on { IsOnNode objects.old.heap objects.old.procs caller.now.place.pid on.now.fd }
+    requires right { argument_fault (Call.Read on.now.fd addr n) ≡ None }
     requires may { MayFetch objects.old.heap purse.old }
-    requires needed { purse.old.left ≡ need_for File (need_of (Call.Read fd addr n)) }
+    requires needed { purse.old.left ≡ need_for File (need_of (Call.Read on.now.fd addr n)) }
     ensures kept { AreKept script.now objects.new }
     ensures paid { IsPaid objects.old.heap purse.old objects.new.heap purse.new }
-    ensures does { Serves script.now objects.old caller.now.place.pid (Call.Read fd addr n) (λ plain. read script.now plain caller.now.place.pid fd addr n) result objects.new }
-    ensures cached { AreBytesCached objects.old caller.now.place.pid fd (λ (desc : HeldDesc). desc.offset) (told_count result) objects.new }
+    ensures does { Serves script.now objects.old caller.now.place.pid (Call.Read on.now.fd addr n) (λ plain. read script.now plain caller.now.place.pid on.now.fd addr n) result objects.new }
+    ensures cached { AreBytesCached objects.old caller.now.place.pid on.now.fd (λ (desc : HeldDesc). desc.offset) (told_count result) objects.new }
 {
     objects.heap_is_well_formed();
     let moved = read_file(
@@ -63,7 +65,7 @@ pub fn read(
         &mut objects.tree,
         buffer,
         caller.place,
-        fd,
+        on,
         addr,
         n,
     );
@@ -84,7 +86,7 @@ pub fn pread(
     purse: &mut Purse,
     buffer: &mut FileBuffer,
     caller: &Caller,
-    fd: i64,
+    on: &Named,
     addr: i64,
     n: i64,
     at: i64,
@@ -92,13 +94,14 @@ pub fn pread(
     requires stands { (world : World) × StandsFor script.now objects.old world × IsSound world.plain }
     requires runs { Runs objects.old caller.now.place.pid caller.now.control }
     requires placed { IsPlaced objects.old.procs caller.now.place }
-    requires right { argument_fault (Call.Pread fd addr n at) ≡ None }
+    requires opened { IsOpened objects.old.heap objects.old.procs caller.now.place.pid on.now }
+    requires right { argument_fault (Call.Pread on.now.fd addr n at) ≡ None }
     requires may { MayFetch objects.old.heap purse.old }
-    requires needed { purse.old.left ≡ need_for File (need_of (Call.Pread fd addr n at)) }
+    requires needed { purse.old.left ≡ need_for File (need_of (Call.Pread on.now.fd addr n at)) }
     ensures kept { AreKept script.now objects.new }
     ensures paid { IsPaid objects.old.heap purse.old objects.new.heap purse.new }
-    ensures does { Serves script.now objects.old caller.now.place.pid (Call.Pread fd addr n at) (λ plain. pread script.now plain caller.now.place.pid fd addr n at) result objects.new }
-    ensures cached { AreBytesCached objects.old caller.now.place.pid fd (λ (desc : HeldDesc). count_of at) (told_count result) objects.new }
+    ensures does { Serves script.now objects.old caller.now.place.pid (Call.Pread on.now.fd addr n at) (λ plain. pread script.now plain caller.now.place.pid on.now.fd addr n at) result objects.new }
+    ensures cached { AreBytesCached objects.old caller.now.place.pid on.now.fd (λ (desc : HeldDesc). count_of at) (told_count result) objects.new }
 {
     objects.heap_is_well_formed();
     let moved = pread_file(
@@ -108,7 +111,7 @@ pub fn pread(
         &mut objects.tree,
         buffer,
         caller.place,
-        fd,
+        on,
         addr,
         n,
         at,
@@ -130,20 +133,21 @@ pub fn readdir(
     purse: &mut Purse,
     buffer: &mut FileBuffer,
     caller: &Caller,
-    fd: i64,
+    on: &Named,
     addr: i64,
     n: i64,
 ) -> Turned
     requires stands { (world : World) × StandsFor script.now objects.old world × IsSound world.plain }
     requires runs { Runs objects.old caller.now.place.pid caller.now.control }
     requires placed { IsPlaced objects.old.procs caller.now.place }
-    requires right { argument_fault (Call.Readdir fd addr n) ≡ None }
+    requires opened { IsOpened objects.old.heap objects.old.procs caller.now.place.pid on.now }
+    requires right { argument_fault (Call.Readdir on.now.fd addr n) ≡ None }
     requires may { MayFetch objects.old.heap purse.old }
-    requires needed { purse.old.left ≡ need_for File (need_of (Call.Readdir fd addr n)) }
+    requires needed { purse.old.left ≡ need_for File (need_of (Call.Readdir on.now.fd addr n)) }
     ensures kept { AreKept script.now objects.new }
     ensures paid { IsPaid objects.old.heap purse.old objects.new.heap purse.new }
-    ensures does { Serves script.now objects.old caller.now.place.pid (Call.Readdir fd addr n) (λ plain. readdir script.now plain caller.now.place.pid fd addr n) result objects.new }
-    ensures cached { AreBytesCached objects.old caller.now.place.pid fd (λ (desc : HeldDesc). desc.offset) (told_count result) objects.new }
+    ensures does { Serves script.now objects.old caller.now.place.pid (Call.Readdir on.now.fd addr n) (λ plain. readdir script.now plain caller.now.place.pid on.now.fd addr n) result objects.new }
+    ensures cached { AreBytesCached objects.old caller.now.place.pid on.now.fd (λ (desc : HeldDesc). desc.offset) (told_count result) objects.new }
 {
     objects.heap_is_well_formed();
     let moved = read_entries(
@@ -153,7 +157,7 @@ pub fn readdir(
         &mut objects.tree,
         buffer,
         caller.place,
-        fd,
+        on,
         addr,
         n,
     );

@@ -8,7 +8,7 @@ ghost use Rattle.memfs_ops.specs.Fetching.{MayFetch};
 ghost use Rattle.posix_defs.specs.Calls.Writing.{pwrite, write};
 ghost use Rattle.posix_defs.specs.Needs.{need_of};
 ghost use Rattle.posix_defs.specs.World.{World};
-ghost use Rattle.proc_numbers.specs.Found.{IsOnNode};
+ghost use Rattle.proc_numbers.specs.Found.{IsOnNode, IsOpened};
 ghost use Rattle.proc_table.specs.Table.{IsPlaced};
 ghost use Rattle.store_objects.specs.Objects.{AreKept, Runs};
 ghost use Rattle.store_objects.specs.Purses.{need_for};
@@ -21,6 +21,7 @@ use kabi_types::Script;
 use kheap_slabs::Purse;
 use posix_defs::Turned;
 use proc_files::{FileBuffer, pwrite_file, write_file};
+use proc_numbers::Named;
 use store_objects::{Caller, Objects, go_on};
 
 /// Writes n bytes of memory to the file that a number is open on, at the description's offset, or at the file's end where it was
@@ -38,20 +39,21 @@ pub fn write(
     purse: &mut Purse,
     buffer: &mut FileBuffer,
     caller: &Caller,
-    fd: i64,
+    on: &Named,
     addr: i64,
     n: i64,
 ) -> Turned
     requires stands { (world : World) × StandsFor script.now objects.old world × IsSound world.plain }
     requires runs { Runs objects.old caller.now.place.pid caller.now.control }
     requires placed { IsPlaced objects.old.procs caller.now.place }
-    requires on { IsOnNode objects.old.heap objects.old.procs caller.now.place.pid fd }
-    requires right { argument_fault (Call.Write fd addr n 0) ≡ None }
+    requires opened { IsOpened objects.old.heap objects.old.procs caller.now.place.pid on.now }
+    requires on { IsOnNode objects.old.heap objects.old.procs caller.now.place.pid on.now.fd }
+    requires right { argument_fault (Call.Write on.now.fd addr n 0) ≡ None }
     requires may { MayFetch objects.old.heap purse.old }
-    requires needed { purse.old.left ≡ need_for File (need_of (Call.Write fd addr n 0)) }
+    requires needed { purse.old.left ≡ need_for File (need_of (Call.Write on.now.fd addr n 0)) }
     ensures kept { AreKept script.now objects.new }
     ensures paid { IsPaid objects.old.heap purse.old objects.new.heap purse.new }
-    ensures does { Serves script.now objects.old caller.now.place.pid (Call.Write fd addr n 0) (λ plain. write script.now plain caller.now.place.pid fd addr n 0) result objects.new }
+    ensures does { Serves script.now objects.old caller.now.place.pid (Call.Write on.now.fd addr n 0) (λ plain. write script.now plain caller.now.place.pid on.now.fd addr n 0) result objects.new }
 {
     objects.heap_is_well_formed();
     let moved = write_file(
@@ -61,7 +63,7 @@ pub fn write(
         &mut objects.tree,
         buffer,
         caller.place,
-        fd,
+        on,
         addr,
         n,
     );
@@ -82,7 +84,7 @@ pub fn pwrite(
     purse: &mut Purse,
     buffer: &mut FileBuffer,
     caller: &Caller,
-    fd: i64,
+    on: &Named,
     addr: i64,
     n: i64,
     at: i64,
@@ -90,12 +92,13 @@ pub fn pwrite(
     requires stands { (world : World) × StandsFor script.now objects.old world × IsSound world.plain }
     requires runs { Runs objects.old caller.now.place.pid caller.now.control }
     requires placed { IsPlaced objects.old.procs caller.now.place }
-    requires right { argument_fault (Call.Pwrite fd addr n at) ≡ None }
+    requires opened { IsOpened objects.old.heap objects.old.procs caller.now.place.pid on.now }
+    requires right { argument_fault (Call.Pwrite on.now.fd addr n at) ≡ None }
     requires may { MayFetch objects.old.heap purse.old }
-    requires needed { purse.old.left ≡ need_for File (need_of (Call.Pwrite fd addr n at)) }
+    requires needed { purse.old.left ≡ need_for File (need_of (Call.Pwrite on.now.fd addr n at)) }
     ensures kept { AreKept script.now objects.new }
     ensures paid { IsPaid objects.old.heap purse.old objects.new.heap purse.new }
-    ensures does { Serves script.now objects.old caller.now.place.pid (Call.Pwrite fd addr n at) (λ plain. pwrite script.now plain caller.now.place.pid fd addr n at) result objects.new }
+    ensures does { Serves script.now objects.old caller.now.place.pid (Call.Pwrite on.now.fd addr n at) (λ plain. pwrite script.now plain caller.now.place.pid on.now.fd addr n at) result objects.new }
 {
     objects.heap_is_well_formed();
     let moved = pwrite_file(
@@ -105,7 +108,7 @@ pub fn pwrite(
         &mut objects.tree,
         buffer,
         caller.place,
-        fd,
+        on,
         addr,
         n,
         at,

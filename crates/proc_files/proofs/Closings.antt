@@ -31,7 +31,7 @@ use Rattle.proc_table.proofs.PlaceLemmas.{eqb_same}
 use Rattle.proc_numbers.specs.Having.{AreListed, ClosesNumber, HaveOpen, node_closed, node_dropped, places_in}
 use Rattle.proc_numbers.specs.Naming.{named_at}
 use Rattle.proc_numbers.proofs.Listing.{found_before}
-use Rattle.proc_numbers.proofs.Named.{named_by_none, named_by_some}
+use Rattle.proc_numbers.proofs.NamedPlaces.{named_by_none, named_by_some}
 use Rattle.proc_numbers.proofs.NumberNames.{desc_named, descriptor_at_is}
 use Rattle.proc_numbers.proofs.Sums.{one_if}
 use Rattle.proc_numbers.proofs.NamedOpen.{described_so}

@@ -13,6 +13,7 @@ ghost use Rattle.posix_defs.specs.Calls.OnSockets.{bind};
 ghost use Rattle.posix_defs.specs.Plain.{Plain};
 ghost use Rattle.posix_defs.specs.Process.{directory_of as plain_directory};
 ghost use Rattle.proc_table.specs.Table.{IsPlaced};
+ghost use Rattle.proc_numbers.specs.Found.{IsOpened};
 ghost use Rattle.proc_numbers.specs.Having.{AreListed};
 ghost use Rattle.proc_numbers.specs.Queues.{QueuesStand};
 ghost use Rattle.proc_numbers.specs.Answering.{zero_of};
@@ -25,7 +26,7 @@ use bound_table::BoundTable;
 use kabi_types::Errno;
 use kheap_slabs::{KHeap, Purse};
 use memfs_ops::FileTree;
-use proc_numbers::socket_of;
+use proc_numbers::Named;
 use proc_table::{Place, ProcTable};
 use usock_core::can_bind;
 
@@ -43,12 +44,13 @@ pub fn bind_number(
     tree: &mut FileTree,
     names: &mut BoundTable,
     place: Place,
-    fd: i64,
+    on: &Named,
     path: &[u8],
 ) -> Result<(), Errno>
     requires listed { AreListed heap.old procs.now }
     requires owners { HasItsOwners heap.old [] }
     requires there { IsPlaced procs.now place }
+    requires opened { IsOpened heap.old procs.now place.pid on.now }
     requires hold { WorksInSome heap.old procs.now tree.old names.old place.pid }
     requires path { path_fault path.now ≡ None }
     requires bytes { All (λ byte. (0 < byte) × (byte < 2 ^ 8)) path.now }
@@ -57,7 +59,7 @@ pub fn bind_number(
         → HoldNames numbers others heap.old procs.now tree.old names.old plain.files
         → WorksAt heap.old procs.now place.pid (plain_directory plain.table place.pid)
         → AnswersNaming numbers others heap.new procs.now tree.new names.new script plain place.pid
-        (bind script plain place.pid fd path.now) (zero_of result) }
+        (bind script plain place.pid on.now.fd path.now) (zero_of result) }
     ensures listed { AreListed heap.new procs.now }
     ensures owners { HasItsOwners heap.new [] }
     ensures changes { NamesChange heap.old heap.new }
@@ -69,7 +71,7 @@ pub fn bind_number(
     ensures fills { HasFills heap.new purse.new }
     ensures reads { tree.old.disk.reads ≤ tree.new.disk.reads }
 {
-    let found = socket_of(heap, procs, place, fd)?;
+    let found = on.socket()?;
     can_bind(heap, found.key)?;
     let cwd = directory_of(heap, procs, place);
     let node = tree.bind_name(heap, purse, cwd, path)?;

@@ -14,6 +14,7 @@ ghost use Rattle.posix_defs.specs.Files.State.{Files};
 ghost use Rattle.posix_defs.specs.Plain.{Plain};
 ghost use Rattle.kabi_types.specs.Arguments.{most_descriptors};
 ghost use Rattle.proc_table.specs.Table.{IsPlaced};
+ghost use Rattle.proc_numbers.specs.Found.{IsOpened};
 ghost use Rattle.proc_numbers.specs.Having.{AreListed, node_closed};
 ghost use Rattle.proc_numbers.specs.Naming.{named_at, named_by};
 ghost use Rattle.proc_numbers.specs.Queues.{QueuesStand};
@@ -25,11 +26,12 @@ ghost use Rattle.proc_files.specs.SocketGoing.{socket_going, unnamed};
 ghost use Rattle.proc_files.specs.NameHolding.{HoldNames, HoldSomeNames};
 
 use crate::naming::take_name;
+use crate::nodes::is_well_formed;
 use bound_table::BoundTable;
 use kabi_types::Errno;
 use kheap_slabs::{KHeap, Purse, Target};
 use memfs_ops::FileTree;
-use proc_numbers::{close_one, count_of, descriptor_of, places_of};
+use proc_numbers::{Named, close_one};
 use proc_table::{Place, ProcTable};
 
 /// A process closes a number, whatever it is open on. With the last descriptor that names it a description goes, and what it was
@@ -46,16 +48,17 @@ pub fn close_number(
     tree: &mut FileTree,
     names: &mut BoundTable,
     place: Place,
-    fd: i64,
+    on: &Named,
 ) -> Result<(), Errno>
     requires listed { AreListed heap.old procs.now }
     requires owners { HasItsOwners heap.old [] }
     requires there { IsPlaced procs.now place }
+    requires opened { IsOpened heap.old procs.now place.pid on.now }
     requires hold { HoldSomeNames heap.old procs.now tree.old names.old }
     requires may { MayClose heap.old purse.old }
     ensures answers { (numbers : Numbers) (others : ℕ → ℕ) (script : Script) (plain : Plain)
         → HoldNames numbers others heap.old procs.now tree.old names.old plain.files
-        → AnswersNaming numbers others heap.new procs.now tree.new names.new script plain place.pid (close script plain place.pid fd) (zero_of result) }
+        → AnswersNaming numbers others heap.new procs.now tree.new names.new script plain place.pid (close script plain place.pid on.now.fd) (zero_of result) }
     ensures listed { AreListed heap.new procs.now }
     ensures owners { HasItsOwners heap.new [] }
     ensures hold { HoldSomeNames heap.new procs.now tree.new names.new }
@@ -66,13 +69,12 @@ pub fn close_number(
     ensures same { purse.new ≡ purse.old }
     ensures paid { IsPaid heap.old purse.old heap.new purse.new }
     ensures reads { tree.old.disk.reads ≤ tree.new.disk.reads }
-    ensures stays { node_closed heap.old.descs (named_by heap.old procs.now place.pid fd) ≡ None → tree.new ≡ tree.old }
+    ensures stays { node_closed heap.old.descs (named_by heap.old procs.now place.pid on.now.fd) ≡ None → tree.new ≡ tree.old }
 {
-    let Some(_held) = descriptor_of(heap, procs, place, fd) else {
+    let Some(found) = on.found else {
         return Err(Errno::EBADF);
     };
-    let number = count_of(fd) as u32;
-    close_open(heap, purse, procs, tree, names, place, number);
+    close_open(heap, purse, procs, tree, names, place, found.number);
     Ok(())
 }
 
@@ -156,8 +158,8 @@ fn socket_going(heap: &KHeap, procs: &ProcTable, place: Place, fd: u32) -> Optio
     ensures going { result ≡ socket_going heap.now.descs (named_at heap.now procs.now place.pid fd) }
     ensures there { IfSome result (Contains (socks_named heap.now.descs)) }
 {
-    let places = places_of(heap, procs, place);
-    let held = places[fd as usize]?;
+    is_well_formed(heap);
+    let held = procs.at(heap, place).descriptors[fd as usize]?;
     let desc = heap.get_desc(held.desc);
     if desc.count == 1 {
         socket_of(desc.target)

@@ -17,6 +17,7 @@ ghost use Rattle.posix_defs.specs.Process.{directory_of as plain_directory};
 ghost use Rattle.posix_defs.specs.Sockets.{Sockets};
 ghost use Rattle.posix_defs.specs.Tree.{Tree};
 ghost use Rattle.proc_table.specs.Table.{IsPlaced};
+ghost use Rattle.proc_numbers.specs.Found.{IsOpened};
 ghost use Rattle.proc_numbers.specs.Having.{AreListed};
 ghost use Rattle.proc_numbers.specs.Queues.{QueuesStand};
 ghost use Rattle.proc_numbers.specs.Answering.{zero_of};
@@ -30,7 +31,7 @@ use bound_table::BoundTable;
 use kabi_types::Errno;
 use kheap_slabs::{KHeap, Purse, SockState};
 use memfs_ops::FileTree;
-use proc_numbers::socket_of;
+use proc_numbers::Named;
 use proc_table::{Place, ProcTable};
 use usock_core::{can_connect, connect};
 
@@ -51,12 +52,13 @@ pub fn connect_number(
     tree: &mut FileTree,
     names: &BoundTable,
     place: Place,
-    fd: i64,
+    on: &Named,
     path: &[u8],
 ) -> Result<(), Errno>
     requires listed { AreListed heap.old procs.now }
     requires owners { HasItsOwners heap.old [] }
     requires there { IsPlaced procs.now place }
+    requires opened { IsOpened heap.old procs.now place.pid on.now }
     requires hold { WorksInSome heap.old procs.now tree.old names.now place.pid }
     requires path { path_fault path.now ≡ None }
     requires may { MayWalk heap.old purse.old }
@@ -65,7 +67,7 @@ pub fn connect_number(
         → HoldNames numbers others heap.old procs.now tree.old names.now plain.files
         → WorksAt heap.old procs.now place.pid (plain_directory plain.table place.pid)
         → AnswersConnecting numbers others heap.old heap.new procs.now tree.new names.now script plain place.pid
-        (plain_connect script plain place.pid fd path.now) (zero_of result) }
+        (plain_connect script plain place.pid on.now.fd path.now) (zero_of result) }
     ensures listed { AreListed heap.new procs.now }
     ensures owners { HasItsOwners heap.new [] }
     ensures changes { NamesChange heap.old heap.new }
@@ -86,7 +88,7 @@ pub fn connect_number(
         → WorksAt heap.old procs.now place.pid directory
         → OnOk result (IsOk (node_led (resolve plain directory path.now))) }
 {
-    let found = socket_of(heap, procs, place, fd)?;
+    let found = on.socket()?;
     can_connect(heap, found.key)?;
     let cwd = directory_of(heap, procs, place);
     let node = tree.find_name(heap, purse, cwd, path)?;

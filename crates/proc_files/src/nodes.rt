@@ -4,14 +4,12 @@ ghost use Rattle.std.specs.Prelude.{◌≡◌, ℕ, Some};
 ghost use Rattle.kheap_slabs.specs.Objects.{object};
 ghost use Rattle.kheap_slabs.specs.Heap.{IsWellFormed};
 ghost use Rattle.kheap_slabs.specs.Paid.{TakesNothing};
-ghost use Rattle.open_laws.specs.Described.{access_in};
-ghost use Rattle.posix_defs.specs.Files.Descriptions.{may_read as plain_may_read, may_write as plain_may_write};
 ghost use Rattle.posix_defs.specs.PathCalls.{stat_info};
 ghost use Rattle.posix_defs.specs.Tree.{Tree, is_directory};
 ghost use Rattle.proc_files.specs.Seeking.{MovesDesc};
 
 use kabi_types::{NodeKind, StatInfo};
-use kheap_slabs::{Access, Desc, KHeap};
+use kheap_slabs::{Desc, KHeap};
 use proc_numbers::Found;
 
 /// Whether what is told of a node is told of a directory.
@@ -21,26 +19,6 @@ pub(crate) fn is_directory(info: &StatInfo) -> bool
     match info.kind {
         NodeKind::Dir => true,
         NodeKind::File | NodeKind::Sock | NodeKind::Pipe => false,
-    }
-}
-
-/// Whether what is opened so may be read.
-pub(crate) fn may_read(access: Access) -> bool
-    ensures { result ≡ plain_may_read (access_in access) }
-{
-    match access {
-        Access::Read | Access::Both => true,
-        Access::Write => false,
-    }
-}
-
-/// Whether what is opened so may be written.
-pub(crate) fn may_write(access: Access) -> bool
-    ensures { result ≡ plain_may_write (access_in access) }
-{
-    match access {
-        Access::Read => false,
-        Access::Write | Access::Both => true,
     }
 }
 

@@ -30,15 +30,15 @@ ghost use Rattle.proc_table.specs.Table.{IsPlaced, processes};
 ghost use Rattle.proc_numbers.specs.Standing.{IsKept, StandsFor};
 ghost use Rattle.proc_files.specs.Answering.{StaysOffNodes};
 ghost use Rattle.proc_files.specs.Holding.{HoldFiles, HoldSome};
-ghost use Rattle.proc_numbers.specs.Found.{IsOnNode};
+ghost use Rattle.proc_numbers.specs.Found.{IsOnNode, IsOpened};
 ghost use Rattle.proc_files.specs.Reading.{HoldsDirectory, HoldsFile, KeepsRead, LeadsHolding, ReadsNode, SavesRead, moved_by};
 
-use crate::nodes::{is_directory, may_read, move_to};
+use crate::nodes::{is_directory, move_to};
 use crate::spaces::{FileBuffer, Range, range_of};
 use kabi_types::Errno;
 use kheap_slabs::{KHeap, Purse, Target};
 use memfs_ops::FileTree;
-use proc_numbers::{count_of, opened};
+use proc_numbers::{Named, count_of};
 use proc_table::{Place, ProcTable};
 
 /// Reads at most n bytes of the file that a number is open on into a process's memory, from the description's offset on, as many
@@ -53,23 +53,24 @@ pub fn read_file(
     tree: &mut FileTree,
     buffer: &mut FileBuffer,
     place: Place,
-    fd: i64,
+    on: &Named,
     addr: i64,
     n: i64,
 ) -> Result<u32, Errno>
     requires kept { IsKept heap.old procs.now }
     requires alive { IsAlive (processes heap.old procs.now) place.pid }
     requires there { IsPlaced procs.now place }
+    requires opened { IsOpened heap.old procs.now place.pid on.now }
     requires hold { HoldSome heap.old procs.now tree.old }
-    requires on { IsOnNode heap.old procs.now place.pid fd }
-    requires right { argument_fault (Call.Read fd addr n) ≡ None }
+    requires on { IsOnNode heap.old procs.now place.pid on.now.fd }
+    requires right { argument_fault (Call.Read on.now.fd addr n) ≡ None }
     requires may { MayFetch heap.old purse.old }
     requires left { pages_touched (count_of addr) (count_of n) ≤ purse.old.left.page }
     ensures leads { (script : Script) (numbers : Numbers) (others : ℕ → ℕ) (plain : Plain) (account : Account)
         → StandsFor numbers heap.old procs.now plain account
         → HoldFiles numbers others heap.old procs.now tree.old plain.files
-        → LeadsHolding script numbers others heap.new procs.now tree.new plain account place.pid (Call.Read fd addr n)
-        (read script plain place.pid fd addr n) (value_of result) }
+        → LeadsHolding script numbers others heap.new procs.now tree.new plain account place.pid (Call.Read on.now.fd addr n)
+        (read script plain place.pid on.now.fd addr n) (value_of result) }
     ensures kept { IsKept heap.new procs.now }
     ensures beside { heap.new ≡ record heap.old {
       nodes = heap.new.nodes;
@@ -80,14 +81,14 @@ pub fn read_file(
     } }
     ensures paid { IsPaid heap.old purse.old heap.new purse.new }
     ensures reads { tree.old.disk.reads ≤ tree.new.disk.reads }
-    ensures stays { StaysOffNodes heap.old procs.now place.pid fd tree.old tree.new }
-    ensures saved { SavesRead heap.old procs.now place.pid fd tree.old tree.new (λ (desc : HeldDesc). desc.offset) (moved_by result) }
-    ensures last { KeepsRead heap.old procs.now place.pid fd tree.old tree.new (λ (desc : HeldDesc). desc.offset) (moved_by result) }
+    ensures stays { StaysOffNodes heap.old procs.now place.pid on.now.fd tree.old tree.new }
+    ensures saved { SavesRead heap.old procs.now place.pid on.now.fd tree.old tree.new (λ (desc : HeldDesc). desc.offset) (moved_by result) }
+    ensures last { KeepsRead heap.old procs.now place.pid on.now.fd tree.old tree.new (λ (desc : HeldDesc). desc.offset) (moved_by result) }
 {
-    let Some(found) = opened(heap, procs, place, fd) else {
+    let Some(found) = on.found else {
         return Err(Errno::EBADF);
     };
-    if !may_read(found.desc.access) {
+    if !found.is_readable() {
         return Err(Errno::EBADF);
     }
     let Target::Inode(node) = found.desc.target else {
@@ -157,7 +158,7 @@ pub fn pread_file(
     tree: &mut FileTree,
     buffer: &mut FileBuffer,
     place: Place,
-    fd: i64,
+    on: &Named,
     addr: i64,
     n: i64,
     at: i64,
@@ -165,15 +166,16 @@ pub fn pread_file(
     requires kept { IsKept heap.old procs.now }
     requires alive { IsAlive (processes heap.old procs.now) place.pid }
     requires there { IsPlaced procs.now place }
+    requires opened { IsOpened heap.old procs.now place.pid on.now }
     requires hold { HoldSome heap.old procs.now tree.old }
-    requires right { argument_fault (Call.Pread fd addr n at) ≡ None }
+    requires right { argument_fault (Call.Pread on.now.fd addr n at) ≡ None }
     requires may { MayFetch heap.old purse.old }
     requires left { pages_touched (count_of addr) (count_of n) ≤ purse.old.left.page }
     ensures leads { (script : Script) (numbers : Numbers) (others : ℕ → ℕ) (plain : Plain) (account : Account)
         → StandsFor numbers heap.old procs.now plain account
         → HoldFiles numbers others heap.old procs.now tree.old plain.files
-        → LeadsHolding script numbers others heap.new procs.now tree.new plain account place.pid (Call.Pread fd addr n at)
-        (pread script plain place.pid fd addr n at) (value_of result) }
+        → LeadsHolding script numbers others heap.new procs.now tree.new plain account place.pid (Call.Pread on.now.fd addr n at)
+        (pread script plain place.pid on.now.fd addr n at) (value_of result) }
     ensures kept { IsKept heap.new procs.now }
     ensures beside { heap.new ≡ record heap.old {
       nodes = heap.new.nodes;
@@ -183,14 +185,14 @@ pub fn pread_file(
     } }
     ensures paid { IsPaid heap.old purse.old heap.new purse.new }
     ensures reads { tree.old.disk.reads ≤ tree.new.disk.reads }
-    ensures stays { StaysOffNodes heap.old procs.now place.pid fd tree.old tree.new }
-    ensures saved { SavesRead heap.old procs.now place.pid fd tree.old tree.new (λ (desc : HeldDesc). count_of at) (moved_by result) }
-    ensures last { KeepsRead heap.old procs.now place.pid fd tree.old tree.new (λ (desc : HeldDesc). count_of at) (moved_by result) }
+    ensures stays { StaysOffNodes heap.old procs.now place.pid on.now.fd tree.old tree.new }
+    ensures saved { SavesRead heap.old procs.now place.pid on.now.fd tree.old tree.new (λ (desc : HeldDesc). count_of at) (moved_by result) }
+    ensures last { KeepsRead heap.old procs.now place.pid on.now.fd tree.old tree.new (λ (desc : HeldDesc). count_of at) (moved_by result) }
 {
-    let Some(found) = opened(heap, procs, place, fd) else {
+    let Some(found) = on.found else {
         return Err(Errno::EBADF);
     };
-    if !may_read(found.desc.access) {
+    if !found.is_readable() {
         return Err(Errno::EBADF);
     }
     let Target::Inode(node) = found.desc.target else {
@@ -221,22 +223,23 @@ pub fn read_entries(
     tree: &mut FileTree,
     buffer: &mut FileBuffer,
     place: Place,
-    fd: i64,
+    on: &Named,
     addr: i64,
     n: i64,
 ) -> Result<u32, Errno>
     requires kept { IsKept heap.old procs.now }
     requires alive { IsAlive (processes heap.old procs.now) place.pid }
     requires there { IsPlaced procs.now place }
+    requires opened { IsOpened heap.old procs.now place.pid on.now }
     requires hold { HoldSome heap.old procs.now tree.old }
-    requires right { argument_fault (Call.Readdir fd addr n) ≡ None }
+    requires right { argument_fault (Call.Readdir on.now.fd addr n) ≡ None }
     requires may { MayFetch heap.old purse.old }
     requires left { pages_touched (count_of addr) (count_of n) ≤ purse.old.left.page }
     ensures leads { (script : Script) (numbers : Numbers) (others : ℕ → ℕ) (plain : Plain) (account : Account)
         → StandsFor numbers heap.old procs.now plain account
         → HoldFiles numbers others heap.old procs.now tree.old plain.files
-        → LeadsHolding script numbers others heap.new procs.now tree.new plain account place.pid (Call.Readdir fd addr n)
-        (readdir script plain place.pid fd addr n) (value_of result) }
+        → LeadsHolding script numbers others heap.new procs.now tree.new plain account place.pid (Call.Readdir on.now.fd addr n)
+        (readdir script plain place.pid on.now.fd addr n) (value_of result) }
     ensures kept { IsKept heap.new procs.now }
     ensures beside { heap.new ≡ record heap.old {
       nodes = heap.new.nodes;
@@ -247,11 +250,11 @@ pub fn read_entries(
     } }
     ensures paid { IsPaid heap.old purse.old heap.new purse.new }
     ensures reads { tree.old.disk.reads ≤ tree.new.disk.reads }
-    ensures stays { StaysOffNodes heap.old procs.now place.pid fd tree.old tree.new }
-    ensures saved { SavesRead heap.old procs.now place.pid fd tree.old tree.new (λ (desc : HeldDesc). desc.offset) (moved_by result) }
-    ensures last { KeepsRead heap.old procs.now place.pid fd tree.old tree.new (λ (desc : HeldDesc). desc.offset) (moved_by result) }
+    ensures stays { StaysOffNodes heap.old procs.now place.pid on.now.fd tree.old tree.new }
+    ensures saved { SavesRead heap.old procs.now place.pid on.now.fd tree.old tree.new (λ (desc : HeldDesc). desc.offset) (moved_by result) }
+    ensures last { KeepsRead heap.old procs.now place.pid on.now.fd tree.old tree.new (λ (desc : HeldDesc). desc.offset) (moved_by result) }
 {
-    let Some(found) = opened(heap, procs, place, fd) else {
+    let Some(found) = on.found else {
         return Err(Errno::EBADF);
     };
     let Target::Inode(node) = found.desc.target else {

@@ -15,6 +15,7 @@ ghost use Rattle.posix_defs.specs.PathCalls.{stat_info};
 ghost use Rattle.posix_defs.specs.Plain.{Plain};
 ghost use Rattle.posix_defs.specs.Tree.{Tree, is_directory as plain_is_directory};
 ghost use Rattle.proc_table.specs.Table.{IsPlaced};
+ghost use Rattle.proc_numbers.specs.Found.{IsOpened};
 ghost use Rattle.proc_numbers.specs.Having.{AreListed};
 ghost use Rattle.proc_numbers.specs.Answering.{value_of};
 ghost use Rattle.proc_files.specs.Answering.{AnswersHolding, StaysOffNodes};
@@ -25,7 +26,7 @@ use crate::nodes::{is_directory, move_to};
 use kabi_types::{Errno, StatInfo};
 use kheap_slabs::{KHeap, Target};
 use memfs_ops::FileTree;
-use proc_numbers::{Found, count_of, opened};
+use proc_numbers::{Found, Named, count_of};
 use proc_table::{Place, ProcTable};
 
 /// The greatest offset.
@@ -46,27 +47,28 @@ pub fn seek_number(
     procs: &ProcTable,
     tree: &mut FileTree,
     place: Place,
-    fd: i64,
+    on: &Named,
     offset: i64,
     whence: i64,
 ) -> Result<u64, Errno>
     requires listed { AreListed heap.old procs.now }
     requires owners { HasItsOwners heap.old [] }
     requires there { IsPlaced procs.now place }
+    requires opened { IsOpened heap.old procs.now place.pid on.now }
     requires hold { HoldSome heap.old procs.now tree.old }
     ensures answers { (numbers : Numbers) (others : ℕ → ℕ) (script : Script) (plain : Plain)
         → HoldFiles numbers others heap.old procs.now tree.old plain.files
-        → AnswersHolding numbers others heap.new procs.now tree.new script plain place.pid (lseek script plain place.pid fd offset whence) (value_of result) }
+        → AnswersHolding numbers others heap.new procs.now tree.new script plain place.pid (lseek script plain place.pid on.now.fd offset whence) (value_of result) }
     ensures listed { AreListed heap.new procs.now }
     ensures owners { HasItsOwners heap.new [] }
     ensures hold { HoldSome heap.new procs.now tree.new }
     ensures beside { heap.new ≡ record heap.old { descs = heap.new.descs } }
     ensures unchanged { OnErr result (heap.new ≡ heap.old) }
     ensures used { IsUsed tree.old tree.new }
-    ensures stays { StaysOffNodes heap.old procs.now place.pid fd tree.old tree.new }
+    ensures stays { StaysOffNodes heap.old procs.now place.pid on.now.fd tree.old tree.new }
     ensures takes { TakesNothing heap.old heap.new }
 {
-    let Some(found) = opened(heap, procs, place, fd) else {
+    let Some(found) = on.found else {
         return Err(Errno::EBADF);
     };
     let Target::Inode(node) = found.desc.target else {

@@ -8,6 +8,7 @@ ghost use Rattle.open_laws.specs.Placed.{Numbers};
 ghost use Rattle.posix_defs.specs.Calls.OnDescriptors.{dup2};
 ghost use Rattle.posix_defs.specs.Plain.{Plain};
 ghost use Rattle.proc_table.specs.Table.{IsPlaced};
+ghost use Rattle.proc_numbers.specs.Found.{IsOpened};
 ghost use Rattle.proc_numbers.specs.Having.{AreListed};
 ghost use Rattle.proc_numbers.specs.Queues.{QueuesStand};
 ghost use Rattle.proc_numbers.specs.Answering.{node_replaced, value_of};
@@ -21,7 +22,7 @@ use bound_table::BoundTable;
 use kabi_types::Errno;
 use kheap_slabs::{KHeap, Purse};
 use memfs_ops::FileTree;
-use proc_numbers::{count_of, descriptor_of, may_be_descriptor, share_at};
+use proc_numbers::{Named, count_of, may_be_descriptor, share_at};
 use proc_table::{Place, ProcTable};
 
 /// A number of a process names the same description as another, and what it named before is closed, whatever that was open on.
@@ -40,18 +41,19 @@ pub fn dup_number(
     tree: &mut FileTree,
     names: &mut BoundTable,
     place: Place,
-    fd: i64,
+    on: &Named,
     to: i64,
 ) -> Result<u32, Errno>
     requires listed { AreListed heap.old procs.now }
     requires owners { HasItsOwners heap.old [] }
     requires there { IsPlaced procs.now place }
+    requires opened { IsOpened heap.old procs.now place.pid on.now }
     requires hold { HoldSomeNames heap.old procs.now tree.old names.old }
     requires pays { CanPay heap.old purse.old }
     requires may { MayClose heap.old back.old }
     ensures answers { (numbers : Numbers) (others : ℕ → ℕ) (script : Script) (plain : Plain)
         → HoldNames numbers others heap.old procs.now tree.old names.old plain.files
-        → AnswersNaming numbers others heap.new procs.now tree.new names.new script plain place.pid (dup2 script plain place.pid fd to) (value_of result) }
+        → AnswersNaming numbers others heap.new procs.now tree.new names.new script plain place.pid (dup2 script plain place.pid on.now.fd to) (value_of result) }
     ensures listed { AreListed heap.new procs.now }
     ensures owners { HasItsOwners heap.new [] }
     ensures hold { HoldSomeNames heap.new procs.now tree.new names.new }
@@ -63,21 +65,20 @@ pub fn dup_number(
     ensures same { back.new ≡ back.old }
     ensures paid { IsPaid heap.old back.old heap.new back.new }
     ensures reads { tree.old.disk.reads ≤ tree.new.disk.reads }
-    ensures stays { node_replaced heap.old procs.now place.pid fd to ≡ None → tree.new ≡ tree.old }
+    ensures stays { node_replaced heap.old procs.now place.pid on.now.fd to ≡ None → tree.new ≡ tree.old }
 {
-    let Some(held) = descriptor_of(heap, procs, place, fd) else {
+    let Some(found) = on.found else {
         return Err(Errno::EBADF);
     };
     if !may_be_descriptor(to) {
         return Err(Errno::EBADF);
     }
-    let from = count_of(fd) as u32;
     let number = count_of(to) as u32;
-    if from == number {
+    if found.number == number {
         return Ok(number);
     }
     is_well_formed(heap);
     close_open(heap, back, procs, tree, names, place, number);
-    share_at(heap, purse, procs, place, number, held.desc);
+    share_at(heap, purse, procs, place, number, found.key);
     Ok(number)
 }

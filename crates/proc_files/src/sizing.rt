@@ -10,16 +10,17 @@ ghost use Rattle.open_laws.specs.Placed.{Numbers};
 ghost use Rattle.posix_defs.specs.Calls.OnFiles.{ftruncate};
 ghost use Rattle.posix_defs.specs.Plain.{Plain};
 ghost use Rattle.proc_table.specs.Table.{IsPlaced};
+ghost use Rattle.proc_numbers.specs.Found.{IsOpened};
 ghost use Rattle.proc_numbers.specs.Having.{AreListed};
 ghost use Rattle.proc_numbers.specs.Answering.{zero_of};
 ghost use Rattle.proc_files.specs.Answering.{AnswersHolding, StaysOffNodes};
 ghost use Rattle.proc_files.specs.Holding.{HoldFiles, HoldSome};
 
-use crate::nodes::{is_directory, may_write};
+use crate::nodes::is_directory;
 use kabi_types::Errno;
 use kheap_slabs::{KHeap, Purse, Target};
 use memfs_ops::FileTree;
-use proc_numbers::{count_of, opened};
+use proc_numbers::{Named, count_of};
 use proc_table::{Place, ProcTable};
 
 /// The file that a number is open on gets another size; what it grows by is zeros.
@@ -34,24 +35,25 @@ pub fn size_number(
     procs: &ProcTable,
     tree: &mut FileTree,
     place: Place,
-    fd: i64,
+    on: &Named,
     size: i64,
 ) -> Result<(), Errno>
     requires listed { AreListed heap.old procs.now }
     requires owners { HasItsOwners heap.old [] }
     requires there { IsPlaced procs.now place }
+    requires opened { IsOpened heap.old procs.now place.pid on.now }
     requires hold { HoldSome heap.old procs.now tree.old }
     requires may { MayFetch heap.old purse.old }
     ensures answers { (numbers : Numbers) (others : ℕ → ℕ) (script : Script) (plain : Plain)
         → HoldFiles numbers others heap.old procs.now tree.old plain.files
-        → AnswersHolding numbers others heap.new procs.now tree.new script plain place.pid (ftruncate script plain place.pid fd size) (zero_of result) }
+        → AnswersHolding numbers others heap.new procs.now tree.new script plain place.pid (ftruncate script plain place.pid on.now.fd size) (zero_of result) }
     ensures listed { AreListed heap.new procs.now }
     ensures owners { HasItsOwners heap.new [] }
     ensures hold { HoldSome heap.new procs.now tree.new }
     ensures pays { Pays heap.old heap.new purse.old purse.new tree.old tree.new }
-    ensures stays { StaysOffNodes heap.old procs.now place.pid fd tree.old tree.new }
+    ensures stays { StaysOffNodes heap.old procs.now place.pid on.now.fd tree.old tree.new }
 {
-    let Some(found) = opened(heap, procs, place, fd) else {
+    let Some(found) = on.found else {
         return Err(Errno::EBADF);
     };
     let Target::Inode(node) = found.desc.target else {
@@ -61,7 +63,7 @@ pub fn size_number(
     if is_directory(&info) {
         return Err(Errno::EINVAL);
     }
-    if !may_write(found.desc.access) {
+    if !found.is_writable() {
         return Err(Errno::EBADF);
     }
     tree.size_node(heap, purse, node, count_of(size))

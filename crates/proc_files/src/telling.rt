@@ -10,6 +10,7 @@ ghost use Rattle.posix_defs.specs.Calls.OnFiles.{fstat, info_of, without_node};
 ghost use Rattle.posix_defs.specs.Plain.{Plain};
 ghost use Rattle.posix_defs.specs.Tree.{Tree};
 ghost use Rattle.proc_table.specs.Table.{IsPlaced};
+ghost use Rattle.proc_numbers.specs.Found.{IsOpened};
 ghost use Rattle.proc_numbers.specs.Having.{AreListed};
 ghost use Rattle.proc_numbers.specs.Answering.{stat_of};
 ghost use Rattle.proc_files.specs.Answering.{AnswersHolding, StaysOffNodes};
@@ -18,7 +19,7 @@ ghost use Rattle.proc_files.specs.Holding.{HoldFiles, HoldSome, IsHeldIn};
 use kabi_types::{Errno, NodeKind, StatInfo};
 use kheap_slabs::{KHeap, Target};
 use memfs_ops::FileTree;
-use proc_numbers::opened;
+use proc_numbers::Named;
 use proc_table::{Place, ProcTable};
 
 /// What a number of a process is open on: all of a file or a directory, and of a pipe or a socket only that it is one.
@@ -31,20 +32,21 @@ pub fn stat_number(
     procs: &ProcTable,
     tree: &mut FileTree,
     place: Place,
-    fd: i64,
+    on: &Named,
 ) -> Result<StatInfo, Errno>
     requires listed { AreListed heap.now procs.now }
     requires owners { HasItsOwners heap.now [] }
     requires there { IsPlaced procs.now place }
+    requires opened { IsOpened heap.now procs.now place.pid on.now }
     requires hold { HoldSome heap.now procs.now tree.old }
     ensures answers { (numbers : Numbers) (others : ℕ → ℕ) (script : Script) (plain : Plain)
         → HoldFiles numbers others heap.now procs.now tree.old plain.files
-        → AnswersHolding numbers others heap.now procs.now tree.new script plain place.pid (fstat script plain place.pid fd) (stat_of result) }
+        → AnswersHolding numbers others heap.now procs.now tree.new script plain place.pid (fstat script plain place.pid on.now.fd) (stat_of result) }
     ensures hold { HoldSome heap.now procs.now tree.new }
     ensures used { IsUsed tree.old tree.new }
-    ensures stays { StaysOffNodes heap.now procs.now place.pid fd tree.old tree.new }
+    ensures stays { StaysOffNodes heap.now procs.now place.pid on.now.fd tree.old tree.new }
 {
-    let Some(found) = opened(heap, procs, place, fd) else {
+    let Some(found) = on.found else {
         return Err(Errno::EBADF);
     };
     Ok(info_of(heap, tree, found.desc.target))

@@ -23,15 +23,15 @@ ghost use Rattle.proc_table.specs.Table.{IsPlaced, processes};
 ghost use Rattle.proc_numbers.specs.Standing.{IsKept, StandsFor};
 ghost use Rattle.proc_files.specs.Answering.{StaysOffNodes};
 ghost use Rattle.proc_files.specs.Holding.{HoldFiles, HoldSome};
-ghost use Rattle.proc_numbers.specs.Found.{IsOnNode};
+ghost use Rattle.proc_numbers.specs.Found.{IsOnNode, IsOpened};
 ghost use Rattle.proc_files.specs.Reading.{HoldsFile, LeadsHolding};
 
-use crate::nodes::{is_directory, may_write, move_to};
+use crate::nodes::{is_directory, move_to};
 use crate::spaces::{FileBuffer, Range, range_of};
 use kabi_types::Errno;
 use kheap_slabs::{Desc, KHeap, Purse, Target};
 use memfs_ops::FileTree;
-use proc_numbers::{count_of, opened};
+use proc_numbers::{Named, count_of};
 use proc_table::{Place, ProcTable};
 
 /// Writes n bytes of a process's memory to the file that a number is open on, at the description's offset, or at the file's end where
@@ -46,22 +46,23 @@ pub fn write_file(
     tree: &mut FileTree,
     buffer: &mut FileBuffer,
     place: Place,
-    fd: i64,
+    on: &Named,
     addr: i64,
     n: i64,
 ) -> Result<u32, Errno>
     requires kept { IsKept heap.old procs.now }
     requires alive { IsAlive (processes heap.old procs.now) place.pid }
     requires there { IsPlaced procs.now place }
+    requires opened { IsOpened heap.old procs.now place.pid on.now }
     requires hold { HoldSome heap.old procs.now tree.old }
-    requires on { IsOnNode heap.old procs.now place.pid fd }
-    requires right { argument_fault (Call.Write fd addr n 0) ≡ None }
+    requires on { IsOnNode heap.old procs.now place.pid on.now.fd }
+    requires right { argument_fault (Call.Write on.now.fd addr n 0) ≡ None }
     requires may { MayFetch heap.old purse.old }
     ensures leads { (script : Script) (numbers : Numbers) (others : ℕ → ℕ) (plain : Plain) (account : Account)
         → StandsFor numbers heap.old procs.now plain account
         → HoldFiles numbers others heap.old procs.now tree.old plain.files
-        → LeadsHolding script numbers others heap.new procs.now tree.new plain account place.pid (Call.Write fd addr n 0)
-        (write script plain place.pid fd addr n 0) (value_of result) }
+        → LeadsHolding script numbers others heap.new procs.now tree.new plain account place.pid (Call.Write on.now.fd addr n 0)
+        (write script plain place.pid on.now.fd addr n 0) (value_of result) }
     ensures kept { IsKept heap.new procs.now }
     ensures beside { heap.new ≡ record heap.old {
       descs = heap.new.descs;
@@ -72,12 +73,12 @@ pub fn write_file(
     } }
     ensures paid { IsPaid heap.old purse.old heap.new purse.new }
     ensures reads { tree.old.disk.reads ≤ tree.new.disk.reads }
-    ensures stays { StaysOffNodes heap.old procs.now place.pid fd tree.old tree.new }
+    ensures stays { StaysOffNodes heap.old procs.now place.pid on.now.fd tree.old tree.new }
 {
-    let Some(found) = opened(heap, procs, place, fd) else {
+    let Some(found) = on.found else {
         return Err(Errno::EBADF);
     };
-    if !may_write(found.desc.access) {
+    if !found.is_writable() {
         return Err(Errno::EBADF);
     }
     let Target::Inode(node) = found.desc.target else {
@@ -112,7 +113,7 @@ pub fn pwrite_file(
     tree: &mut FileTree,
     buffer: &mut FileBuffer,
     place: Place,
-    fd: i64,
+    on: &Named,
     addr: i64,
     n: i64,
     at: i64,
@@ -120,14 +121,15 @@ pub fn pwrite_file(
     requires kept { IsKept heap.old procs.now }
     requires alive { IsAlive (processes heap.old procs.now) place.pid }
     requires there { IsPlaced procs.now place }
+    requires opened { IsOpened heap.old procs.now place.pid on.now }
     requires hold { HoldSome heap.old procs.now tree.old }
-    requires right { argument_fault (Call.Pwrite fd addr n at) ≡ None }
+    requires right { argument_fault (Call.Pwrite on.now.fd addr n at) ≡ None }
     requires may { MayFetch heap.old purse.old }
     ensures leads { (script : Script) (numbers : Numbers) (others : ℕ → ℕ) (plain : Plain) (account : Account)
         → StandsFor numbers heap.old procs.now plain account
         → HoldFiles numbers others heap.old procs.now tree.old plain.files
-        → LeadsHolding script numbers others heap.new procs.now tree.new plain account place.pid (Call.Pwrite fd addr n at)
-        (pwrite script plain place.pid fd addr n at) (value_of result) }
+        → LeadsHolding script numbers others heap.new procs.now tree.new plain account place.pid (Call.Pwrite on.now.fd addr n at)
+        (pwrite script plain place.pid on.now.fd addr n at) (value_of result) }
     ensures kept { IsKept heap.new procs.now }
     ensures beside { heap.new ≡ record heap.old {
       vnodes = heap.new.vnodes;
@@ -137,12 +139,12 @@ pub fn pwrite_file(
     } }
     ensures paid { IsPaid heap.old purse.old heap.new purse.new }
     ensures reads { tree.old.disk.reads ≤ tree.new.disk.reads }
-    ensures stays { StaysOffNodes heap.old procs.now place.pid fd tree.old tree.new }
+    ensures stays { StaysOffNodes heap.old procs.now place.pid on.now.fd tree.old tree.new }
 {
-    let Some(found) = opened(heap, procs, place, fd) else {
+    let Some(found) = on.found else {
         return Err(Errno::EBADF);
     };
-    if !may_write(found.desc.access) {
+    if !found.is_writable() {
         return Err(Errno::EBADF);
     }
     let Target::Inode(node) = found.desc.target else {

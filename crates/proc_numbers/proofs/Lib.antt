@@ -1,5 +1,5 @@
 pub mod Sums
-pub mod Named
+pub mod NamedPlaces
 pub mod Listing
 pub mod Droppable
 pub mod NumberCloses
@@ -17,6 +17,8 @@ pub mod PipeAnswers
 pub mod PipeSteps
 pub mod Booted
 pub mod NamedOpen
+pub mod OpenedBy
+pub mod OnNodes
 pub mod MayMove
 pub mod Settled
 pub mod FrontsMoved

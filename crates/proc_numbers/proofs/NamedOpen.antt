@@ -34,11 +34,6 @@ pub held_by : (number : ℕ → ℕ) (places : List (Option HeldDescriptor)) (fd
 held_by number places (pos fd) = get_or-map (option_map (descriptor_by number)) places fd None
 held_by number places (negsuc n) = refl
 
--- what a number names of a process that is there
-pub named_held : (h : Heap) (kept : TableView) (pid : ℕ) (proc : Proc) (fd : ℤ) → proc_of (processes h kept) pid ≡ Some proc → named_by h kept pid fd ≡ held_at (numbers_in h proc) fd
-named_held h kept pid proc (pos fd) is = ap (λ o. slice_index_or (places_in (numbers_in h) o) fd None) is
-named_held h kept pid proc (negsuc n) is = refl
-
 names_some : (places : List (Option HeldDescriptor)) (fd : ℤ) (held : HeldDescriptor) → held_at places fd ≡ Some held → 0 < count_by (names_desc held.desc) places
 names_some places (pos fd) held is =
     let part = part_of_sum (λ o. one_if (names_desc held.desc o)) places fd held is in
@@ -66,17 +61,3 @@ module _ (h : Heap) (kept : TableView) (pid key : ℕ) (proc : Proc) (listed : A
   descriptors_are numbers files have =
       have.descriptors.each pid
       ∙ ap (λ o. descriptors_by numbers.descs (places_in (numbers_in h) o)) (found_before h.procs key proc proc there refl kept.listed pid listed.stored named)
-
-  descriptor_is : (numbers : Numbers) (files : Files) → HaveOpen numbers h kept files → (fd : ℤ)
-      → descriptor_of (descriptors_of files pid) fd ≡ option_map (descriptor_by numbers.descs) (held_at (numbers_in h proc) fd)
-  descriptor_is numbers files have fd = ap (λ (d : Descriptors). descriptor_of d fd) (descriptors_are numbers files have) ∙ held_by numbers.descs (numbers_in h proc) fd
-
-  pub none_opened : (numbers : Numbers) (files : Files) → HaveOpen numbers h kept files → (fd : ℤ) → held_at (numbers_in h proc) fd ≡ None → opened_at files pid fd ≡ None
-  none_opened numbers files have fd none =
-      ap (opened_by files) (descriptor_is numbers files have fd ∙ ap (option_map (descriptor_by numbers.descs)) none)
-
-  pub some_opened : (numbers : Numbers) (files : Files) → HaveOpen numbers h kept files → (fd : ℤ) (held : HeldDescriptor) (desc : Desc) → held_at (numbers_in h proc) fd ≡ Some held
-      → object h.descs held.desc ≡ Some desc → opened_at files pid fd ≡ Some (opened_in numbers (record { key = held.desc; desc = desc }))
-  some_opened numbers files have fd held desc is found =
-      ap (opened_by files) (descriptor_is numbers files have fd ∙ ap (option_map (descriptor_by numbers.descs)) is)
-      ∙ ap (option_map (λ (d : Description). record { place = numbers.descs held.desc; is = d })) (described_so numbers h have.list files held.desc desc have.opened found)

@@ -39,7 +39,7 @@ use Rattle.usock_core.proofs.StandingLemmas.{held_on}
 use Rattle.proc_numbers.specs.Having.{AreListed, HaveDescriptors, HaveOpen, OpensNoNode, places_in}
 use Rattle.proc_numbers.proofs.Droppable.{droppable}
 use Rattle.proc_numbers.proofs.Listing.{found_before, found_now, found_others, pid_between, stored_still, used_still}
-use Rattle.proc_numbers.proofs.Named.{named_by_none, named_by_some}
+use Rattle.proc_numbers.proofs.NamedPlaces.{named_by_none, named_by_some}
 use Rattle.proc_numbers.proofs.Sums.{one_if, count_cons}
 
 -- the heap with other Procs

@@ -1,5 +1,7 @@
 -- What a number of a process names: a Desc of the heap, and the description that it stands for.
-use Rattle.std.specs.Prelude.{◌≡◌, ℕ, ℤ, pos, negsuc, List, Option, None, Some, IsSome, slice_index_or}
+use Rattle.std.specs.Prelude.{◌≡◌, ◌<◌, ℕ, ℤ, pos, negsuc, List, Option, None, Some, IfSome, IsSome, slice_index_or}
+use Rattle.std.specs.Option.{option_map}
+use Rattle.kabi_types.specs.Arguments.{most_descriptors}
 use Rattle.kheap_slabs.specs.Objects.{object}
 use Rattle.kheap_slabs.specs.declared.objects.Desc.{Desc}
 use Rattle.kheap_slabs.specs.declared.objects.Descriptor.{Descriptor}
@@ -10,6 +12,7 @@ use Rattle.posix_defs.specs.Calls.Opened.{Opened}
 use Rattle.proc_table.specs.Table.{TableView}
 use Rattle.proc_numbers.specs.Naming.{named_by}
 use Rattle.proc_numbers.specs.declared.lookups.Found.{Found}
+use Rattle.proc_numbers.specs.declared.lookups.Named.{Named}
 
 -- what the descriptors of a process have at a number as a call has it
 abbrev pub held_at : List (Option Descriptor) → ℤ → Option Descriptor
@@ -35,3 +38,13 @@ pub record IsNamed (h : Heap) (kept : TableView) (pid : ℕ) (fd : ℤ) (found :
   pub held : Descriptor
   pub is : named_by h kept pid fd ≡ Some held
   pub same : held.desc ≡ found.key
+
+-- the descriptor by which it was found
+abbrev pub held_in : Found → Descriptor
+held_in found = record { desc = found.key; close_on_exec = found.close_on_exec }
+
+-- What a call's number names was found: nothing, or this Desc, which is the heap's; then a descriptor has the number.
+pub record IsOpened (h : Heap) (kept : TableView) (pid : ℕ) (on : Named) : Type 0 where
+  pub names : named_by h kept pid on.fd ≡ option_map held_in on.found
+  pub there : IfSome on.found (λ found. object h.descs found.key ≡ Some found.desc)
+  pub number : IfSome on.found (λ found. (on.fd ≡ pos found.number) × (found.number < most_descriptors))

@@ -14,6 +14,7 @@ ghost use Rattle.posix_defs.specs.Calls.Opened.{Opened};
 ghost use Rattle.posix_defs.specs.Machine.{blocks};
 ghost use Rattle.posix_defs.specs.Plain.{Plain};
 ghost use Rattle.proc_table.specs.Table.{IsPlaced};
+ghost use Rattle.proc_numbers.specs.Found.{IsOpened};
 ghost use Rattle.proc_numbers.specs.Having.{AreListed, HaveOpen, OpensNoNode};
 ghost use Rattle.proc_numbers.specs.Naming.{ChangesNumbers};
 ghost use Rattle.proc_numbers.specs.Queues.{QueuesStand};
@@ -21,7 +22,8 @@ ghost use Rattle.proc_numbers.specs.Finding.{FindsSocket};
 ghost use Rattle.proc_numbers.specs.SocketOpening.{Accepts, IfTaken, StillUsed, UnlessTaken};
 
 use crate::describing::open_on;
-use crate::finding::{OpenSocket, lowest_from, socket_of};
+use crate::finding::{OpenSocket, lowest_from};
+use crate::lookups::Named;
 use kabi_types::Errno;
 use kheap_slabs::{KHeap, Purse};
 use proc_table::{Place, ProcTable};
@@ -39,15 +41,16 @@ pub fn accept_number(
     purse: &mut Purse,
     procs: &ProcTable,
     place: Place,
-    fd: i64,
+    on: &Named,
 ) -> Result<Option<u32>, Errno>
     requires listed { AreListed heap.old procs.now }
     requires owners { HasItsOwners heap.old [] }
     requires there { IsPlaced procs.now place }
+    requires opened { IsOpened heap.old procs.now place.pid on.now }
     requires pays { CanPay heap.old purse.old }
     requires left { 0 < purse.old.left.desc }
     ensures answers { (numbers : Numbers) (script : Script) (plain : Plain) → HaveOpen numbers heap.old procs.now plain.files
-        → Accepts numbers heap.old heap.new procs.now script plain place.pid (plain_accept script plain place.pid fd) result }
+        → Accepts numbers heap.old heap.new procs.now script plain place.pid (plain_accept script plain place.pid on.now.fd) result }
     ensures nodes { OpensNoNode heap.old.descs → OpensNoNode heap.new.descs }
     ensures listed { AreListed heap.new procs.now }
     ensures owners { HasItsOwners heap.new [] }
@@ -60,21 +63,22 @@ pub fn accept_number(
     ensures spent { IfTaken result (purse.new
         ≡ record purse.old { left = with_count purse.old.left class.Desc (purse.old.left.desc - 1) }) }
 {
-    match socket_of(heap, procs, place, fd) {
+    match on.socket() {
         Ok(found) => accept_on(heap, purse, procs, place, found),
         Err(errno) => Err(errno),
     }
 }
 
 /// Whether an `accept` would have to wait.
-pub fn accept_waits(heap: &KHeap, procs: &ProcTable, place: Place, fd: i64) -> bool
+pub fn accept_waits(heap: &KHeap, procs: &ProcTable, place: Place, on: &Named) -> bool
     requires listed { AreListed heap.now procs.now }
     requires owners { HasItsOwners heap.now [] }
     requires there { IsPlaced procs.now place }
+    requires opened { IsOpened heap.now procs.now place.pid on.now }
     ensures { (numbers : Numbers) (script : Script) (plain : Plain) → HaveOpen numbers heap.now procs.now plain.files
-        → result ≡ blocks (plain_accept script plain place.pid fd) }
+        → result ≡ blocks (plain_accept script plain place.pid on.now.fd) }
 {
-    let Ok(found) = socket_of(heap, procs, place, fd) else {
+    let Ok(found) = on.socket() else {
         return false;
     };
     let lowest = lowest_from(heap, procs, place, 0);

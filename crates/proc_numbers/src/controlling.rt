@@ -13,11 +13,13 @@ ghost use Rattle.posix_defs.specs.Files.Descriptions.{access_bits, has_flag, o_a
 ghost use Rattle.posix_defs.specs.Files.State.{Files, described_as};
 ghost use Rattle.posix_defs.specs.Plain.{Plain};
 ghost use Rattle.proc_table.specs.Table.{IsPlaced, TableView};
+ghost use Rattle.proc_numbers.specs.Found.{IsOpened};
 ghost use Rattle.proc_numbers.specs.Having.{AreListed, HaveOpen, OpensNoNode};
 ghost use Rattle.proc_numbers.specs.Naming.{ChangesNumbers};
 ghost use Rattle.proc_numbers.specs.Answering.{Answers, value_of, with_flags};
 
-use crate::opening::{count_of, descriptor_of, mark_one};
+use crate::lookups::Named;
+use crate::opening::{count_of, mark_one};
 use crate::sharing::share_lowest;
 use kabi_types::Errno;
 use kheap_slabs::{Access, Desc, DescFlags, KHeap, Purse};
@@ -56,16 +58,17 @@ pub fn control(
     purse: &mut Purse,
     procs: &ProcTable,
     place: Place,
-    fd: i64,
+    on: &Named,
     cmd: i64,
     arg: i64,
 ) -> Result<u32, Errno>
     requires listed { AreListed heap.old procs.now }
     requires owners { HasItsOwners heap.old [] }
     requires there { IsPlaced procs.now place }
+    requires opened { IsOpened heap.old procs.now place.pid on.now }
     requires pays { CanPay heap.old purse.old }
     ensures answers { (numbers : Numbers) (script : Script) (plain : Plain) → HaveOpen numbers heap.old procs.now plain.files
-        → Answers numbers heap.new procs.now script plain place.pid (fcntl script plain place.pid fd cmd arg) (value_of result) }
+        → Answers numbers heap.new procs.now script plain place.pid (fcntl script plain place.pid on.now.fd cmd arg) (value_of result) }
     ensures nodes { OpensNoNode heap.old.descs → OpensNoNode heap.new.descs }
     ensures listed { AreListed heap.new procs.now }
     ensures owners { HasItsOwners heap.new [] }
@@ -76,21 +79,20 @@ pub fn control(
     ensures paid { IsPaid heap.old purse.old heap.new purse.new }
     ensures spent { purse.new ≡ purse.old }
 {
-    let Some(held) = descriptor_of(heap, procs, place, fd) else {
+    let Some(found) = on.found else {
         return Err(Errno::EBADF);
     };
-    let number = count_of(fd) as u32;
     match count_of(cmd) {
-        F_DUPFD => share_lowest(heap, purse, procs, place, held.desc, count_of(arg)),
-        F_GETFD => Ok(bit(held.close_on_exec)),
+        F_DUPFD => share_lowest(heap, purse, procs, place, found.key, count_of(arg)),
+        F_GETFD => Ok(bit(found.close_on_exec)),
         F_SETFD => {
             let cloexec = has_flag(arg, FD_CLOEXEC);
-            mark_one(heap, procs, place, number, cloexec);
+            mark_one(heap, procs, place, found.number, cloexec);
             Ok(0)
         }
-        F_GETFL => Ok(status_bits(heap.get_desc(held.desc))),
+        F_GETFL => Ok(status_bits(&found.desc)),
         F_SETFL => {
-            set_flags(heap, held.desc, flags_in(arg));
+            set_flags(heap, found.key, flags_in(arg));
             Ok(0)
         }
         _ => Err(Errno::EINVAL),

@@ -3,7 +3,8 @@
 ghost use Rattle.std.specs.Prelude.{◌≡◌, ◌<◌, ◌≤◌, ℕ, [], IfOk, IfSome, None};
 ghost use Rattle.std.specs.List.{Contains};
 ghost use Rattle.kabi_types.specs.declared.scripts.Script.{Script};
-ghost use Rattle.open_laws.specs.Owned.{HasItsOwners, socks_named};
+ghost use Rattle.kheap_slabs.specs.Heap.{Heap};
+ghost use Rattle.open_laws.specs.Owned.{socks_named};
 ghost use Rattle.open_laws.specs.Placed.{Numbers};
 ghost use Rattle.posix_defs.specs.Answer.{Answer};
 ghost use Rattle.posix_defs.specs.Calls.Opened.{Opened};
@@ -11,12 +12,14 @@ ghost use Rattle.posix_defs.specs.Files.Descriptors.{lowest_free_from};
 ghost use Rattle.posix_defs.specs.Files.State.{Files, descriptors_of};
 ghost use Rattle.posix_defs.specs.Plain.{Plain};
 ghost use Rattle.kabi_types.specs.Arguments.{most_descriptors};
-ghost use Rattle.proc_table.specs.Table.{IsPlaced};
+ghost use Rattle.proc_table.specs.Table.{IsPlaced, TableView};
+ghost use Rattle.proc_numbers.specs.Found.{IsOpened};
 ghost use Rattle.proc_numbers.specs.Having.{AreListed, HaveOpen};
 ghost use Rattle.proc_numbers.specs.Naming.{named_at};
 ghost use Rattle.proc_numbers.specs.Finding.{FindsSocket};
 
-use crate::opening::{descriptor_of, places_of};
+use crate::lookups::Named;
+use crate::opening::places_of;
 use desc_table::Descs;
 use kabi_types::Errno;
 use kheap_slabs::{KHeap, Target};
@@ -31,34 +34,28 @@ pub struct OpenSocket {
     pub nonblock: bool,
 }
 
-/// The socket that a number of a process is open on.
-///
-/// EBADF where the number isn't open, ENOTSOCK where it is open on something else.
-pub fn socket_of(
-    heap: &KHeap,
-    procs: &ProcTable,
-    place: Place,
-    fd: i64,
-) -> Result<OpenSocket, Errno>
-    requires listed { AreListed heap.now procs.now }
-    requires owners { HasItsOwners heap.now [] }
-    requires there { IsPlaced procs.now place }
-    ensures found { (numbers : Numbers) (script : Script) (plain : Plain) (answer : Opened → ℕ → Answer)
-        → HaveOpen numbers heap.now procs.now plain.files
-        → FindsSocket numbers script plain place.pid fd answer result }
-    ensures there { IfOk result (λ found. Contains (socks_named heap.now.descs) found.key) }
-{
-    let Some(held) = descriptor_of(heap, procs, place, fd) else {
-        return Err(Errno::EBADF);
-    };
-    let desc = heap.get_desc(held.desc);
-    let Target::Sock(key) = desc.target else {
-        return Err(Errno::ENOTSOCK);
-    };
-    Ok(OpenSocket {
-        key,
-        nonblock: desc.flags.nonblock,
-    })
+impl Named {
+    /// The socket that it is open on.
+    ///
+    /// EBADF where the number isn't open, ENOTSOCK where it is open on something else.
+    pub fn socket(&self) -> Result<OpenSocket, Errno>
+        ensures found { (h : Heap) (kept : TableView) (pid : ℕ) (numbers : Numbers) (script : Script) (plain : Plain) (answer : Opened → ℕ → Answer)
+            → IsOpened h kept pid self.now → HaveOpen numbers h kept plain.files
+            → FindsSocket numbers script plain pid self.now.fd answer result }
+        ensures there { (h : Heap) (kept : TableView) (pid : ℕ) → IsOpened h kept pid self.now
+            → IfOk result (λ found. Contains (socks_named h.descs) found.key) }
+    {
+        let Some(found) = self.found else {
+            return Err(Errno::EBADF);
+        };
+        let Target::Sock(key) = found.desc.target else {
+            return Err(Errno::ENOTSOCK);
+        };
+        Ok(OpenSocket {
+            key,
+            nonblock: found.desc.flags.nonblock,
+        })
+    }
 }
 
 // The lowest number of a process at or above one that is free.

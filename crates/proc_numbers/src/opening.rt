@@ -11,7 +11,7 @@ ghost use Rattle.posix_defs.specs.Files.Descriptors.{descriptor_at};
 ghost use Rattle.posix_defs.specs.Files.State.{Files, descriptors_of, with_open};
 ghost use Rattle.proc_table.specs.Table.{IsPlaced};
 ghost use Rattle.proc_numbers.specs.Having.{AreListed, HaveOpen};
-ghost use Rattle.proc_numbers.specs.Naming.{ChangesNumbers, NamesNumber, named_at, named_by, places_of};
+ghost use Rattle.proc_numbers.specs.Naming.{ChangesNumbers, NamesNumber, named_at, places_of};
 
 use crate::closing::is_well_formed;
 use kabi_types::MOST_DESCRIPTORS;
@@ -25,33 +25,8 @@ pub fn places_of(heap: &KHeap, procs: &ProcTable, place: Place) -> [Option<Descr
     ensures places { result ≡ places_of heap.now procs.now place.pid }
     ensures all { length (places_of heap.now procs.now place.pid) ≡ most_descriptors }
 {
-    *places_in(heap, procs, place)
-}
-
-// The same where they are kept: to take them out copies all of them.
-fn places_in<'a>(heap: &'a KHeap, procs: &ProcTable, place: Place) -> &'a [Option<Descriptor>; 32]
-    requires listed { AreListed heap.now procs.now }
-    requires there { IsPlaced procs.now place }
-    ensures places { result.now ≡ places_of heap.now procs.now place.pid }
-    ensures all { length (places_of heap.now procs.now place.pid) ≡ most_descriptors }
-{
     is_well_formed(heap);
-    &procs.at(heap, place).descriptors
-}
-
-/// What the number that a call has names; None where it isn't open, as no number below 0 or above 31 is.
-pub fn descriptor_of(heap: &KHeap, procs: &ProcTable, place: Place, fd: i64) -> Option<Descriptor>
-    requires listed { AreListed heap.now procs.now }
-    requires there { IsPlaced procs.now place }
-    ensures held { result ≡ named_by heap.now procs.now place.pid fd }
-    ensures within { IsSome result → count_of fd < most_descriptors }
-{
-    let places = places_in(heap, procs, place);
-    if may_be_descriptor(fd) {
-        places[count_of(fd) as usize]
-    } else {
-        None
-    }
+    procs.at(heap, place).descriptors
 }
 
 /// Whether a number is one that a descriptor may have.

@@ -17,14 +17,14 @@ ghost use Rattle.posix_defs.specs.Pipe.{Moves};
 ghost use Rattle.posix_defs.specs.Plain.{Plain};
 ghost use Rattle.proc_table.specs.Procs.{IsAlive};
 ghost use Rattle.proc_table.specs.Table.{IsPlaced, processes};
-ghost use Rattle.proc_numbers.specs.Found.{IsOffNodes};
+ghost use Rattle.proc_numbers.specs.Found.{IsOffNodes, IsOpened};
 ghost use Rattle.proc_numbers.specs.PipeMoving.{UnlessMoves, told_read};
 ghost use Rattle.proc_numbers.specs.QueueEnds.{Behind, IsEndIn, ReadsEnd, StandsBehind, read_of};
 ghost use Rattle.proc_numbers.specs.Standing.{IsKept, Leads, StandsFor};
 
 use crate::buffer::{Buffer, CAPACITY};
 use crate::ends::QueueEnd;
-use crate::lookups::readable;
+use crate::lookups::Named;
 use crate::spaces::{space_of, start_of};
 use chunk_queue::Moved;
 use kabi_types::{Errno, Reply};
@@ -44,21 +44,22 @@ pub fn read(
     procs: &ProcTable,
     buffer: &mut Buffer,
     place: Place,
-    fd: i64,
+    on: &Named,
     addr: i64,
     n: i64,
 ) -> Turned
     requires kept { IsKept heap.old procs.now }
     requires alive { IsAlive (processes heap.old procs.now) place.pid }
     requires there { IsPlaced procs.now place }
-    requires off { IsOffNodes heap.old procs.now place.pid fd }
-    requires right { argument_fault (Call.Read fd addr n) ≡ None }
+    requires opened { IsOpened heap.old procs.now place.pid on.now }
+    requires off { IsOffNodes heap.old procs.now place.pid on.now.fd }
+    requires right { argument_fault (Call.Read on.now.fd addr n) ≡ None }
     requires room { CanPay heap.old purse.old }
     requires left { pages_touched (count_of addr) (count_of n) ≤ purse.old.left.page }
     ensures leads { (script : Script) (numbers : Numbers) (plain : Plain) (account : Account)
         → StandsFor numbers heap.old procs.now plain account
-        → Leads script numbers heap.new procs.now plain account place.pid (Call.Read fd addr n)
-        (read script plain place.pid fd addr n) result }
+        → Leads script numbers heap.new procs.now plain account place.pid (Call.Read on.now.fd addr n)
+        (read script plain place.pid on.now.fd addr n) result }
     ensures kept { IsKept heap.new procs.now }
     ensures beside { heap.new ≡ record heap.old {
       nodes = heap.new.nodes;
@@ -70,7 +71,7 @@ pub fn read(
     } }
     ensures paid { IsPaid heap.old purse.old heap.new purse.new }
 {
-    let Some(found) = readable(heap, procs, place, fd) else {
+    let Some(found) = on.readable() else {
         return Turned::Done(Reply::Fail(Errno::EBADF));
     };
     let Some(queue) = QueueEnd::of(found.desc.target) else {
@@ -90,16 +91,24 @@ pub fn read(
 }
 
 /// Whether a `read` would sleep, whatever its number is open on; one of a file or a directory never does.
-pub fn read_waits(heap: &KHeap, procs: &ProcTable, place: Place, fd: i64, addr: i64, n: i64) -> bool
+pub fn read_waits(
+    heap: &KHeap,
+    procs: &ProcTable,
+    place: Place,
+    on: &Named,
+    addr: i64,
+    n: i64,
+) -> bool
     requires kept { IsKept heap.now procs.now }
     requires alive { IsAlive (processes heap.now procs.now) place.pid }
     requires there { IsPlaced procs.now place }
-    requires right { argument_fault (Call.Read fd addr n) ≡ None }
+    requires opened { IsOpened heap.now procs.now place.pid on.now }
+    requires right { argument_fault (Call.Read on.now.fd addr n) ≡ None }
     ensures { (script : Script) (numbers : Numbers) (plain : Plain) (account : Account)
         → StandsFor numbers heap.now procs.now plain account
-        → result ≡ blocks (read script plain place.pid fd addr n) }
+        → result ≡ blocks (read script plain place.pid on.now.fd addr n) }
 {
-    let Some(found) = readable(heap, procs, place, fd) else {
+    let Some(found) = on.readable() else {
         return false;
     };
     let Some(queue) = QueueEnd::of(found.desc.target) else {

@@ -14,11 +14,13 @@ ghost use Rattle.posix_defs.specs.Files.State.{Files, descriptors_of, with_open}
 ghost use Rattle.posix_defs.specs.Plain.{Plain};
 ghost use Rattle.kabi_types.specs.Arguments.{most_descriptors};
 ghost use Rattle.proc_table.specs.Table.{IsPlaced};
+ghost use Rattle.proc_numbers.specs.Found.{IsOpened};
 ghost use Rattle.proc_numbers.specs.Having.{AreListed, HaveOpen, OpensNoNode};
 ghost use Rattle.proc_numbers.specs.Naming.{ChangesNumbers, named_at};
 ghost use Rattle.proc_numbers.specs.Answering.{Answers, value_of};
 
-use crate::opening::{descriptor_of, open_one, places_of};
+use crate::lookups::Named;
+use crate::opening::{open_one, places_of};
 use desc_table::{Descs, share_desc};
 use kabi_types::{Errno, MOST_DESCRIPTORS};
 use kheap_slabs::{Descriptor, KHeap, Purse};
@@ -35,14 +37,15 @@ pub fn dup_one(
     purse: &mut Purse,
     procs: &ProcTable,
     place: Place,
-    fd: i64,
+    on: &Named,
 ) -> Result<u32, Errno>
     requires listed { AreListed heap.old procs.now }
     requires owners { HasItsOwners heap.old [] }
     requires there { IsPlaced procs.now place }
+    requires opened { IsOpened heap.old procs.now place.pid on.now }
     requires pays { CanPay heap.old purse.old }
     ensures answers { (numbers : Numbers) (script : Script) (plain : Plain) → HaveOpen numbers heap.old procs.now plain.files
-        → Answers numbers heap.new procs.now script plain place.pid (dup script plain place.pid fd) (value_of result) }
+        → Answers numbers heap.new procs.now script plain place.pid (dup script plain place.pid on.now.fd) (value_of result) }
     ensures nodes { OpensNoNode heap.old.descs → OpensNoNode heap.new.descs }
     ensures listed { AreListed heap.new procs.now }
     ensures owners { HasItsOwners heap.new [] }
@@ -53,10 +56,10 @@ pub fn dup_one(
     ensures paid { IsPaid heap.old purse.old heap.new purse.new }
     ensures spent { purse.new ≡ purse.old }
 {
-    let Some(held) = descriptor_of(heap, procs, place, fd) else {
+    let Some(found) = on.found else {
         return Err(Errno::EBADF);
     };
-    share_lowest(heap, purse, procs, place, held.desc, 0)
+    share_lowest(heap, purse, procs, place, found.key, 0)
 }
 
 // The lowest number at or above one that is free names a description from now on that another number names. EMFILE where all

@@ -8,12 +8,13 @@ ghost use Rattle.open_laws.specs.Placed.{Numbers};
 ghost use Rattle.posix_defs.specs.Calls.OnSockets.{listen as plain_listen, shutdown as plain_shutdown};
 ghost use Rattle.posix_defs.specs.Plain.{Plain};
 ghost use Rattle.proc_table.specs.Table.{IsPlaced};
+ghost use Rattle.proc_numbers.specs.Found.{IsOpened};
 ghost use Rattle.proc_numbers.specs.Having.{AreListed, HaveOpen};
 ghost use Rattle.proc_numbers.specs.Naming.{ChangesNumbers};
 ghost use Rattle.proc_numbers.specs.Queues.{QueuesStand};
 ghost use Rattle.proc_numbers.specs.Answering.{Answers, zero_of};
 
-use crate::finding::socket_of;
+use crate::lookups::Named;
 use kabi_types::Errno;
 use kheap_slabs::KHeap;
 use proc_table::{Place, ProcTable};
@@ -29,13 +30,14 @@ pub fn listen_number(
     heap: &mut KHeap,
     procs: &ProcTable,
     place: Place,
-    fd: i64,
+    on: &Named,
 ) -> Result<(), Errno>
     requires listed { AreListed heap.old procs.now }
     requires owners { HasItsOwners heap.old [] }
     requires there { IsPlaced procs.now place }
+    requires opened { IsOpened heap.old procs.now place.pid on.now }
     ensures answers { (numbers : Numbers) (script : Script) (plain : Plain) → HaveOpen numbers heap.old procs.now plain.files
-        → Answers numbers heap.new procs.now script plain place.pid (plain_listen script plain place.pid fd) (zero_of result) }
+        → Answers numbers heap.new procs.now script plain place.pid (plain_listen script plain place.pid on.now.fd) (zero_of result) }
     ensures listed { AreListed heap.new procs.now }
     ensures owners { HasItsOwners heap.new [] }
     ensures changes { ChangesNumbers heap.old heap.new procs.now place.pid }
@@ -45,7 +47,7 @@ pub fn listen_number(
     ensures queues { QueuesStand heap.old heap.new }
     ensures takes { TakesNothing heap.old heap.new }
 {
-    match socket_of(heap, procs, place, fd) {
+    match on.socket() {
         Ok(found) => listen(heap, found.key),
         Err(errno) => Err(errno),
     }
@@ -62,14 +64,15 @@ pub fn shut_number(
     heap: &mut KHeap,
     procs: &ProcTable,
     place: Place,
-    fd: i64,
+    on: &Named,
     how: i64,
 ) -> Result<(), Errno>
     requires listed { AreListed heap.old procs.now }
     requires owners { HasItsOwners heap.old [] }
     requires there { IsPlaced procs.now place }
+    requires opened { IsOpened heap.old procs.now place.pid on.now }
     ensures answers { (numbers : Numbers) (script : Script) (plain : Plain) → HaveOpen numbers heap.old procs.now plain.files
-        → Answers numbers heap.new procs.now script plain place.pid (plain_shutdown script plain place.pid fd how) (zero_of result) }
+        → Answers numbers heap.new procs.now script plain place.pid (plain_shutdown script plain place.pid on.now.fd how) (zero_of result) }
     ensures listed { AreListed heap.new procs.now }
     ensures owners { HasItsOwners heap.new [] }
     ensures changes { ChangesNumbers heap.old heap.new procs.now place.pid }
@@ -79,7 +82,7 @@ pub fn shut_number(
     ensures queues { QueuesStand heap.old heap.new }
     ensures takes { TakesNothing heap.old heap.new }
 {
-    match socket_of(heap, procs, place, fd) {
+    match on.socket() {
         Ok(found) => shutdown(heap, found.key, how),
         Err(errno) => Err(errno),
     }

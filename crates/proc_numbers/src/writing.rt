@@ -19,14 +19,14 @@ ghost use Rattle.posix_defs.specs.Needs.{chunks_for};
 ghost use Rattle.posix_defs.specs.Plain.{Plain};
 ghost use Rattle.proc_table.specs.Procs.{IsAlive};
 ghost use Rattle.proc_table.specs.Table.{IsPlaced, processes};
-ghost use Rattle.proc_numbers.specs.Found.{IsOffNodes};
+ghost use Rattle.proc_numbers.specs.Found.{IsOffNodes, IsOpened};
 ghost use Rattle.proc_numbers.specs.PipeMoving.{UnlessMoves, moved_in, told_write};
 ghost use Rattle.proc_numbers.specs.QueueEnds.{Behind, IsEndIn, LeavesBut, PutsIn, StandsBehind, write_of};
 ghost use Rattle.proc_numbers.specs.Standing.{IsKept, Leads, StandsFor};
 
 use crate::buffer::{Buffer, CAPACITY};
 use crate::ends::QueueEnd;
-use crate::lookups::writable;
+use crate::lookups::Named;
 use crate::spaces::{fetch, space_of, start_of};
 use chunk_queue::Moved;
 use kabi_types::{Errno, Reply};
@@ -81,7 +81,7 @@ pub fn write(
     procs: &ProcTable,
     buffer: &mut Buffer,
     place: Place,
-    fd: i64,
+    on: &Named,
     addr: i64,
     n: i64,
     done: u32,
@@ -89,14 +89,15 @@ pub fn write(
     requires kept { IsKept heap.old procs.now }
     requires alive { IsAlive (processes heap.old procs.now) place.pid }
     requires there { IsPlaced procs.now place }
-    requires off { IsOffNodes heap.old procs.now place.pid fd }
-    requires right { argument_fault (Call.Write fd addr n done) ≡ None }
+    requires opened { IsOpened heap.old procs.now place.pid on.now }
+    requires off { IsOffNodes heap.old procs.now place.pid on.now.fd }
+    requires right { argument_fault (Call.Write on.now.fd addr n done) ≡ None }
     requires room { CanPay heap.old purse.old }
     requires left { chunks_for (count_of n - done) ≤ purse.old.left.chunk }
     ensures leads { (script : Script) (numbers : Numbers) (plain : Plain) (account : Account)
         → StandsFor numbers heap.old procs.now plain account
-        → Leads script numbers heap.new procs.now plain account place.pid (Call.Write fd addr n done)
-        (write script plain place.pid fd addr n done) result }
+        → Leads script numbers heap.new procs.now plain account place.pid (Call.Write on.now.fd addr n done)
+        (write script plain place.pid on.now.fd addr n done) result }
     ensures kept { IsKept heap.new procs.now }
     ensures beside { heap.new ≡ record heap.old {
       pipes = heap.new.pipes;
@@ -107,7 +108,7 @@ pub fn write(
     ensures paid { IsPaid heap.old purse.old heap.new purse.new }
     ensures purse { PaysChunks purse.old purse.new }
 {
-    let Some(found) = writable(heap, procs, place, fd) else {
+    let Some(found) = on.writable() else {
         return Turned::Done(Reply::Fail(Errno::EBADF));
     };
     let Some(queue) = QueueEnd::of(found.desc.target) else {
@@ -135,7 +136,7 @@ pub fn write_waits(
     heap: &KHeap,
     procs: &ProcTable,
     place: Place,
-    fd: i64,
+    on: &Named,
     addr: i64,
     n: i64,
     done: u32,
@@ -143,12 +144,13 @@ pub fn write_waits(
     requires kept { IsKept heap.now procs.now }
     requires alive { IsAlive (processes heap.now procs.now) place.pid }
     requires there { IsPlaced procs.now place }
-    requires right { argument_fault (Call.Write fd addr n done) ≡ None }
+    requires opened { IsOpened heap.now procs.now place.pid on.now }
+    requires right { argument_fault (Call.Write on.now.fd addr n done) ≡ None }
     ensures { (script : Script) (numbers : Numbers) (plain : Plain) (account : Account)
         → StandsFor numbers heap.now procs.now plain account
-        → result ≡ blocks (write script plain place.pid fd addr n done) }
+        → result ≡ blocks (write script plain place.pid on.now.fd addr n done) }
 {
-    let Some(found) = writable(heap, procs, place, fd) else {
+    let Some(found) = on.writable() else {
         return false;
     };
     let Some(queue) = QueueEnd::of(found.desc.target) else {

@@ -9,6 +9,7 @@ ghost use Rattle.posix_defs.specs.Machine.{blocks, machine};
 ghost use Rattle.posix_defs.specs.Process.{is_alive};
 ghost use Rattle.posix_defs.specs.World.{World};
 ghost use Rattle.queue_calls.specs.Taking.{told_as};
+ghost use Rattle.proc_numbers.specs.Found.{IsOpened};
 ghost use Rattle.proc_table.specs.Table.{IsPlaced};
 ghost use Rattle.store_objects.specs.Objects.{AreKept, Runs};
 ghost use Rattle.store_objects.specs.Standing.{Performs, StandsFor};
@@ -16,7 +17,7 @@ ghost use Rattle.store_objects.specs.Standing.{Performs, StandsFor};
 use kabi_types::{Errno, Reply, Script};
 use kheap_slabs::Purse;
 use posix_defs::Turned;
-use proc_numbers::{accept_number, accept_waits};
+use proc_numbers::{Named, accept_number, accept_waits, opened};
 use proc_table::Place;
 use store_objects::{Caller, Objects, go_on};
 
@@ -33,18 +34,19 @@ pub fn accept(
     objects: &mut Objects,
     purse: &mut Purse,
     caller: &Caller,
-    fd: i64,
+    on: &Named,
 ) -> Turned
     requires stands { (world : World) × StandsFor script.now objects.old world }
     requires runs { Runs objects.old caller.now.place.pid caller.now.control }
     requires placed { IsPlaced objects.old.procs caller.now.place }
+    requires opened { IsOpened objects.old.heap objects.old.procs caller.now.place.pid on.now }
     requires room { CanPay objects.old.heap purse.old }
     requires left_desc { 0 < purse.old.left.desc }
     ensures kept { AreKept script.now objects.new }
     ensures paid { IsPaid objects.old.heap purse.old objects.new.heap purse.new }
-    ensures does { Performs script.now objects.old caller.now.place.pid (Call.Accept fd) (λ plain. accept script.now plain caller.now.place.pid fd) result objects.new }
+    ensures does { Performs script.now objects.old caller.now.place.pid (Call.Accept on.now.fd) (λ plain. accept script.now plain caller.now.place.pid on.now.fd) result objects.new }
 {
-    let taken = accept_number(&mut objects.heap, purse, &objects.procs, caller.place, fd);
+    let taken = accept_number(&mut objects.heap, purse, &objects.procs, caller.place, on);
     match told(taken) {
         Some(reply) => go_on(script, objects, caller, reply),
         None => Turned::Sleep,
@@ -58,7 +60,8 @@ pub fn accept_would_block(objects: &Objects, place: Place, fd: i64) -> bool
     ensures { (script : Script) (world : World) → StandsFor script objects.now world
         → result ≡ blocks (machine script world.plain place.pid (Call.Accept fd)) }
 {
-    accept_waits(&objects.heap, &objects.procs, place, fd)
+    let on = opened(&objects.heap, &objects.procs, place, fd);
+    accept_waits(&objects.heap, &objects.procs, place, &on)
 }
 
 // The number of the socket that was taken, or why there is none; None where the caller has to wait for one.

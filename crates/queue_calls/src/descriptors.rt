@@ -3,6 +3,7 @@
 ghost use Rattle.kabi_types.specs.declared.calls.Call.{Call};
 ghost use Rattle.kheap_slabs.specs.Paid.{CanPay, IsPaid, TakesNothing};
 ghost use Rattle.posix_defs.specs.Calls.OnDescriptors.{dup, fcntl};
+ghost use Rattle.proc_numbers.specs.Found.{IsOpened};
 ghost use Rattle.proc_table.specs.Table.{IsPlaced};
 ghost use Rattle.store_objects.specs.Objects.{AreKept, Runs};
 ghost use Rattle.store_objects.specs.Standing.{Performs};
@@ -11,7 +12,7 @@ use crate::replies::value;
 use kabi_types::Script;
 use kheap_slabs::Purse;
 use posix_defs::Turned;
-use proc_numbers::dup_one;
+use proc_numbers::{Named, dup_one};
 use store_objects::{Caller, Objects, go_on};
 
 /// Has the lowest number that is free name what another names, and tells it. EBADF where the other isn't open, EMFILE where no
@@ -24,18 +25,19 @@ pub fn dup(
     objects: &mut Objects,
     purse: &mut Purse,
     caller: &Caller,
-    fd: i64,
+    on: &Named,
 ) -> Turned
     requires kept { AreKept script.now objects.old }
     requires runs { Runs objects.old caller.now.place.pid caller.now.control }
     requires placed { IsPlaced objects.old.procs caller.now.place }
+    requires opened { IsOpened objects.old.heap objects.old.procs caller.now.place.pid on.now }
     requires room { CanPay objects.old.heap purse.old }
     ensures kept { AreKept script.now objects.new }
     ensures takes { TakesNothing objects.old.heap objects.new.heap }
     ensures paid { IsPaid objects.old.heap purse.old objects.new.heap purse.new }
-    ensures does { Performs script.now objects.old caller.now.place.pid (Call.Dup fd) (λ plain. dup script.now plain caller.now.place.pid fd) result objects.new }
+    ensures does { Performs script.now objects.old caller.now.place.pid (Call.Dup on.now.fd) (λ plain. dup script.now plain caller.now.place.pid on.now.fd) result objects.new }
 {
-    let reply = value(dup_one(&mut objects.heap, purse, &objects.procs, caller.place, fd));
+    let reply = value(dup_one(&mut objects.heap, purse, &objects.procs, caller.place, on));
     go_on(script, objects, caller, reply)
 }
 
@@ -49,25 +51,26 @@ pub fn fcntl(
     objects: &mut Objects,
     purse: &mut Purse,
     caller: &Caller,
-    fd: i64,
+    on: &Named,
     cmd: i64,
     arg: i64,
 ) -> Turned
     requires kept { AreKept script.now objects.old }
     requires runs { Runs objects.old caller.now.place.pid caller.now.control }
     requires placed { IsPlaced objects.old.procs caller.now.place }
+    requires opened { IsOpened objects.old.heap objects.old.procs caller.now.place.pid on.now }
     requires room { CanPay objects.old.heap purse.old }
     ensures kept { AreKept script.now objects.new }
     ensures takes { TakesNothing objects.old.heap objects.new.heap }
     ensures paid { IsPaid objects.old.heap purse.old objects.new.heap purse.new }
-    ensures does { Performs script.now objects.old caller.now.place.pid (Call.Fcntl fd cmd arg) (λ plain. fcntl script.now plain caller.now.place.pid fd cmd arg) result objects.new }
+    ensures does { Performs script.now objects.old caller.now.place.pid (Call.Fcntl on.now.fd cmd arg) (λ plain. fcntl script.now plain caller.now.place.pid on.now.fd cmd arg) result objects.new }
 {
     let reply = value(proc_numbers::control(
         &mut objects.heap,
         purse,
         &objects.procs,
         caller.place,
-        fd,
+        on,
         cmd,
         arg,
     ));

@@ -10,7 +10,7 @@ ghost use Rattle.posix_defs.specs.Machine.{blocks, machine};
 ghost use Rattle.posix_defs.specs.Needs.{pages_touched};
 ghost use Rattle.posix_defs.specs.Process.{is_alive};
 ghost use Rattle.posix_defs.specs.World.{World};
-ghost use Rattle.proc_numbers.specs.Found.{IsOffNodes};
+ghost use Rattle.proc_numbers.specs.Found.{IsOffNodes, IsOpened};
 ghost use Rattle.proc_table.specs.Table.{IsPlaced};
 ghost use Rattle.store_objects.specs.Objects.{AreKept, Runs};
 ghost use Rattle.store_objects.specs.Standing.{Performs, StandsFor};
@@ -20,7 +20,7 @@ use crate::told::go_on_done;
 use kabi_types::Script;
 use kheap_slabs::Purse;
 use posix_defs::Turned;
-use proc_numbers::{Buffer, read_waits};
+use proc_numbers::{Buffer, Named, opened, read_waits};
 use proc_table::Place;
 use store_objects::{Caller, Objects};
 
@@ -36,20 +36,21 @@ pub fn read(
     purse: &mut Purse,
     buffer: &mut Buffer,
     caller: &Caller,
-    fd: i64,
+    on: &Named,
     addr: i64,
     n: i64,
 ) -> Turned
     requires stands { (world : World) × StandsFor script.now objects.old world }
     requires runs { Runs objects.old caller.now.place.pid caller.now.control }
     requires placed { IsPlaced objects.old.procs caller.now.place }
-    requires off { IsOffNodes objects.old.heap objects.old.procs caller.now.place.pid fd }
-    requires right { argument_fault (Call.Read fd addr n) ≡ None }
+    requires opened { IsOpened objects.old.heap objects.old.procs caller.now.place.pid on.now }
+    requires off { IsOffNodes objects.old.heap objects.old.procs caller.now.place.pid on.now.fd }
+    requires right { argument_fault (Call.Read on.now.fd addr n) ≡ None }
     requires room { CanPay objects.old.heap purse.old }
     requires left { pages_touched (count_of addr) (count_of n) ≤ purse.old.left.page }
     ensures kept { AreKept script.now objects.new }
     ensures paid { IsPaid objects.old.heap purse.old objects.new.heap purse.new }
-    ensures does { Performs script.now objects.old caller.now.place.pid (Call.Read fd addr n) (λ plain. read script.now plain caller.now.place.pid fd addr n) result objects.new }
+    ensures does { Performs script.now objects.old caller.now.place.pid (Call.Read on.now.fd addr n) (λ plain. read script.now plain caller.now.place.pid on.now.fd addr n) result objects.new }
 {
     let told = proc_numbers::read(
         &mut objects.heap,
@@ -57,7 +58,7 @@ pub fn read(
         &objects.procs,
         buffer,
         caller.place,
-        fd,
+        on,
         addr,
         n,
     );
@@ -71,5 +72,9 @@ pub fn read_would_block(objects: &Objects, place: Place, fd: i64, addr: i64, n: 
     ensures { (script : Script) (world : World) → StandsFor script objects.now world
         → result ≡ blocks (machine script world.plain place.pid (Call.Read fd addr n)) }
 {
-    may_move(addr, n) && read_waits(&objects.heap, &objects.procs, place, fd, addr, n)
+    if !may_move(addr, n) {
+        return false;
+    }
+    let on = opened(&objects.heap, &objects.procs, place, fd);
+    read_waits(&objects.heap, &objects.procs, place, &on, addr, n)
 }

@@ -10,7 +10,7 @@ ghost use Rattle.posix_defs.specs.Machine.{blocks, machine};
 ghost use Rattle.posix_defs.specs.Needs.{chunks_for};
 ghost use Rattle.posix_defs.specs.Process.{is_alive};
 ghost use Rattle.posix_defs.specs.World.{World};
-ghost use Rattle.proc_numbers.specs.Found.{IsOffNodes};
+ghost use Rattle.proc_numbers.specs.Found.{IsOffNodes, IsOpened};
 ghost use Rattle.proc_table.specs.Table.{IsPlaced};
 ghost use Rattle.store_objects.specs.Objects.{AreKept, Runs};
 ghost use Rattle.store_objects.specs.Standing.{Performs, StandsFor};
@@ -20,7 +20,7 @@ use crate::told::{do_part, go_on_done};
 use kabi_types::Script;
 use kheap_slabs::Purse;
 use posix_defs::Turned;
-use proc_numbers::{Buffer, write_waits};
+use proc_numbers::{Buffer, Named, opened, write_waits};
 use proc_table::Place;
 use store_objects::{Caller, Objects};
 
@@ -38,7 +38,7 @@ pub fn write(
     purse: &mut Purse,
     buffer: &mut Buffer,
     caller: &Caller,
-    fd: i64,
+    on: &Named,
     addr: i64,
     n: i64,
     done: u32,
@@ -46,14 +46,15 @@ pub fn write(
     requires stands { (world : World) × StandsFor script.now objects.old world }
     requires runs { Runs objects.old caller.now.place.pid caller.now.control }
     requires placed { IsPlaced objects.old.procs caller.now.place }
+    requires opened { IsOpened objects.old.heap objects.old.procs caller.now.place.pid on.now }
     requires so_far { caller.now.control.done ≡ done }
-    requires off { IsOffNodes objects.old.heap objects.old.procs caller.now.place.pid fd }
-    requires right { argument_fault (Call.Write fd addr n done) ≡ None }
+    requires off { IsOffNodes objects.old.heap objects.old.procs caller.now.place.pid on.now.fd }
+    requires right { argument_fault (Call.Write on.now.fd addr n done) ≡ None }
     requires room { CanPay objects.old.heap purse.old }
     requires left { chunks_for (count_of n - done) ≤ purse.old.left.chunk }
     ensures kept { AreKept script.now objects.new }
     ensures paid { IsPaid objects.old.heap purse.old objects.new.heap purse.new }
-    ensures does { Performs script.now objects.old caller.now.place.pid (Call.Write fd addr n done) (λ plain. write script.now plain caller.now.place.pid fd addr n done) result objects.new }
+    ensures does { Performs script.now objects.old caller.now.place.pid (Call.Write on.now.fd addr n done) (λ plain. write script.now plain caller.now.place.pid on.now.fd addr n done) result objects.new }
 {
     let told = proc_numbers::write(
         &mut objects.heap,
@@ -61,7 +62,7 @@ pub fn write(
         &objects.procs,
         buffer,
         caller.place,
-        fd,
+        on,
         addr,
         n,
         done,
@@ -86,5 +87,9 @@ pub fn write_would_block(
     ensures { (script : Script) (world : World) → StandsFor script objects.now world
         → result ≡ blocks (machine script world.plain place.pid (Call.Write fd addr n done)) }
 {
-    may_move(addr, n) && write_waits(&objects.heap, &objects.procs, place, fd, addr, n, done)
+    if !may_move(addr, n) {
+        return false;
+    }
+    let on = opened(&objects.heap, &objects.procs, place, fd);
+    write_waits(&objects.heap, &objects.procs, place, &on, addr, n, done)
 }

@@ -58,15 +58,15 @@ bind_number-done-requires-clause-path c =
 
 pub go_on-requires-clause-kept : goal.go_on-requires-clause-kept
 go_on-requires-clause-kept c =
-    kept_named c.args.script.now c.args.objects.now c.bind_number-done.new.heap c.bind_number-done.new.tree c.bind_number-done.new.names c.args.caller.now.place.pid (λ plain. bind c.args.script.now plain c.args.caller.now.place.pid c.args.fd c.args.path.now) c.zero.result
-    (named c.args.script.now c.args.objects.now c.bind_number-done.new.heap c.bind_number-done.new.tree c.bind_number-done.new.names c.args.caller.now.place.pid c.args.fd _ c.args.path.now c.bind_number-done.result c.zero.result (to_z-of_z w64 c.args.fd c.ranges.fd) c.zero.ensures c.requires.stands
+    kept_named c.args.script.now c.args.objects.now c.bind_number-done.new.heap c.bind_number-done.new.tree c.bind_number-done.new.names c.args.caller.now.place.pid (λ plain. bind c.args.script.now plain c.args.caller.now.place.pid c.args.on.now.fd c.args.path.now) c.zero.result
+    (named c.args.script.now c.args.objects.now c.bind_number-done.new.heap c.bind_number-done.new.tree c.bind_number-done.new.names c.args.caller.now.place.pid c.args.on.now.fd _ c.args.path.now c.bind_number-done.result c.zero.result refl c.zero.ensures c.requires.stands
     c.heap_is_well_formed.ensures c.bind_number-done.ensures.changes c.bind_number-done.ensures.listed c.bind_number-done.ensures.owners c.bind_number-done.ensures.queues c.bind_number-done.ensures.places
     (λ n o plain hold works. anew c.args.objects.now.heap n o c.args.objects.now c.bind_number-done.new.heap c.bind_number-done.new.tree c.bind_number-done.new.names c.args.script.now plain c.args.caller.now.place.pid _ _ (c.bind_number-done.ensures.answers n o c.args.script.now plain hold works)))
 
 pub go_on-requires-clause-runs : goal.go_on-requires-clause-runs
 go_on-requires-clause-runs c =
-    runs_named c.args.script.now c.args.objects.now c.bind_number-done.new.heap c.bind_number-done.new.tree c.bind_number-done.new.names c.args.caller.now.place.pid (λ plain. bind c.args.script.now plain c.args.caller.now.place.pid c.args.fd c.args.path.now) c.zero.result
-    (named c.args.script.now c.args.objects.now c.bind_number-done.new.heap c.bind_number-done.new.tree c.bind_number-done.new.names c.args.caller.now.place.pid c.args.fd _ c.args.path.now c.bind_number-done.result c.zero.result (to_z-of_z w64 c.args.fd c.ranges.fd) c.zero.ensures c.requires.stands
+    runs_named c.args.script.now c.args.objects.now c.bind_number-done.new.heap c.bind_number-done.new.tree c.bind_number-done.new.names c.args.caller.now.place.pid (λ plain. bind c.args.script.now plain c.args.caller.now.place.pid c.args.on.now.fd c.args.path.now) c.zero.result
+    (named c.args.script.now c.args.objects.now c.bind_number-done.new.heap c.bind_number-done.new.tree c.bind_number-done.new.names c.args.caller.now.place.pid c.args.on.now.fd _ c.args.path.now c.bind_number-done.result c.zero.result refl c.zero.ensures c.requires.stands
     c.heap_is_well_formed.ensures c.bind_number-done.ensures.changes c.bind_number-done.ensures.listed c.bind_number-done.ensures.owners c.bind_number-done.ensures.queues c.bind_number-done.ensures.places
     (λ n o plain hold works. anew c.args.objects.now.heap n o c.args.objects.now c.bind_number-done.new.heap c.bind_number-done.new.tree c.bind_number-done.new.names c.args.script.now plain c.args.caller.now.place.pid _ _ (c.bind_number-done.ensures.answers n o c.args.script.now plain hold works)))
     c.args.caller.now.control c.requires.runs
@@ -78,10 +78,10 @@ returns-clause-paid c =
 
 pub returns-clause-does : goal.returns-clause-does
 returns-clause-does c =
-    serves_named c.args.script.now c.args.objects.now c.bind_number-done.new.heap c.bind_number-done.new.tree c.bind_number-done.new.names c.args.caller.now.place.pid (λ plain. bind c.args.script.now plain c.args.caller.now.place.pid c.args.fd c.args.path.now) c.zero.result
-    (named c.args.script.now c.args.objects.now c.bind_number-done.new.heap c.bind_number-done.new.tree c.bind_number-done.new.names c.args.caller.now.place.pid c.args.fd _ c.args.path.now c.bind_number-done.result c.zero.result (to_z-of_z w64 c.args.fd c.ranges.fd) c.zero.ensures c.requires.stands
+    serves_named c.args.script.now c.args.objects.now c.bind_number-done.new.heap c.bind_number-done.new.tree c.bind_number-done.new.names c.args.caller.now.place.pid (λ plain. bind c.args.script.now plain c.args.caller.now.place.pid c.args.on.now.fd c.args.path.now) c.zero.result
+    (named c.args.script.now c.args.objects.now c.bind_number-done.new.heap c.bind_number-done.new.tree c.bind_number-done.new.names c.args.caller.now.place.pid c.args.on.now.fd _ c.args.path.now c.bind_number-done.result c.zero.result refl c.zero.ensures c.requires.stands
     c.heap_is_well_formed.ensures c.bind_number-done.ensures.changes c.bind_number-done.ensures.listed c.bind_number-done.ensures.owners c.bind_number-done.ensures.queues c.bind_number-done.ensures.places
     (λ n o plain hold works. anew c.args.objects.now.heap n o c.args.objects.now c.bind_number-done.new.heap c.bind_number-done.new.tree c.bind_number-done.new.names c.args.script.now plain c.args.caller.now.place.pid _ _ (c.bind_number-done.ensures.answers n o c.args.script.now plain hold works)))
-    (call.Bind c.args.fd c.args.path.now) c.args.purse.now c.bind_number-done.new.purse c.go_on.result c.go_on.new.objects c.bind_number-done.ensures.paid c.requires.needed c.bind_number-done.ensures.reads c.go_on.ensures.told c.go_on.ensures.goes
-    (no_frames (call.Bind c.args.fd c.args.path.now) (λ frames pid value. refl) c.args.caller.now.place.pid c.zero.result)
-    (λ world stands files then. bind_cached c.args.objects.now _ world c.args.caller.now.place.pid c.args.fd c.args.path.now c.zero.result (with_files world.plain files) c.requires.right)
+    (call.Bind c.args.on.now.fd c.args.path.now) c.args.purse.now c.bind_number-done.new.purse c.go_on.result c.go_on.new.objects c.bind_number-done.ensures.paid c.requires.needed c.bind_number-done.ensures.reads c.go_on.ensures.told c.go_on.ensures.goes
+    (no_frames (call.Bind c.args.on.now.fd c.args.path.now) (λ frames pid value. refl) c.args.caller.now.place.pid c.zero.result)
+    (λ world stands files then. bind_cached c.args.objects.now _ world c.args.caller.now.place.pid c.args.on.now.fd c.args.path.now c.zero.result (with_files world.plain files) c.requires.right)

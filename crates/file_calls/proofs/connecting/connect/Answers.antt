@@ -59,19 +59,19 @@ connect_number-done-requires-clause-path c =
 
 pub connect_number-done-requires-clause-left : goal.connect_number-done-requires-clause-left
 connect_number-done-requires-clause-left c =
-    left_sock c.args.purse.now.left.sock (call.Connect c.args.fd c.args.path.now) c.requires.right (ap (λ need. need.sock) c.requires.needed) refl
+    left_sock c.args.purse.now.left.sock (call.Connect c.args.on.now.fd c.args.path.now) c.requires.right (ap (λ need. need.sock) c.requires.needed) refl
 
 pub go_on-requires-clause-kept : goal.go_on-requires-clause-kept
 go_on-requires-clause-kept c =
-    kept_named c.args.script.now c.args.objects.now c.connect_number-done.new.heap c.connect_number-done.new.tree c.args.objects.now.names c.args.caller.now.place.pid (λ plain. connect c.args.script.now plain c.args.caller.now.place.pid c.args.fd c.args.path.now) c.zero.result
-    (named c.args.script.now c.args.objects.now c.connect_number-done.new.heap c.connect_number-done.new.tree c.args.objects.now.names c.args.caller.now.place.pid c.args.fd _ c.args.path.now c.connect_number-done.result c.zero.result (to_z-of_z w64 c.args.fd c.ranges.fd) c.zero.ensures c.requires.stands
+    kept_named c.args.script.now c.args.objects.now c.connect_number-done.new.heap c.connect_number-done.new.tree c.args.objects.now.names c.args.caller.now.place.pid (λ plain. connect c.args.script.now plain c.args.caller.now.place.pid c.args.on.now.fd c.args.path.now) c.zero.result
+    (named c.args.script.now c.args.objects.now c.connect_number-done.new.heap c.connect_number-done.new.tree c.args.objects.now.names c.args.caller.now.place.pid c.args.on.now.fd _ c.args.path.now c.connect_number-done.result c.zero.result refl c.zero.ensures c.requires.stands
     c.heap_is_well_formed.ensures c.connect_number-done.ensures.changes c.connect_number-done.ensures.listed c.connect_number-done.ensures.owners c.connect_number-done.ensures.queues refl
     (λ n o plain hold works. c.connect_number-done.ensures.answers n o c.args.script.now plain hold works))
 
 pub go_on-requires-clause-runs : goal.go_on-requires-clause-runs
 go_on-requires-clause-runs c =
-    runs_named c.args.script.now c.args.objects.now c.connect_number-done.new.heap c.connect_number-done.new.tree c.args.objects.now.names c.args.caller.now.place.pid (λ plain. connect c.args.script.now plain c.args.caller.now.place.pid c.args.fd c.args.path.now) c.zero.result
-    (named c.args.script.now c.args.objects.now c.connect_number-done.new.heap c.connect_number-done.new.tree c.args.objects.now.names c.args.caller.now.place.pid c.args.fd _ c.args.path.now c.connect_number-done.result c.zero.result (to_z-of_z w64 c.args.fd c.ranges.fd) c.zero.ensures c.requires.stands
+    runs_named c.args.script.now c.args.objects.now c.connect_number-done.new.heap c.connect_number-done.new.tree c.args.objects.now.names c.args.caller.now.place.pid (λ plain. connect c.args.script.now plain c.args.caller.now.place.pid c.args.on.now.fd c.args.path.now) c.zero.result
+    (named c.args.script.now c.args.objects.now c.connect_number-done.new.heap c.connect_number-done.new.tree c.args.objects.now.names c.args.caller.now.place.pid c.args.on.now.fd _ c.args.path.now c.connect_number-done.result c.zero.result refl c.zero.ensures c.requires.stands
     c.heap_is_well_formed.ensures c.connect_number-done.ensures.changes c.connect_number-done.ensures.listed c.connect_number-done.ensures.owners c.connect_number-done.ensures.queues refl
     (λ n o plain hold works. c.connect_number-done.ensures.answers n o c.args.script.now plain hold works))
     c.args.caller.now.control c.requires.runs
@@ -83,14 +83,14 @@ returns-clause-paid c =
 
 pub returns-clause-does : goal.returns-clause-does
 returns-clause-does c =
-    serves_named c.args.script.now c.args.objects.now c.connect_number-done.new.heap c.connect_number-done.new.tree c.args.objects.now.names c.args.caller.now.place.pid (λ plain. connect c.args.script.now plain c.args.caller.now.place.pid c.args.fd c.args.path.now) c.zero.result
-    (named c.args.script.now c.args.objects.now c.connect_number-done.new.heap c.connect_number-done.new.tree c.args.objects.now.names c.args.caller.now.place.pid c.args.fd _ c.args.path.now c.connect_number-done.result c.zero.result (to_z-of_z w64 c.args.fd c.ranges.fd) c.zero.ensures c.requires.stands
+    serves_named c.args.script.now c.args.objects.now c.connect_number-done.new.heap c.connect_number-done.new.tree c.args.objects.now.names c.args.caller.now.place.pid (λ plain. connect c.args.script.now plain c.args.caller.now.place.pid c.args.on.now.fd c.args.path.now) c.zero.result
+    (named c.args.script.now c.args.objects.now c.connect_number-done.new.heap c.connect_number-done.new.tree c.args.objects.now.names c.args.caller.now.place.pid c.args.on.now.fd _ c.args.path.now c.connect_number-done.result c.zero.result refl c.zero.ensures c.requires.stands
     c.heap_is_well_formed.ensures c.connect_number-done.ensures.changes c.connect_number-done.ensures.listed c.connect_number-done.ensures.owners c.connect_number-done.ensures.queues refl
     (λ n o plain hold works. c.connect_number-done.ensures.answers n o c.args.script.now plain hold works))
-    (call.Connect c.args.fd c.args.path.now) c.args.purse.now c.connect_number-done.new.purse c.go_on.result c.go_on.new.objects c.connect_number-done.ensures.paid c.requires.needed c.connect_number-done.ensures.reads c.go_on.ensures.told c.go_on.ensures.goes
-    (no_frames (call.Connect c.args.fd c.args.path.now) (λ frames pid value. refl) c.args.caller.now.place.pid c.zero.result)
+    (call.Connect c.args.on.now.fd c.args.path.now) c.args.purse.now c.connect_number-done.new.purse c.go_on.result c.go_on.new.objects c.connect_number-done.ensures.paid c.requires.needed c.connect_number-done.ensures.reads c.go_on.ensures.told c.go_on.ensures.goes
+    (no_frames (call.Connect c.args.on.now.fd c.args.path.now) (λ frames pid value. refl) c.args.caller.now.place.pid c.zero.result)
     (λ world stands files then.
     let m = c.connect_number-done in
-    subst (λ said. LeavesCached c.args.objects.now (mid_of c.args.objects.now m.new.heap m.new.tree c.args.objects.now.names) world c.args.caller.now.place.pid (call.Connect c.args.fd c.args.path.now) said (with_files world.plain files)) (sym c.zero.ensures)
-    (connect_cached c.args.script.now c.args.objects.now (mid_of c.args.objects.now m.new.heap m.new.tree c.args.objects.now.names) c.args.caller.now.place.pid c.args.caller.now.control c.requires.runs c.args.fd c.args.path.now c.args.purse.now m.result
+    subst (λ said. LeavesCached c.args.objects.now (mid_of c.args.objects.now m.new.heap m.new.tree c.args.objects.now.names) world c.args.caller.now.place.pid (call.Connect c.args.on.now.fd c.args.path.now) said (with_files world.plain files)) (sym c.zero.ensures)
+    (connect_cached c.args.script.now c.args.objects.now (mid_of c.args.objects.now m.new.heap m.new.tree c.args.objects.now.names) c.args.caller.now.place.pid c.args.caller.now.control c.requires.runs c.args.on.now.fd c.args.path.now c.args.purse.now m.result
     c.requires.right m.ensures.bytes m.ensures.saved m.ensures.kept m.ensures.found world stands files then))

@@ -53,16 +53,16 @@ size_number-done-requires-clause-hold c = holds_some c.args.script.now c.args.ob
 
 pub go_on-requires-clause-kept : goal.go_on-requires-clause-kept
 go_on-requires-clause-kept c =
-    kept_changed c.args.script.now c.args.objects.now c.size_number-done.new.heap c.size_number-done.new.tree c.args.caller.now.place.pid (call.Ftruncate c.args.fd c.args.size) c.args.fd (λ plain. ftruncate c.args.script.now plain c.args.caller.now.place.pid c.args.fd c.args.size) c.zero.result
-    (changed c.args.script.now c.args.objects.now c.size_number-done.new.heap c.size_number-done.new.tree c.args.caller.now.place.pid c.args.fd c.args.size _ _ c.size_number-done.result c.zero.result
-    (to_z-of_z w64 c.args.fd c.ranges.fd) (to_z-of_z w64 c.args.size c.ranges.size) c.zero.ensures c.size_number-done.ensures.pays.only c.requires.stands
+    kept_changed c.args.script.now c.args.objects.now c.size_number-done.new.heap c.size_number-done.new.tree c.args.caller.now.place.pid (call.Ftruncate c.args.on.now.fd c.args.size) c.args.on.now.fd (λ plain. ftruncate c.args.script.now plain c.args.caller.now.place.pid c.args.on.now.fd c.args.size) c.zero.result
+    (changed c.args.script.now c.args.objects.now c.size_number-done.new.heap c.size_number-done.new.tree c.args.caller.now.place.pid c.args.on.now.fd c.args.size _ _ c.size_number-done.result c.zero.result
+    refl (to_z-of_z w64 c.args.size c.ranges.size) c.zero.ensures c.size_number-done.ensures.pays.only c.requires.stands
     c.heap_is_well_formed.ensures c.size_number-done.ensures.listed c.size_number-done.ensures.owners c.requires.right c.size_number-done.ensures.stays (λ numbers others plain. c.size_number-done.ensures.answers numbers others c.args.script.now plain))
 
 pub go_on-requires-clause-runs : goal.go_on-requires-clause-runs
 go_on-requires-clause-runs c =
-    runs_changed c.args.script.now c.args.objects.now c.size_number-done.new.heap c.size_number-done.new.tree c.args.caller.now.place.pid (call.Ftruncate c.args.fd c.args.size) c.args.fd (λ plain. ftruncate c.args.script.now plain c.args.caller.now.place.pid c.args.fd c.args.size) c.zero.result
-    (changed c.args.script.now c.args.objects.now c.size_number-done.new.heap c.size_number-done.new.tree c.args.caller.now.place.pid c.args.fd c.args.size _ _ c.size_number-done.result c.zero.result
-    (to_z-of_z w64 c.args.fd c.ranges.fd) (to_z-of_z w64 c.args.size c.ranges.size) c.zero.ensures c.size_number-done.ensures.pays.only c.requires.stands
+    runs_changed c.args.script.now c.args.objects.now c.size_number-done.new.heap c.size_number-done.new.tree c.args.caller.now.place.pid (call.Ftruncate c.args.on.now.fd c.args.size) c.args.on.now.fd (λ plain. ftruncate c.args.script.now plain c.args.caller.now.place.pid c.args.on.now.fd c.args.size) c.zero.result
+    (changed c.args.script.now c.args.objects.now c.size_number-done.new.heap c.size_number-done.new.tree c.args.caller.now.place.pid c.args.on.now.fd c.args.size _ _ c.size_number-done.result c.zero.result
+    refl (to_z-of_z w64 c.args.size c.ranges.size) c.zero.ensures c.size_number-done.ensures.pays.only c.requires.stands
     c.heap_is_well_formed.ensures c.size_number-done.ensures.listed c.size_number-done.ensures.owners c.requires.right c.size_number-done.ensures.stays (λ numbers others plain. c.size_number-done.ensures.answers numbers others c.args.script.now plain))
     c.args.caller.now.control c.requires.runs
 
@@ -73,11 +73,11 @@ returns-clause-paid c =
 
 pub returns-clause-does : goal.returns-clause-does
 returns-clause-does c =
-    serves_changed c.args.script.now c.args.objects.now c.size_number-done.new.heap c.size_number-done.new.tree c.args.caller.now.place.pid (call.Ftruncate c.args.fd c.args.size) c.args.fd (λ plain. ftruncate c.args.script.now plain c.args.caller.now.place.pid c.args.fd c.args.size) c.zero.result
-    (changed c.args.script.now c.args.objects.now c.size_number-done.new.heap c.size_number-done.new.tree c.args.caller.now.place.pid c.args.fd c.args.size _ _ c.size_number-done.result c.zero.result
-    (to_z-of_z w64 c.args.fd c.ranges.fd) (to_z-of_z w64 c.args.size c.ranges.size) c.zero.ensures c.size_number-done.ensures.pays.only c.requires.stands
+    serves_changed c.args.script.now c.args.objects.now c.size_number-done.new.heap c.size_number-done.new.tree c.args.caller.now.place.pid (call.Ftruncate c.args.on.now.fd c.args.size) c.args.on.now.fd (λ plain. ftruncate c.args.script.now plain c.args.caller.now.place.pid c.args.on.now.fd c.args.size) c.zero.result
+    (changed c.args.script.now c.args.objects.now c.size_number-done.new.heap c.size_number-done.new.tree c.args.caller.now.place.pid c.args.on.now.fd c.args.size _ _ c.size_number-done.result c.zero.result
+    refl (to_z-of_z w64 c.args.size c.ranges.size) c.zero.ensures c.size_number-done.ensures.pays.only c.requires.stands
     c.heap_is_well_formed.ensures c.size_number-done.ensures.listed c.size_number-done.ensures.owners c.requires.right c.size_number-done.ensures.stays (λ numbers others plain. c.size_number-done.ensures.answers numbers others c.args.script.now plain))
     c.go_on.result c.go_on.new.objects
-    (within_paid c.args.objects.now (mid_of c.args.objects.now c.size_number-done.new.heap c.size_number-done.new.tree) c.args.purse.now c.size_number-done.new.purse (call.Ftruncate c.args.fd c.args.size) c.size_number-done.ensures.pays.paid
+    (within_paid c.args.objects.now (mid_of c.args.objects.now c.size_number-done.new.heap c.size_number-done.new.tree) c.args.purse.now c.size_number-done.new.purse (call.Ftruncate c.args.on.now.fd c.args.size) c.size_number-done.ensures.pays.paid
     (ap (λ need. need.name) c.requires.needed) (ap (λ need. need.block) c.requires.needed) (ap (λ need. need.vnode) c.requires.needed) c.size_number-done.ensures.pays.reads)
-    c.go_on.ensures.told c.go_on.ensures.goes (no_frames (call.Ftruncate c.args.fd c.args.size) (λ frames pid value. refl) c.args.caller.now.place.pid c.zero.result)
+    c.go_on.ensures.told c.go_on.ensures.goes (no_frames (call.Ftruncate c.args.on.now.fd c.args.size) (λ frames pid value. refl) c.args.caller.now.place.pid c.zero.result)

@@ -66,16 +66,16 @@ offset-requires c =
 
 pub go_on-requires-clause-kept : goal.go_on-requires-clause-kept
 go_on-requires-clause-kept c =
-    kept_changed c.args.script.now c.args.objects.now c.seek_number-sought.new.heap c.seek_number-sought.new.tree c.args.caller.now.place.pid (call.Lseek c.args.fd c.args.distance c.args.whence) c.args.fd (λ plain. lseek c.args.script.now plain c.args.caller.now.place.pid c.args.fd c.args.distance c.args.whence) c.offset.result
-    (changed c.args.script.now c.args.objects.now c.seek_number-sought.new.heap c.seek_number-sought.new.tree c.args.caller.now.place.pid c.args.fd c.args.distance c.args.whence _ _ _ c.seek_number-sought.result c.offset.result
-    (to_z-of_z w64 c.args.fd c.ranges.fd) (to_z-of_z w64 c.args.distance c.ranges.distance) (to_z-of_z w64 c.args.whence c.ranges.whence) c.offset.ensures c.seek_number-sought.ensures.beside c.requires.stands
+    kept_changed c.args.script.now c.args.objects.now c.seek_number-sought.new.heap c.seek_number-sought.new.tree c.args.caller.now.place.pid (call.Lseek c.args.on.now.fd c.args.distance c.args.whence) c.args.on.now.fd (λ plain. lseek c.args.script.now plain c.args.caller.now.place.pid c.args.on.now.fd c.args.distance c.args.whence) c.offset.result
+    (changed c.args.script.now c.args.objects.now c.seek_number-sought.new.heap c.seek_number-sought.new.tree c.args.caller.now.place.pid c.args.on.now.fd c.args.distance c.args.whence _ _ _ c.seek_number-sought.result c.offset.result
+    refl (to_z-of_z w64 c.args.distance c.ranges.distance) (to_z-of_z w64 c.args.whence c.ranges.whence) c.offset.ensures c.seek_number-sought.ensures.beside c.requires.stands
     c.heap_is_well_formed.ensures c.seek_number-sought.ensures.listed c.seek_number-sought.ensures.owners c.requires.right c.seek_number-sought.ensures.stays (λ numbers others plain. c.seek_number-sought.ensures.answers numbers others c.args.script.now plain))
 
 pub go_on-requires-clause-runs : goal.go_on-requires-clause-runs
 go_on-requires-clause-runs c =
-    runs_changed c.args.script.now c.args.objects.now c.seek_number-sought.new.heap c.seek_number-sought.new.tree c.args.caller.now.place.pid (call.Lseek c.args.fd c.args.distance c.args.whence) c.args.fd (λ plain. lseek c.args.script.now plain c.args.caller.now.place.pid c.args.fd c.args.distance c.args.whence) c.offset.result
-    (changed c.args.script.now c.args.objects.now c.seek_number-sought.new.heap c.seek_number-sought.new.tree c.args.caller.now.place.pid c.args.fd c.args.distance c.args.whence _ _ _ c.seek_number-sought.result c.offset.result
-    (to_z-of_z w64 c.args.fd c.ranges.fd) (to_z-of_z w64 c.args.distance c.ranges.distance) (to_z-of_z w64 c.args.whence c.ranges.whence) c.offset.ensures c.seek_number-sought.ensures.beside c.requires.stands
+    runs_changed c.args.script.now c.args.objects.now c.seek_number-sought.new.heap c.seek_number-sought.new.tree c.args.caller.now.place.pid (call.Lseek c.args.on.now.fd c.args.distance c.args.whence) c.args.on.now.fd (λ plain. lseek c.args.script.now plain c.args.caller.now.place.pid c.args.on.now.fd c.args.distance c.args.whence) c.offset.result
+    (changed c.args.script.now c.args.objects.now c.seek_number-sought.new.heap c.seek_number-sought.new.tree c.args.caller.now.place.pid c.args.on.now.fd c.args.distance c.args.whence _ _ _ c.seek_number-sought.result c.offset.result
+    refl (to_z-of_z w64 c.args.distance c.ranges.distance) (to_z-of_z w64 c.args.whence c.ranges.whence) c.offset.ensures c.seek_number-sought.ensures.beside c.requires.stands
     c.heap_is_well_formed.ensures c.seek_number-sought.ensures.listed c.seek_number-sought.ensures.owners c.requires.right c.seek_number-sought.ensures.stays (λ numbers others plain. c.seek_number-sought.ensures.answers numbers others c.args.script.now plain))
     c.args.caller.now.control c.requires.runs
 
@@ -84,10 +84,10 @@ returns-clause-takes c = TakesNothing-trans c.args.objects.now.heap c.seek_numbe
 
 pub returns-clause-does : goal.returns-clause-does
 returns-clause-does c =
-    serves_changed c.args.script.now c.args.objects.now c.seek_number-sought.new.heap c.seek_number-sought.new.tree c.args.caller.now.place.pid (call.Lseek c.args.fd c.args.distance c.args.whence) c.args.fd (λ plain. lseek c.args.script.now plain c.args.caller.now.place.pid c.args.fd c.args.distance c.args.whence) c.offset.result
-    (changed c.args.script.now c.args.objects.now c.seek_number-sought.new.heap c.seek_number-sought.new.tree c.args.caller.now.place.pid c.args.fd c.args.distance c.args.whence _ _ _ c.seek_number-sought.result c.offset.result
-    (to_z-of_z w64 c.args.fd c.ranges.fd) (to_z-of_z w64 c.args.distance c.ranges.distance) (to_z-of_z w64 c.args.whence c.ranges.whence) c.offset.ensures c.seek_number-sought.ensures.beside c.requires.stands
+    serves_changed c.args.script.now c.args.objects.now c.seek_number-sought.new.heap c.seek_number-sought.new.tree c.args.caller.now.place.pid (call.Lseek c.args.on.now.fd c.args.distance c.args.whence) c.args.on.now.fd (λ plain. lseek c.args.script.now plain c.args.caller.now.place.pid c.args.on.now.fd c.args.distance c.args.whence) c.offset.result
+    (changed c.args.script.now c.args.objects.now c.seek_number-sought.new.heap c.seek_number-sought.new.tree c.args.caller.now.place.pid c.args.on.now.fd c.args.distance c.args.whence _ _ _ c.seek_number-sought.result c.offset.result
+    refl (to_z-of_z w64 c.args.distance c.ranges.distance) (to_z-of_z w64 c.args.whence c.ranges.whence) c.offset.ensures c.seek_number-sought.ensures.beside c.requires.stands
     c.heap_is_well_formed.ensures c.seek_number-sought.ensures.listed c.seek_number-sought.ensures.owners c.requires.right c.seek_number-sought.ensures.stays (λ numbers others plain. c.seek_number-sought.ensures.answers numbers others c.args.script.now plain))
     c.go_on.result c.go_on.new.objects
-    (within_nothing c.args.objects.now (mid_of c.args.objects.now c.seek_number-sought.new.heap c.seek_number-sought.new.tree) (call.Lseek c.args.fd c.args.distance c.args.whence) c.seek_number-sought.ensures.takes (reads_used c.args.objects.now.tree c.seek_number-sought.new.tree c.seek_number-sought.ensures.used))
-    c.go_on.ensures.told c.go_on.ensures.goes (no_frames (call.Lseek c.args.fd c.args.distance c.args.whence) (λ frames pid value. refl) c.args.caller.now.place.pid c.offset.result)
+    (within_nothing c.args.objects.now (mid_of c.args.objects.now c.seek_number-sought.new.heap c.seek_number-sought.new.tree) (call.Lseek c.args.on.now.fd c.args.distance c.args.whence) c.seek_number-sought.ensures.takes (reads_used c.args.objects.now.tree c.seek_number-sought.new.tree c.seek_number-sought.ensures.used))
+    c.go_on.ensures.told c.go_on.ensures.goes (no_frames (call.Lseek c.args.on.now.fd c.args.distance c.args.whence) (λ frames pid value. refl) c.args.caller.now.place.pid c.offset.result)

@@ -50,21 +50,21 @@ read_entries-moved-requires-clause-hold c = holds_some c.args.script.now c.args.
 
 pub read_entries-moved-requires-clause-left : goal.read_entries-moved-requires-clause-left
 read_entries-moved-requires-clause-left c =
-    pages_for c.args.purse.now.left.page c.args.addr c.args.n _ _ (call.Readdir c.args.fd c.args.addr c.args.n) (sym (to_z-of_z w64 c.args.addr c.ranges.addr)) (sym (to_z-of_z w64 c.args.n c.ranges.n))
+    pages_for c.args.purse.now.left.page c.args.addr c.args.n _ _ (call.Readdir c.args.on.now.fd c.args.addr c.args.n) (sym (to_z-of_z w64 c.args.addr c.ranges.addr)) (sym (to_z-of_z w64 c.args.n c.ranges.n))
     c.requires.right (ap (λ need. need.page) c.requires.needed) refl
 
 pub go_on-requires-clause-kept : goal.go_on-requires-clause-kept
 go_on-requires-clause-kept c =
-    kept_moved c.args.script.now c.args.objects.now c.read_entries-moved.new.heap c.read_entries-moved.new.tree c.args.caller.now.place.pid (call.Readdir c.args.fd c.args.addr c.args.n) c.args.fd (λ plain. readdir c.args.script.now plain c.args.caller.now.place.pid c.args.fd c.args.addr c.args.n) c.value.result
-    (moved c.args.script.now c.args.objects.now c.read_entries-moved.new.heap c.read_entries-moved.new.tree c.args.caller.now.place.pid c.args.fd c.args.addr c.args.n _ _ _ c.read_entries-moved.result c.value.result
-    (to_z-of_z w64 c.args.fd c.ranges.fd) (to_z-of_z w64 c.args.addr c.ranges.addr) (to_z-of_z w64 c.args.n c.ranges.n) c.value.ensures c.read_entries-moved.ensures.beside c.requires.stands
+    kept_moved c.args.script.now c.args.objects.now c.read_entries-moved.new.heap c.read_entries-moved.new.tree c.args.caller.now.place.pid (call.Readdir c.args.on.now.fd c.args.addr c.args.n) c.args.on.now.fd (λ plain. readdir c.args.script.now plain c.args.caller.now.place.pid c.args.on.now.fd c.args.addr c.args.n) c.value.result
+    (moved c.args.script.now c.args.objects.now c.read_entries-moved.new.heap c.read_entries-moved.new.tree c.args.caller.now.place.pid c.args.on.now.fd c.args.addr c.args.n _ _ _ c.read_entries-moved.result c.value.result
+    refl (to_z-of_z w64 c.args.addr c.ranges.addr) (to_z-of_z w64 c.args.n c.ranges.n) c.value.ensures c.read_entries-moved.ensures.beside c.requires.stands
     c.heap_is_well_formed.ensures c.read_entries-moved.ensures.kept c.requires.right c.read_entries-moved.ensures.stays (c.read_entries-moved.ensures.leads c.args.script.now))
 
 pub go_on-requires-clause-runs : goal.go_on-requires-clause-runs
 go_on-requires-clause-runs c =
-    runs_moved c.args.script.now c.args.objects.now c.read_entries-moved.new.heap c.read_entries-moved.new.tree c.args.caller.now.place.pid (call.Readdir c.args.fd c.args.addr c.args.n) c.args.fd (λ plain. readdir c.args.script.now plain c.args.caller.now.place.pid c.args.fd c.args.addr c.args.n) c.value.result
-    (moved c.args.script.now c.args.objects.now c.read_entries-moved.new.heap c.read_entries-moved.new.tree c.args.caller.now.place.pid c.args.fd c.args.addr c.args.n _ _ _ c.read_entries-moved.result c.value.result
-    (to_z-of_z w64 c.args.fd c.ranges.fd) (to_z-of_z w64 c.args.addr c.ranges.addr) (to_z-of_z w64 c.args.n c.ranges.n) c.value.ensures c.read_entries-moved.ensures.beside c.requires.stands
+    runs_moved c.args.script.now c.args.objects.now c.read_entries-moved.new.heap c.read_entries-moved.new.tree c.args.caller.now.place.pid (call.Readdir c.args.on.now.fd c.args.addr c.args.n) c.args.on.now.fd (λ plain. readdir c.args.script.now plain c.args.caller.now.place.pid c.args.on.now.fd c.args.addr c.args.n) c.value.result
+    (moved c.args.script.now c.args.objects.now c.read_entries-moved.new.heap c.read_entries-moved.new.tree c.args.caller.now.place.pid c.args.on.now.fd c.args.addr c.args.n _ _ _ c.read_entries-moved.result c.value.result
+    refl (to_z-of_z w64 c.args.addr c.ranges.addr) (to_z-of_z w64 c.args.n c.ranges.n) c.value.ensures c.read_entries-moved.ensures.beside c.requires.stands
     c.heap_is_well_formed.ensures c.read_entries-moved.ensures.kept c.requires.right c.read_entries-moved.ensures.stays (c.read_entries-moved.ensures.leads c.args.script.now))
     c.args.caller.now.control c.requires.runs
 
@@ -75,17 +75,17 @@ returns-clause-paid c =
 
 pub returns-clause-does : goal.returns-clause-does
 returns-clause-does c =
-    serves_moved c.args.script.now c.args.objects.now c.read_entries-moved.new.heap c.read_entries-moved.new.tree c.args.caller.now.place.pid (call.Readdir c.args.fd c.args.addr c.args.n) c.args.fd (λ plain. readdir c.args.script.now plain c.args.caller.now.place.pid c.args.fd c.args.addr c.args.n) c.value.result
-    (moved c.args.script.now c.args.objects.now c.read_entries-moved.new.heap c.read_entries-moved.new.tree c.args.caller.now.place.pid c.args.fd c.args.addr c.args.n _ _ _ c.read_entries-moved.result c.value.result
-    (to_z-of_z w64 c.args.fd c.ranges.fd) (to_z-of_z w64 c.args.addr c.ranges.addr) (to_z-of_z w64 c.args.n c.ranges.n) c.value.ensures c.read_entries-moved.ensures.beside c.requires.stands
+    serves_moved c.args.script.now c.args.objects.now c.read_entries-moved.new.heap c.read_entries-moved.new.tree c.args.caller.now.place.pid (call.Readdir c.args.on.now.fd c.args.addr c.args.n) c.args.on.now.fd (λ plain. readdir c.args.script.now plain c.args.caller.now.place.pid c.args.on.now.fd c.args.addr c.args.n) c.value.result
+    (moved c.args.script.now c.args.objects.now c.read_entries-moved.new.heap c.read_entries-moved.new.tree c.args.caller.now.place.pid c.args.on.now.fd c.args.addr c.args.n _ _ _ c.read_entries-moved.result c.value.result
+    refl (to_z-of_z w64 c.args.addr c.ranges.addr) (to_z-of_z w64 c.args.n c.ranges.n) c.value.ensures c.read_entries-moved.ensures.beside c.requires.stands
     c.heap_is_well_formed.ensures c.read_entries-moved.ensures.kept c.requires.right c.read_entries-moved.ensures.stays (c.read_entries-moved.ensures.leads c.args.script.now))
     c.go_on.result c.go_on.new.objects
-    (within_paid c.args.objects.now (mid_of c.args.objects.now c.read_entries-moved.new.heap c.read_entries-moved.new.tree) c.args.purse.now c.read_entries-moved.new.purse (call.Readdir c.args.fd c.args.addr c.args.n) c.read_entries-moved.ensures.paid
+    (within_paid c.args.objects.now (mid_of c.args.objects.now c.read_entries-moved.new.heap c.read_entries-moved.new.tree) c.args.purse.now c.read_entries-moved.new.purse (call.Readdir c.args.on.now.fd c.args.addr c.args.n) c.read_entries-moved.ensures.paid
     (ap (λ need. need.name) c.requires.needed) (ap (λ need. need.block) c.requires.needed) (ap (λ need. need.vnode) c.requires.needed) c.read_entries-moved.ensures.reads)
-    c.go_on.ensures.told c.go_on.ensures.goes (λ plain. readdir_kin c.args.script.now plain c.args.caller.now.place.pid c.args.fd c.args.addr c.args.n)
+    c.go_on.ensures.told c.go_on.ensures.goes (λ plain. readdir_kin c.args.script.now plain c.args.caller.now.place.pid c.args.on.now.fd c.args.addr c.args.n)
 
 pub returns-clause-cached : goal.returns-clause-cached
 returns-clause-cached c =
     let m = c.read_entries-moved in
-    bytes_cached c.args.objects.now c.go_on.new.objects m.new.tree c.args.caller.now.place.pid _ c.args.fd _ (λ (desc : Desc). desc.offset) m.result c.value.result c.go_on.result
-    (to_z-of_z w64 c.args.fd c.ranges.fd) (refl) c.value.ensures c.go_on.ensures.told c.go_on.ensures.tree m.ensures.saved m.ensures.last
+    bytes_cached c.args.objects.now c.go_on.new.objects m.new.tree c.args.caller.now.place.pid _ c.args.on.now.fd _ (λ (desc : Desc). desc.offset) m.result c.value.result c.go_on.result
+    refl (refl) c.value.ensures c.go_on.ensures.told c.go_on.ensures.tree m.ensures.saved m.ensures.last

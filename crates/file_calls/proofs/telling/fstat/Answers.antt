@@ -44,17 +44,17 @@ returns-clause-does c =
     let pid = c.args.caller.now.place.pid in
     let n = c.stat_number-told in
     let kept = c.requires.stands.1.kept in
-    let which = call.Fstat c.args.fd in
+    let which = call.Fstat c.args.on.now.fd in
     let said = c.stat.result in
-    let fd = to_z-of_z w64 c.args.fd c.ranges.fd in
+    let fd = refl in
     let same = unchanged script old pid c.args.caller.now.control kept c.requires.runs in
     let then = mid script old old.heap n.new.tree old.names pid c.args.caller.now.control kept c.requires.runs same (listed_in script old kept) kept.owners kept.bound refl n.ensures.hold in
     serves_holding script old old.heap n.new.tree old.names pid c.args.caller.now.control kept c.requires.runs same (listed_in script old kept) kept.owners kept.bound refl n.ensures.hold
-    which said c.go_on.result c.go_on.new.objects (λ plain. fstat script plain pid c.args.fd) c.heap_is_well_formed.ensures
+    which said c.go_on.result c.go_on.new.objects (λ plain. fstat script plain pid c.args.on.now.fd) c.heap_is_well_formed.ensures
     (within_nothing old then which (takes_none old.heap) (used_reads old.tree n.new.tree n.ensures.used))
     (queues_same old.heap old.heap refl refl) c.go_on.ensures.told c.go_on.ensures.goes (no_frames which (λ frames pid value. refl) pid said)
     (λ numbers others plain hold.
-    subst (AnswersHolding numbers others old.heap old.procs n.new.tree script plain pid (fstat script plain pid c.args.fd)) (sym c.stat.ensures)
+    subst (AnswersHolding numbers others old.heap old.procs n.new.tree script plain pid (fstat script plain pid c.args.on.now.fd)) (sym c.stat.ensures)
     (subst (λ z. AnswersHolding numbers others old.heap old.procs n.new.tree script plain pid (fstat script plain pid z) (stat_of n.result)) fd
     (n.ensures.answers numbers others script plain hold)))
     (λ world next stands.

@@ -48,16 +48,16 @@ pwrite_file-moved-requires-clause-hold c = holds_some c.args.script.now c.args.o
 
 pub go_on-requires-clause-kept : goal.go_on-requires-clause-kept
 go_on-requires-clause-kept c =
-    kept_moved c.args.script.now c.args.objects.now c.pwrite_file-moved.new.heap c.pwrite_file-moved.new.tree c.args.caller.now.place.pid (call.Pwrite c.args.fd c.args.addr c.args.n c.args.at) c.args.fd (λ plain. pwrite c.args.script.now plain c.args.caller.now.place.pid c.args.fd c.args.addr c.args.n c.args.at) c.value.result
-    (moved c.args.script.now c.args.objects.now c.pwrite_file-moved.new.heap c.pwrite_file-moved.new.tree c.args.caller.now.place.pid c.args.fd c.args.addr c.args.n c.args.at _ _ _ _ c.pwrite_file-moved.result c.value.result
-    (to_z-of_z w64 c.args.fd c.ranges.fd) (to_z-of_z w64 c.args.addr c.ranges.addr) (to_z-of_z w64 c.args.n c.ranges.n) (to_z-of_z w64 c.args.at c.ranges.at) c.value.ensures c.pwrite_file-moved.ensures.beside c.requires.stands
+    kept_moved c.args.script.now c.args.objects.now c.pwrite_file-moved.new.heap c.pwrite_file-moved.new.tree c.args.caller.now.place.pid (call.Pwrite c.args.on.now.fd c.args.addr c.args.n c.args.at) c.args.on.now.fd (λ plain. pwrite c.args.script.now plain c.args.caller.now.place.pid c.args.on.now.fd c.args.addr c.args.n c.args.at) c.value.result
+    (moved c.args.script.now c.args.objects.now c.pwrite_file-moved.new.heap c.pwrite_file-moved.new.tree c.args.caller.now.place.pid c.args.on.now.fd c.args.addr c.args.n c.args.at _ _ _ _ c.pwrite_file-moved.result c.value.result
+    refl (to_z-of_z w64 c.args.addr c.ranges.addr) (to_z-of_z w64 c.args.n c.ranges.n) (to_z-of_z w64 c.args.at c.ranges.at) c.value.ensures c.pwrite_file-moved.ensures.beside c.requires.stands
     c.heap_is_well_formed.ensures c.pwrite_file-moved.ensures.kept c.requires.right c.pwrite_file-moved.ensures.stays (c.pwrite_file-moved.ensures.leads c.args.script.now))
 
 pub go_on-requires-clause-runs : goal.go_on-requires-clause-runs
 go_on-requires-clause-runs c =
-    runs_moved c.args.script.now c.args.objects.now c.pwrite_file-moved.new.heap c.pwrite_file-moved.new.tree c.args.caller.now.place.pid (call.Pwrite c.args.fd c.args.addr c.args.n c.args.at) c.args.fd (λ plain. pwrite c.args.script.now plain c.args.caller.now.place.pid c.args.fd c.args.addr c.args.n c.args.at) c.value.result
-    (moved c.args.script.now c.args.objects.now c.pwrite_file-moved.new.heap c.pwrite_file-moved.new.tree c.args.caller.now.place.pid c.args.fd c.args.addr c.args.n c.args.at _ _ _ _ c.pwrite_file-moved.result c.value.result
-    (to_z-of_z w64 c.args.fd c.ranges.fd) (to_z-of_z w64 c.args.addr c.ranges.addr) (to_z-of_z w64 c.args.n c.ranges.n) (to_z-of_z w64 c.args.at c.ranges.at) c.value.ensures c.pwrite_file-moved.ensures.beside c.requires.stands
+    runs_moved c.args.script.now c.args.objects.now c.pwrite_file-moved.new.heap c.pwrite_file-moved.new.tree c.args.caller.now.place.pid (call.Pwrite c.args.on.now.fd c.args.addr c.args.n c.args.at) c.args.on.now.fd (λ plain. pwrite c.args.script.now plain c.args.caller.now.place.pid c.args.on.now.fd c.args.addr c.args.n c.args.at) c.value.result
+    (moved c.args.script.now c.args.objects.now c.pwrite_file-moved.new.heap c.pwrite_file-moved.new.tree c.args.caller.now.place.pid c.args.on.now.fd c.args.addr c.args.n c.args.at _ _ _ _ c.pwrite_file-moved.result c.value.result
+    refl (to_z-of_z w64 c.args.addr c.ranges.addr) (to_z-of_z w64 c.args.n c.ranges.n) (to_z-of_z w64 c.args.at c.ranges.at) c.value.ensures c.pwrite_file-moved.ensures.beside c.requires.stands
     c.heap_is_well_formed.ensures c.pwrite_file-moved.ensures.kept c.requires.right c.pwrite_file-moved.ensures.stays (c.pwrite_file-moved.ensures.leads c.args.script.now))
     c.args.caller.now.control c.requires.runs
 
@@ -68,11 +68,11 @@ returns-clause-paid c =
 
 pub returns-clause-does : goal.returns-clause-does
 returns-clause-does c =
-    serves_moved c.args.script.now c.args.objects.now c.pwrite_file-moved.new.heap c.pwrite_file-moved.new.tree c.args.caller.now.place.pid (call.Pwrite c.args.fd c.args.addr c.args.n c.args.at) c.args.fd (λ plain. pwrite c.args.script.now plain c.args.caller.now.place.pid c.args.fd c.args.addr c.args.n c.args.at) c.value.result
-    (moved c.args.script.now c.args.objects.now c.pwrite_file-moved.new.heap c.pwrite_file-moved.new.tree c.args.caller.now.place.pid c.args.fd c.args.addr c.args.n c.args.at _ _ _ _ c.pwrite_file-moved.result c.value.result
-    (to_z-of_z w64 c.args.fd c.ranges.fd) (to_z-of_z w64 c.args.addr c.ranges.addr) (to_z-of_z w64 c.args.n c.ranges.n) (to_z-of_z w64 c.args.at c.ranges.at) c.value.ensures c.pwrite_file-moved.ensures.beside c.requires.stands
+    serves_moved c.args.script.now c.args.objects.now c.pwrite_file-moved.new.heap c.pwrite_file-moved.new.tree c.args.caller.now.place.pid (call.Pwrite c.args.on.now.fd c.args.addr c.args.n c.args.at) c.args.on.now.fd (λ plain. pwrite c.args.script.now plain c.args.caller.now.place.pid c.args.on.now.fd c.args.addr c.args.n c.args.at) c.value.result
+    (moved c.args.script.now c.args.objects.now c.pwrite_file-moved.new.heap c.pwrite_file-moved.new.tree c.args.caller.now.place.pid c.args.on.now.fd c.args.addr c.args.n c.args.at _ _ _ _ c.pwrite_file-moved.result c.value.result
+    refl (to_z-of_z w64 c.args.addr c.ranges.addr) (to_z-of_z w64 c.args.n c.ranges.n) (to_z-of_z w64 c.args.at c.ranges.at) c.value.ensures c.pwrite_file-moved.ensures.beside c.requires.stands
     c.heap_is_well_formed.ensures c.pwrite_file-moved.ensures.kept c.requires.right c.pwrite_file-moved.ensures.stays (c.pwrite_file-moved.ensures.leads c.args.script.now))
     c.go_on.result c.go_on.new.objects
-    (within_paid c.args.objects.now (mid_of c.args.objects.now c.pwrite_file-moved.new.heap c.pwrite_file-moved.new.tree) c.args.purse.now c.pwrite_file-moved.new.purse (call.Pwrite c.args.fd c.args.addr c.args.n c.args.at) c.pwrite_file-moved.ensures.paid
+    (within_paid c.args.objects.now (mid_of c.args.objects.now c.pwrite_file-moved.new.heap c.pwrite_file-moved.new.tree) c.args.purse.now c.pwrite_file-moved.new.purse (call.Pwrite c.args.on.now.fd c.args.addr c.args.n c.args.at) c.pwrite_file-moved.ensures.paid
     (ap (λ need. need.name) c.requires.needed) (ap (λ need. need.block) c.requires.needed) (ap (λ need. need.vnode) c.requires.needed) c.pwrite_file-moved.ensures.reads)
-    c.go_on.ensures.told c.go_on.ensures.goes (λ plain. pwrite_kin c.args.script.now plain c.args.caller.now.place.pid c.args.fd c.args.addr c.args.n c.args.at)
+    c.go_on.ensures.told c.go_on.ensures.goes (λ plain. pwrite_kin c.args.script.now plain c.args.caller.now.place.pid c.args.on.now.fd c.args.addr c.args.n c.args.at)

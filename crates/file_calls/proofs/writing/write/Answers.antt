@@ -48,16 +48,16 @@ write_file-moved-requires-clause-hold c = holds_some c.args.script.now c.args.ob
 
 pub go_on-requires-clause-kept : goal.go_on-requires-clause-kept
 go_on-requires-clause-kept c =
-    kept_moved c.args.script.now c.args.objects.now c.write_file-moved.new.heap c.write_file-moved.new.tree c.args.caller.now.place.pid (call.Write c.args.fd c.args.addr c.args.n 0) c.args.fd (λ plain. write c.args.script.now plain c.args.caller.now.place.pid c.args.fd c.args.addr c.args.n 0) c.value.result
-    (moved c.args.script.now c.args.objects.now c.write_file-moved.new.heap c.write_file-moved.new.tree c.args.caller.now.place.pid c.args.fd c.args.addr c.args.n _ _ _ c.write_file-moved.result c.value.result
-    (to_z-of_z w64 c.args.fd c.ranges.fd) (to_z-of_z w64 c.args.addr c.ranges.addr) (to_z-of_z w64 c.args.n c.ranges.n) c.value.ensures c.write_file-moved.ensures.beside c.requires.stands
+    kept_moved c.args.script.now c.args.objects.now c.write_file-moved.new.heap c.write_file-moved.new.tree c.args.caller.now.place.pid (call.Write c.args.on.now.fd c.args.addr c.args.n 0) c.args.on.now.fd (λ plain. write c.args.script.now plain c.args.caller.now.place.pid c.args.on.now.fd c.args.addr c.args.n 0) c.value.result
+    (moved c.args.script.now c.args.objects.now c.write_file-moved.new.heap c.write_file-moved.new.tree c.args.caller.now.place.pid c.args.on.now.fd c.args.addr c.args.n _ _ _ c.write_file-moved.result c.value.result
+    refl (to_z-of_z w64 c.args.addr c.ranges.addr) (to_z-of_z w64 c.args.n c.ranges.n) c.value.ensures c.write_file-moved.ensures.beside c.requires.stands
     c.heap_is_well_formed.ensures c.write_file-moved.ensures.kept c.requires.right c.write_file-moved.ensures.stays (c.write_file-moved.ensures.leads c.args.script.now))
 
 pub go_on-requires-clause-runs : goal.go_on-requires-clause-runs
 go_on-requires-clause-runs c =
-    runs_moved c.args.script.now c.args.objects.now c.write_file-moved.new.heap c.write_file-moved.new.tree c.args.caller.now.place.pid (call.Write c.args.fd c.args.addr c.args.n 0) c.args.fd (λ plain. write c.args.script.now plain c.args.caller.now.place.pid c.args.fd c.args.addr c.args.n 0) c.value.result
-    (moved c.args.script.now c.args.objects.now c.write_file-moved.new.heap c.write_file-moved.new.tree c.args.caller.now.place.pid c.args.fd c.args.addr c.args.n _ _ _ c.write_file-moved.result c.value.result
-    (to_z-of_z w64 c.args.fd c.ranges.fd) (to_z-of_z w64 c.args.addr c.ranges.addr) (to_z-of_z w64 c.args.n c.ranges.n) c.value.ensures c.write_file-moved.ensures.beside c.requires.stands
+    runs_moved c.args.script.now c.args.objects.now c.write_file-moved.new.heap c.write_file-moved.new.tree c.args.caller.now.place.pid (call.Write c.args.on.now.fd c.args.addr c.args.n 0) c.args.on.now.fd (λ plain. write c.args.script.now plain c.args.caller.now.place.pid c.args.on.now.fd c.args.addr c.args.n 0) c.value.result
+    (moved c.args.script.now c.args.objects.now c.write_file-moved.new.heap c.write_file-moved.new.tree c.args.caller.now.place.pid c.args.on.now.fd c.args.addr c.args.n _ _ _ c.write_file-moved.result c.value.result
+    refl (to_z-of_z w64 c.args.addr c.ranges.addr) (to_z-of_z w64 c.args.n c.ranges.n) c.value.ensures c.write_file-moved.ensures.beside c.requires.stands
     c.heap_is_well_formed.ensures c.write_file-moved.ensures.kept c.requires.right c.write_file-moved.ensures.stays (c.write_file-moved.ensures.leads c.args.script.now))
     c.args.caller.now.control c.requires.runs
 
@@ -68,11 +68,11 @@ returns-clause-paid c =
 
 pub returns-clause-does : goal.returns-clause-does
 returns-clause-does c =
-    serves_moved c.args.script.now c.args.objects.now c.write_file-moved.new.heap c.write_file-moved.new.tree c.args.caller.now.place.pid (call.Write c.args.fd c.args.addr c.args.n 0) c.args.fd (λ plain. write c.args.script.now plain c.args.caller.now.place.pid c.args.fd c.args.addr c.args.n 0) c.value.result
-    (moved c.args.script.now c.args.objects.now c.write_file-moved.new.heap c.write_file-moved.new.tree c.args.caller.now.place.pid c.args.fd c.args.addr c.args.n _ _ _ c.write_file-moved.result c.value.result
-    (to_z-of_z w64 c.args.fd c.ranges.fd) (to_z-of_z w64 c.args.addr c.ranges.addr) (to_z-of_z w64 c.args.n c.ranges.n) c.value.ensures c.write_file-moved.ensures.beside c.requires.stands
+    serves_moved c.args.script.now c.args.objects.now c.write_file-moved.new.heap c.write_file-moved.new.tree c.args.caller.now.place.pid (call.Write c.args.on.now.fd c.args.addr c.args.n 0) c.args.on.now.fd (λ plain. write c.args.script.now plain c.args.caller.now.place.pid c.args.on.now.fd c.args.addr c.args.n 0) c.value.result
+    (moved c.args.script.now c.args.objects.now c.write_file-moved.new.heap c.write_file-moved.new.tree c.args.caller.now.place.pid c.args.on.now.fd c.args.addr c.args.n _ _ _ c.write_file-moved.result c.value.result
+    refl (to_z-of_z w64 c.args.addr c.ranges.addr) (to_z-of_z w64 c.args.n c.ranges.n) c.value.ensures c.write_file-moved.ensures.beside c.requires.stands
     c.heap_is_well_formed.ensures c.write_file-moved.ensures.kept c.requires.right c.write_file-moved.ensures.stays (c.write_file-moved.ensures.leads c.args.script.now))
     c.go_on.result c.go_on.new.objects
-    (within_paid c.args.objects.now (mid_of c.args.objects.now c.write_file-moved.new.heap c.write_file-moved.new.tree) c.args.purse.now c.write_file-moved.new.purse (call.Write c.args.fd c.args.addr c.args.n 0) c.write_file-moved.ensures.paid
+    (within_paid c.args.objects.now (mid_of c.args.objects.now c.write_file-moved.new.heap c.write_file-moved.new.tree) c.args.purse.now c.write_file-moved.new.purse (call.Write c.args.on.now.fd c.args.addr c.args.n 0) c.write_file-moved.ensures.paid
     (ap (λ need. need.name) c.requires.needed) (ap (λ need. need.block) c.requires.needed) (ap (λ need. need.vnode) c.requires.needed) c.write_file-moved.ensures.reads)
-    c.go_on.ensures.told c.go_on.ensures.goes (λ plain. write_kin c.args.script.now plain c.args.caller.now.place.pid c.args.fd c.args.addr c.args.n 0)
+    c.go_on.ensures.told c.go_on.ensures.goes (λ plain. write_kin c.args.script.now plain c.args.caller.now.place.pid c.args.on.now.fd c.args.addr c.args.n 0)

@@ -1,5 +1,4 @@
-use Rattle.std.proofs.Common.{◌∙◌, ℕ, [], List, Option, Some, Result, ap, length, refl, subst, sym, w64}
-use Rattle.std.proofs.lemmas.Int.{to_z-of_z}
+use Rattle.std.proofs.Common.{◌∙◌, ℕ, [], List, Option, Some, Result, ap, length, refl, subst, sym}
 use Rattle.std.proofs.lemmas.List.{length-set}
 use Rattle.kabi_types.specs.declared.errnos.Errno.{Errno}
 use Rattle.kheap_laws.proofs.PaidLemmas.{IsPaid-nothing, IsPaid-trans}
@@ -31,32 +30,29 @@ use Rattle.proc_files.proofs.binding.bind_number.Goals as goal
 
 pub returns-in_err-found-clause-answers : goal.returns-in_err-found-clause-answers
 returns-in_err-found-clause-answers c = λ numbers others script plain hold works.
-    let fd = to_z-of_z w64 c.args.fd c.ranges.fd in
     let gives = err_is c.in_err-found.field-0.0 c.from_residual.result c.from_residual.ensures.1 in
     subst
-    (λ (r : Result (Unit {0}) Errno). AnswersNaming numbers others c.args.heap.now c.args.procs.now c.args.tree.now c.args.names.now script plain c.args.place.pid (bind script plain c.args.place.pid c.args.fd c.args.path.now) (zero_of r))
+    (λ (r : Result (Unit {0}) Errno). AnswersNaming numbers others c.args.heap.now c.args.procs.now c.args.tree.now c.args.names.now script plain c.args.place.pid (bind script plain c.args.place.pid c.args.on.now.fd c.args.path.now) (zero_of r))
     (sym gives)
-    (bind_lost numbers others c.args.heap.now c.args.procs.now c.args.tree.now c.args.names.now script plain c.args.place.pid c.args.fd c.args.path.now c.in_err-found.field-0.0 hold
-    (subst (FindsSocket numbers script plain c.args.place.pid c.args.fd (bind_as script plain c.args.place.pid c.args.path.now)) c.in_err-found.was
-    (subst (λ z. FindsSocket numbers script plain c.args.place.pid z (bind_as script plain c.args.place.pid c.args.path.now) c.socket_of.result) fd
-    (c.socket_of.ensures.found numbers script plain (bind_as script plain c.args.place.pid c.args.path.now) hold.held.opened))))
+    (bind_lost numbers others c.args.heap.now c.args.procs.now c.args.tree.now c.args.names.now script plain c.args.place.pid c.args.on.now.fd c.args.path.now c.in_err-found.field-0.0 hold
+    (subst (FindsSocket numbers script plain c.args.place.pid c.args.on.now.fd (bind_as script plain c.args.place.pid c.args.path.now)) c.in_err-found.was
+    (c.socket.ensures.found c.args.heap.now c.args.procs.now c.args.place.pid numbers script plain (bind_as script plain c.args.place.pid c.args.path.now) c.requires.opened hold.held.opened)))
 
 -- ---- one that is bound or connected
 
 pub can_bind-requires : goal.can_bind-requires
-can_bind-requires c = socket_there c.args.heap.now [] c.in_ok-found.found.key c.requires.owners c.in_ok-found.ensures.there
+can_bind-requires c = socket_there c.args.heap.now [] c.in_ok-found.found.key c.requires.owners (c.in_ok-found.ensures.there c.args.heap.now c.args.procs.now c.args.place.pid c.requires.opened)
 
 pub returns-in_err-can_bind-clause-answers : goal.returns-in_err-can_bind-clause-answers
 returns-in_err-can_bind-clause-answers c = λ numbers others script plain hold works.
-    let fd = to_z-of_z w64 c.args.fd c.ranges.fd in
     let socketed = hold.held.opened.opened.socketed in
     let gives = err_is c.in_err-can_bind.field-0.0 c.from_residual-in_err-can_bind.result c.from_residual-in_err-can_bind.ensures.1 in
     subst
-    (λ (r : Result (Unit {0}) Errno). AnswersNaming numbers others c.args.heap.now c.args.procs.now c.args.tree.now c.args.names.now script plain c.args.place.pid (bind script plain c.args.place.pid c.args.fd c.args.path.now) (zero_of r))
+    (λ (r : Result (Unit {0}) Errno). AnswersNaming numbers others c.args.heap.now c.args.procs.now c.args.tree.now c.args.names.now script plain c.args.place.pid (bind script plain c.args.place.pid c.args.on.now.fd c.args.path.now) (zero_of r))
     (sym gives)
-    (bind_refused numbers others c.args.heap.now c.args.procs.now c.args.tree.now c.args.names.now script plain c.args.place.pid c.args.fd c.args.path.now c.in_ok-found.found c.requires.owners c.in_ok-found.ensures.there hold
-    (λ answer. subst (FindsSocket numbers script plain c.args.place.pid c.args.fd answer) c.in_ok-found.was
-    (subst (λ z. FindsSocket numbers script plain c.args.place.pid z answer c.socket_of.result) fd (c.socket_of.ensures.found numbers script plain answer hold.held.opened)))
+    (bind_refused numbers others c.args.heap.now c.args.procs.now c.args.tree.now c.args.names.now script plain c.args.place.pid c.args.on.now.fd c.args.path.now c.in_ok-found.found c.requires.owners (c.in_ok-found.ensures.there c.args.heap.now c.args.procs.now c.args.place.pid c.requires.opened) hold
+    (λ answer. subst (FindsSocket numbers script plain c.args.place.pid c.args.on.now.fd answer) c.in_ok-found.was
+    (c.socket.ensures.found c.args.heap.now c.args.procs.now c.args.place.pid numbers script plain answer c.requires.opened hold.held.opened))
     c.in_err-can_bind.field-0.0
     (one_fault c.in_err-can_bind.field-0.0 (bind_fault (socket_at socketed.keyed c.in_ok-found.found.key))
     (subst (λ (r : Result (Unit {0}) Errno). IsFault r (bind_fault (socket_at socketed.keyed c.in_ok-found.found.key))) c.in_err-can_bind.was (c.can_bind.ensures socketed.keyed socketed.stands))))
@@ -75,16 +71,15 @@ bind_name-requires-clause-stands c =
 
 pub returns-in_err-node-clause-answers : goal.returns-in_err-node-clause-answers
 returns-in_err-node-clause-answers c = λ numbers others script plain hold works.
-    let fd = to_z-of_z w64 c.args.fd c.ranges.fd in
     let socketed = hold.held.opened.opened.socketed in
     let pins = holders others plain.files in
     let gives = err_is c.in_err-node.field-0.0 c.from_residual-in_err-node.result c.from_residual-in_err-node.ensures.1 in
     subst
-    (λ (r : Result (Unit {0}) Errno). AnswersNaming numbers others c.bind_name.new.heap c.args.procs.now c.bind_name.new.self c.args.names.now script plain c.args.place.pid (bind script plain c.args.place.pid c.args.fd c.args.path.now) (zero_of r))
+    (λ (r : Result (Unit {0}) Errno). AnswersNaming numbers others c.bind_name.new.heap c.args.procs.now c.bind_name.new.self c.args.names.now script plain c.args.place.pid (bind script plain c.args.place.pid c.args.on.now.fd c.args.path.now) (zero_of r))
     (sym gives)
-    (bind_failed numbers others c.args.heap.now c.args.procs.now c.args.tree.now c.args.names.now script plain c.args.place.pid c.args.fd c.args.path.now c.in_ok-found.found c.requires.owners c.in_ok-found.ensures.there hold
-    (λ answer. subst (FindsSocket numbers script plain c.args.place.pid c.args.fd answer) c.in_ok-found.was
-    (subst (λ z. FindsSocket numbers script plain c.args.place.pid z answer c.socket_of.result) fd (c.socket_of.ensures.found numbers script plain answer hold.held.opened)))
+    (bind_failed numbers others c.args.heap.now c.args.procs.now c.args.tree.now c.args.names.now script plain c.args.place.pid c.args.on.now.fd c.args.path.now c.in_ok-found.found c.requires.owners (c.in_ok-found.ensures.there c.args.heap.now c.args.procs.now c.args.place.pid c.requires.opened) hold
+    (λ answer. subst (FindsSocket numbers script plain c.args.place.pid c.args.on.now.fd answer) c.in_ok-found.was
+    (c.socket.ensures.found c.args.heap.now c.args.procs.now c.args.place.pid numbers script plain answer c.requires.opened hold.held.opened))
     c.bind_name.new.heap c.bind_name.new.self c.bind_name.ensures.pays.only c.directory_of-cwd.result
     (sym (c.directory_of-cwd.ensures (directory_of plain.table c.args.place.pid) works))
     (no_fault c.in_ok-can_bind.field-0 (bind_fault (socket_at socketed.keyed c.in_ok-found.found.key))
@@ -112,7 +107,7 @@ give_name-requires-clause-owned c = (owners_beside c.args.heap.now c.bind_name.n
 pub give_name-requires-clause-there : goal.give_name-requires-clause-there
 give_name-requires-clause-there c =
     socket_there c.bind_name.new.heap [] c.in_ok-found.found.key (owners_beside c.args.heap.now c.bind_name.new.heap c.bind_name.ensures.pays.only [] c.requires.owners)
-    (named_beside c.args.heap.now c.bind_name.new.heap c.in_ok-found.found.key c.bind_name.ensures.pays.only c.in_ok-found.ensures.there)
+    (named_beside c.args.heap.now c.bind_name.new.heap c.in_ok-found.found.key c.bind_name.ensures.pays.only (c.in_ok-found.ensures.there c.args.heap.now c.args.procs.now c.args.place.pid c.requires.opened))
 
 pub give_name-requires-clause-unnamed : goal.give_name-requires-clause-unnamed
 give_name-requires-clause-unnamed c =
@@ -147,13 +142,12 @@ give_name-requires-clause-place c =
 
 pub returns-clause-answers : goal.returns-clause-answers
 returns-clause-answers c = λ numbers others script plain hold works.
-    let fd = to_z-of_z w64 c.args.fd c.ranges.fd in
     let socketed = hold.held.opened.opened.socketed in
     let pins = holders others plain.files in
     let some = c.requires.hold.some in
-    bind_done numbers others c.args.heap.now c.args.procs.now c.args.tree.now c.args.names.now script plain c.args.place.pid c.args.fd c.args.path.now c.in_ok-found.found c.requires.owners c.in_ok-found.ensures.there hold
-    (λ answer. subst (FindsSocket numbers script plain c.args.place.pid c.args.fd answer) c.in_ok-found.was
-    (subst (λ z. FindsSocket numbers script plain c.args.place.pid z answer c.socket_of.result) fd (c.socket_of.ensures.found numbers script plain answer hold.held.opened)))
+    bind_done numbers others c.args.heap.now c.args.procs.now c.args.tree.now c.args.names.now script plain c.args.place.pid c.args.on.now.fd c.args.path.now c.in_ok-found.found c.requires.owners (c.in_ok-found.ensures.there c.args.heap.now c.args.procs.now c.args.place.pid c.requires.opened) hold
+    (λ answer. subst (FindsSocket numbers script plain c.args.place.pid c.args.on.now.fd answer) c.in_ok-found.was
+    (c.socket.ensures.found c.args.heap.now c.args.procs.now c.args.place.pid numbers script plain answer c.requires.opened hold.held.opened))
     c.bind_name.new.heap c.bind_name.new.self c.bind_name.ensures.pays.only c.directory_of-cwd.result
     (sym (c.directory_of-cwd.ensures (directory_of plain.table c.args.place.pid) works))
     (no_fault c.in_ok-can_bind.field-0 (bind_fault (socket_at socketed.keyed c.in_ok-found.found.key))

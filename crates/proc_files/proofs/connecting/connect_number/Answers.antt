@@ -1,5 +1,4 @@
-use Rattle.std.proofs.Common.{◌≡◌, ℕ, ◌∙◌, ◌-◌, [], List, Ok, Err, Option, Result, ap, refl, subst, sym, w64}
-use Rattle.std.proofs.lemmas.Int.{to_z-of_z}
+use Rattle.std.proofs.Common.{◌≡◌, ℕ, ◌∙◌, ◌-◌, [], List, Ok, Err, Option, Result, ap, refl, subst, sym}
 use Rattle.std.specs.Prelude.{IsOk, MatchOption}
 use Rattle.kabi_types.specs.declared.errnos.Errno.{Errno}
 use Rattle.kheap_laws.proofs.PaidLemmas.{IsPaid-trans}
@@ -33,32 +32,29 @@ use Rattle.proc_files.proofs.connecting.connect_number.Goals as goal
 
 pub returns-in_err-found-clause-answers : goal.returns-in_err-found-clause-answers
 returns-in_err-found-clause-answers c = λ numbers others script plain hold works.
-    let fd = to_z-of_z w64 c.args.fd c.ranges.fd in
     let gives = err_is c.in_err-found.field-0.0 c.from_residual.result c.from_residual.ensures.1 in
     subst
-    (λ (r : Result (Unit {0}) Errno). AnswersConnecting numbers others c.args.heap.now c.args.heap.now c.args.procs.now c.args.tree.now c.args.names.now script plain c.args.place.pid (connect script plain c.args.place.pid c.args.fd c.args.path.now) (zero_of r))
+    (λ (r : Result (Unit {0}) Errno). AnswersConnecting numbers others c.args.heap.now c.args.heap.now c.args.procs.now c.args.tree.now c.args.names.now script plain c.args.place.pid (connect script plain c.args.place.pid c.args.on.now.fd c.args.path.now) (zero_of r))
     (sym gives)
-    (connect_lost numbers others c.args.heap.now c.args.procs.now c.args.tree.now c.args.names.now script plain c.args.place.pid c.args.fd c.args.path.now c.in_err-found.field-0.0 hold
-    (subst (FindsSocket numbers script plain c.args.place.pid c.args.fd (connect_as script plain c.args.place.pid c.args.path.now)) c.in_err-found.was
-    (subst (λ z. FindsSocket numbers script plain c.args.place.pid z (connect_as script plain c.args.place.pid c.args.path.now) c.socket_of.result) fd
-    (c.socket_of.ensures.found numbers script plain (connect_as script plain c.args.place.pid c.args.path.now) hold.held.opened))))
+    (connect_lost numbers others c.args.heap.now c.args.procs.now c.args.tree.now c.args.names.now script plain c.args.place.pid c.args.on.now.fd c.args.path.now c.in_err-found.field-0.0 hold
+    (subst (FindsSocket numbers script plain c.args.place.pid c.args.on.now.fd (connect_as script plain c.args.place.pid c.args.path.now)) c.in_err-found.was
+    (c.socket.ensures.found c.args.heap.now c.args.procs.now c.args.place.pid numbers script plain (connect_as script plain c.args.place.pid c.args.path.now) c.requires.opened hold.held.opened)))
 
 -- ---- one that is connected or listens
 
 pub can_connect-requires : goal.can_connect-requires
-can_connect-requires c = socket_there c.args.heap.now [] c.in_ok-found.found.key c.requires.owners c.in_ok-found.ensures.there
+can_connect-requires c = socket_there c.args.heap.now [] c.in_ok-found.found.key c.requires.owners (c.in_ok-found.ensures.there c.args.heap.now c.args.procs.now c.args.place.pid c.requires.opened)
 
 pub returns-in_err-can_connect-clause-answers : goal.returns-in_err-can_connect-clause-answers
 returns-in_err-can_connect-clause-answers c = λ numbers others script plain hold works.
-    let fd = to_z-of_z w64 c.args.fd c.ranges.fd in
     let socketed = hold.held.opened.opened.socketed in
     let gives = err_is c.in_err-can_connect.field-0.0 c.from_residual-in_err-can_connect.result c.from_residual-in_err-can_connect.ensures.1 in
     subst
-    (λ (r : Result (Unit {0}) Errno). AnswersConnecting numbers others c.args.heap.now c.args.heap.now c.args.procs.now c.args.tree.now c.args.names.now script plain c.args.place.pid (connect script plain c.args.place.pid c.args.fd c.args.path.now) (zero_of r))
+    (λ (r : Result (Unit {0}) Errno). AnswersConnecting numbers others c.args.heap.now c.args.heap.now c.args.procs.now c.args.tree.now c.args.names.now script plain c.args.place.pid (connect script plain c.args.place.pid c.args.on.now.fd c.args.path.now) (zero_of r))
     (sym gives)
-    (connect_refused numbers others c.args.heap.now c.args.procs.now c.args.tree.now c.args.names.now script plain c.args.place.pid c.args.fd c.args.path.now c.in_ok-found.found c.requires.owners c.in_ok-found.ensures.there hold
-    (λ answer. subst (FindsSocket numbers script plain c.args.place.pid c.args.fd answer) c.in_ok-found.was
-    (subst (λ z. FindsSocket numbers script plain c.args.place.pid z answer c.socket_of.result) fd (c.socket_of.ensures.found numbers script plain answer hold.held.opened)))
+    (connect_refused numbers others c.args.heap.now c.args.procs.now c.args.tree.now c.args.names.now script plain c.args.place.pid c.args.on.now.fd c.args.path.now c.in_ok-found.found c.requires.owners (c.in_ok-found.ensures.there c.args.heap.now c.args.procs.now c.args.place.pid c.requires.opened) hold
+    (λ answer. subst (FindsSocket numbers script plain c.args.place.pid c.args.on.now.fd answer) c.in_ok-found.was
+    (c.socket.ensures.found c.args.heap.now c.args.procs.now c.args.place.pid numbers script plain answer c.requires.opened hold.held.opened))
     c.in_err-can_connect.field-0.0
     (one_fault c.in_err-can_connect.field-0.0 (connect_fault (stage_at socketed.keyed c.in_ok-found.found.key))
     (subst (λ (r : Result (Unit {0}) Errno). IsFault r (connect_fault (stage_at socketed.keyed c.in_ok-found.found.key))) c.in_err-can_connect.was
@@ -78,16 +74,15 @@ find_name-requires-clause-stands c =
 
 pub returns-in_err-node-clause-answers : goal.returns-in_err-node-clause-answers
 returns-in_err-node-clause-answers c = λ numbers others script plain hold works.
-    let fd = to_z-of_z w64 c.args.fd c.ranges.fd in
     let socketed = hold.held.opened.opened.socketed in
     let pins = holders others plain.files in
     let gives = err_is c.in_err-node.field-0.0 c.from_residual-in_err-node.result c.from_residual-in_err-node.ensures.1 in
     subst
-    (λ (r : Result (Unit {0}) Errno). AnswersConnecting numbers others c.args.heap.now c.find_name.new.heap c.args.procs.now c.find_name.new.self c.args.names.now script plain c.args.place.pid (connect script plain c.args.place.pid c.args.fd c.args.path.now) (zero_of r))
+    (λ (r : Result (Unit {0}) Errno). AnswersConnecting numbers others c.args.heap.now c.find_name.new.heap c.args.procs.now c.find_name.new.self c.args.names.now script plain c.args.place.pid (connect script plain c.args.place.pid c.args.on.now.fd c.args.path.now) (zero_of r))
     (sym gives)
-    (connect_failed numbers others c.args.heap.now c.args.procs.now c.args.tree.now c.args.names.now script plain c.args.place.pid c.args.fd c.args.path.now c.in_ok-found.found c.requires.owners c.in_ok-found.ensures.there hold
-    (λ answer. subst (FindsSocket numbers script plain c.args.place.pid c.args.fd answer) c.in_ok-found.was
-    (subst (λ z. FindsSocket numbers script plain c.args.place.pid z answer c.socket_of.result) fd (c.socket_of.ensures.found numbers script plain answer hold.held.opened)))
+    (connect_failed numbers others c.args.heap.now c.args.procs.now c.args.tree.now c.args.names.now script plain c.args.place.pid c.args.on.now.fd c.args.path.now c.in_ok-found.found c.requires.owners (c.in_ok-found.ensures.there c.args.heap.now c.args.procs.now c.args.place.pid c.requires.opened) hold
+    (λ answer. subst (FindsSocket numbers script plain c.args.place.pid c.args.on.now.fd answer) c.in_ok-found.was
+    (c.socket.ensures.found c.args.heap.now c.args.procs.now c.args.place.pid numbers script plain answer c.requires.opened hold.held.opened))
     c.find_name.new.heap c.find_name.new.self c.find_name.ensures.looks.on.heap (c.find_name.ensures.looks.stands plain.files.tree pins hold.held.tree) c.directory_of-cwd.result
     (sym (c.directory_of-cwd.ensures (directory_of plain.table c.args.place.pid) works))
     (no_fault c.in_ok-can_connect.field-0 (connect_fault (stage_at socketed.keyed c.in_ok-found.found.key))
@@ -134,12 +129,11 @@ connect-requires-clause-idle c =
 
 pub returns-clause-answers : goal.returns-clause-answers
 returns-clause-answers c = λ numbers others script plain hold works.
-    let fd = to_z-of_z w64 c.args.fd c.ranges.fd in
     let socketed = hold.held.opened.opened.socketed in
     let pins = holders others plain.files in
-    connect_done numbers others c.args.heap.now c.args.procs.now c.args.tree.now c.args.names.now script plain c.args.place.pid c.args.fd c.args.path.now c.in_ok-found.found c.requires.owners c.in_ok-found.ensures.there hold
-    (λ answer. subst (FindsSocket numbers script plain c.args.place.pid c.args.fd answer) c.in_ok-found.was
-    (subst (λ z. FindsSocket numbers script plain c.args.place.pid z answer c.socket_of.result) fd (c.socket_of.ensures.found numbers script plain answer hold.held.opened)))
+    connect_done numbers others c.args.heap.now c.args.procs.now c.args.tree.now c.args.names.now script plain c.args.place.pid c.args.on.now.fd c.args.path.now c.in_ok-found.found c.requires.owners (c.in_ok-found.ensures.there c.args.heap.now c.args.procs.now c.args.place.pid c.requires.opened) hold
+    (λ answer. subst (FindsSocket numbers script plain c.args.place.pid c.args.on.now.fd answer) c.in_ok-found.was
+    (c.socket.ensures.found c.args.heap.now c.args.procs.now c.args.place.pid numbers script plain answer c.requires.opened hold.held.opened))
     c.find_name.new.heap c.find_name.new.self c.find_name.ensures.looks.on.heap (c.find_name.ensures.looks.stands plain.files.tree pins hold.held.tree) c.directory_of-cwd.result
     (sym (c.directory_of-cwd.ensures (directory_of plain.table c.args.place.pid) works))
     (no_fault c.in_ok-can_connect.field-0 (connect_fault (stage_at socketed.keyed c.in_ok-found.found.key))

@@ -1,6 +1,6 @@
-use Rattle.std.proofs.Common.{◌≡◌, ◌∙◌, ◌<◌, [], None, Some, true, false, cond, ne_eqb, ap, is_some, refl, pos, subst, sym, w64, arith}
+use Rattle.std.proofs.Common.{◌≡◌, ◌∙◌, [], None, Some, true, false, cond, ne_eqb, ap, is_some, refl, pos, subst, sym, w64, arith}
 use Rattle.std.proofs.lemmas.Int.{to_z-of_z}
-use Rattle.kabi_types.specs.Arguments.{count_of, may_be_descriptor, most_descriptors}
+use Rattle.kabi_types.specs.Arguments.{count_of, may_be_descriptor}
 use Rattle.kabi_types.specs.declared.replies.Reply.TheVariants.{Val}
 use Rattle.kheap_laws.proofs.PaidLemmas.{IsPaid-nothing, IsPaid-trans}
 use Rattle.kheap_slabs.specs.Heap.{Heap}
@@ -10,28 +10,27 @@ use Rattle.posix_defs.specs.Calls.OnDescriptors.{dup2, shared_at}
 use Rattle.posix_defs.specs.Files.Closing.{after_close}
 use Rattle.posix_defs.specs.Plain.{with_files}
 use Rattle.proc_numbers.specs.Having.{node_closed}
-use Rattle.proc_numbers.specs.Naming.{named_at, named_by}
+use Rattle.proc_numbers.specs.Naming.{named_at}
 use Rattle.proc_numbers.proofs.Fronts.{queues_same, queues_then}
 use Rattle.proc_numbers.proofs.NumberCloses.{no_some}
-use Rattle.proc_numbers.proofs.NumberNames.{desc_named, desc_named_by, within_most}
+use Rattle.proc_numbers.proofs.NumberNames.{desc_named, within_most}
 use Rattle.proc_numbers.proofs.Answered.{dup2_beyond, dup2_other, dup2_same, on_nothing}
-use Rattle.proc_numbers.proofs.Changes.{changes_nothing, closed_names_nothing, named_count, others_stay}
+use Rattle.proc_numbers.proofs.Changes.{changes_nothing, closed_names_nothing, others_stay}
 use Rattle.proc_files.proofs.Changing.{holding_closed, holding_of, holding_then}
 use Rattle.proc_files.proofs.Shares.{hold_named, can_pay_beside}
 use Rattle.proc_files.proofs.sharing.dup_number.Goals as goal
 use Rattle.proc_table.proofs.NumberLemmas.{numbers_all}
+use Rattle.proc_numbers.specs.Found.{held_in}
+use Rattle.proc_numbers.proofs.OpenedBy.{is_counted, is_held, is_held_at, is_none, is_there}
 
 -- ---- it isn't open
 
 pub returns-in_default-clause-answers : goal.returns-in_default-clause-answers
 unfolding dup2
 returns-in_default-clause-answers c = λ numbers others script plain hold.
-    let fd = to_z-of_z w64 c.args.fd c.ranges.fd in
-    let held : c.descriptor_of.result ≡ named_by c.args.heap.now c.args.procs.now c.args.place.pid c.args.fd =
-    subst (λ z. c.descriptor_of.result ≡ named_by c.args.heap.now c.args.procs.now c.args.place.pid z) fd c.descriptor_of.ensures.held in
     record {
       files = plain.files;
-      replies = on_nothing numbers c.args.heap.now c.args.procs.now script plain c.args.place.pid hold.held.opened c.args.fd _ (sym held ∙ no_some c.descriptor_of.result c.in_default.not-Some);
+      replies = on_nothing numbers c.args.heap.now c.args.procs.now script plain c.args.place.pid hold.held.opened c.args.on.now.fd _ (is_none c.args.heap.now c.args.procs.now c.args.place.pid c.args.on.now c.requires.opened (no_some c.args.on.now.found c.in_default.not-Some));
       holds = hold;
     }
 
@@ -46,16 +45,13 @@ returns-in_default-clause-queues c = queues_same c.args.heap.now c.args.heap.now
 
 pub returns-then-not-may_be_descriptor-clause-answers : goal.returns-then-not-may_be_descriptor-clause-answers
 returns-then-not-may_be_descriptor-clause-answers c = λ numbers others script plain hold.
-    let fd = to_z-of_z w64 c.args.fd c.ranges.fd in
-    let held : c.descriptor_of.result ≡ named_by c.args.heap.now c.args.procs.now c.args.place.pid c.args.fd =
-    subst (λ z. c.descriptor_of.result ≡ named_by c.args.heap.now c.args.procs.now c.args.place.pid z) fd c.descriptor_of.ensures.held in
-    let is = sym held ∙ c.in-Some.is in
-    let desc = desc_named_by c.args.heap.now c.args.procs.now [] c.requires.listed c.requires.owners c.args.place.pid c.args.fd c.in-Some.held is in
+    let is = is_held c.args.heap.now c.args.procs.now c.args.place.pid c.args.on.now c.requires.opened c.in-Some.found c.in-Some.is in
+    let there = is_there c.args.heap.now c.args.procs.now c.args.place.pid c.args.on.now c.requires.opened c.in-Some.found c.in-Some.is in
     let beyond : may_be_descriptor c.args.to ≡ false =
     sym (subst (λ z. c.may_be_descriptor.result ≡ may_be_descriptor z) (to_z-of_z w64 c.args.to c.ranges.to) c.may_be_descriptor.ensures) ∙ c.if-not-may_be_descriptor.true in
     record {
       files = plain.files;
-      replies = dup2_beyond numbers c.args.heap.now c.args.procs.now script plain c.args.place.pid hold.held.opened c.args.fd c.in-Some.held desc.0 is desc.1 c.args.to beyond;
+      replies = dup2_beyond numbers c.args.heap.now c.args.procs.now script plain c.args.place.pid hold.held.opened c.args.on.now.fd (held_in c.in-Some.found) c.in-Some.found.desc is there c.args.to beyond;
       holds = hold;
     }
 
@@ -68,13 +64,6 @@ returns-then-not-may_be_descriptor-clause-queues c = queues_same c.args.heap.now
 
 -- ---- both may
 
-pub overflow_cast-from : goal.overflow_cast-from
-overflow_cast-from c =
-    let fd = to_z-of_z w64 c.args.fd c.ranges.fd in
-    let from_is : c.count_of-from.result ≡ count_of c.args.fd = subst (λ z. c.count_of-from.result ≡ count_of z) fd c.count_of-from.ensures in
-    let few : count_of c.args.fd < most_descriptors = subst (λ z. count_of z < most_descriptors) fd (c.descriptor_of.ensures.within (ap is_some c.in-Some.is)) in
-    omega (arith, from_is, few)
-
 pub overflow_cast-number : goal.overflow_cast-number
 overflow_cast-number c =
     let to = to_z-of_z w64 c.args.to c.ranges.to in
@@ -85,49 +74,40 @@ overflow_cast-number c =
 
 -- ---- they are the same
 
-pub returns-then-from-number-clause-answers : goal.returns-then-from-number-clause-answers
-returns-then-from-number-clause-answers c = λ numbers others script plain hold.
-    let fd = to_z-of_z w64 c.args.fd c.ranges.fd in
-    let held : c.descriptor_of.result ≡ named_by c.args.heap.now c.args.procs.now c.args.place.pid c.args.fd =
-    subst (λ z. c.descriptor_of.result ≡ named_by c.args.heap.now c.args.procs.now c.args.place.pid z) fd c.descriptor_of.ensures.held in
-    let is = sym held ∙ c.in-Some.is in
-    let desc = desc_named_by c.args.heap.now c.args.procs.now [] c.requires.listed c.requires.owners c.args.place.pid c.args.fd c.in-Some.held is in
+pub returns-then-found-number-clause-answers : goal.returns-then-found-number-clause-answers
+returns-then-found-number-clause-answers c = λ numbers others script plain hold.
+    let is = is_held c.args.heap.now c.args.procs.now c.args.place.pid c.args.on.now c.requires.opened c.in-Some.found c.in-Some.is in
+    let there = is_there c.args.heap.now c.args.procs.now c.args.place.pid c.args.on.now c.requires.opened c.in-Some.found c.in-Some.is in
     let to = to_z-of_z w64 c.args.to c.ranges.to in
     let within : may_be_descriptor c.args.to ≡ true =
     sym (subst (λ z. c.may_be_descriptor.result ≡ may_be_descriptor z) to c.may_be_descriptor.ensures) ∙ c.if-not-may_be_descriptor.false in
-    let from_is : c.count_of-from.result ≡ count_of c.args.fd = subst (λ z. c.count_of-from.result ≡ count_of z) fd c.count_of-from.ensures in
+    let from_is = is_counted c.args.heap.now c.args.procs.now c.args.place.pid c.args.on.now c.requires.opened c.in-Some.found c.in-Some.is in
     let number_is : c.count_of-number.result ≡ count_of c.args.to = subst (λ z. c.count_of-number.result ≡ count_of z) to c.count_of-number.ensures in
     record {
       files = plain.files;
       replies =
-          dup2_same numbers c.args.heap.now c.args.procs.now script plain c.args.place.pid hold.held.opened c.args.fd c.in-Some.held desc.0 is desc.1 c.args.to within
-          (sym from_is ∙ c.if-from-number.true ∙ number_is)
+          dup2_same numbers c.args.heap.now c.args.procs.now script plain c.args.place.pid hold.held.opened c.args.on.now.fd (held_in c.in-Some.found) c.in-Some.found.desc is there c.args.to within
+          (sym from_is ∙ c.if-found-number.true ∙ number_is)
           ∙ ap (λ n. replied script plain c.args.place.pid (Val (pos n))) (sym number_is);
       holds = hold;
     }
 
-pub returns-then-from-number-clause-changes : goal.returns-then-from-number-clause-changes
-returns-then-from-number-clause-changes c =
+pub returns-then-found-number-clause-changes : goal.returns-then-found-number-clause-changes
+returns-then-found-number-clause-changes c =
     holding_of c.args.heap.now c.args.heap.now c.args.procs.now c.args.place.pid (changes_nothing c.args.heap.now c.args.procs.now c.args.place.pid c.requires.listed (ap is_some c.requires.there))
 
-pub returns-then-from-number-clause-queues : goal.returns-then-from-number-clause-queues
-returns-then-from-number-clause-queues c = queues_same c.args.heap.now c.args.heap.now refl refl
+pub returns-then-found-number-clause-queues : goal.returns-then-found-number-clause-queues
+returns-then-found-number-clause-queues c = queues_same c.args.heap.now c.args.heap.now refl refl
 
 -- ---- another
 
 pub share_at-requires-clause-used : goal.share_at-requires-clause-used
 share_at-requires-clause-used c =
-    let fd = to_z-of_z w64 c.args.fd c.ranges.fd in
-    let held : c.descriptor_of.result ≡ named_by c.args.heap.now c.args.procs.now c.args.place.pid c.args.fd =
-    subst (λ z. c.descriptor_of.result ≡ named_by c.args.heap.now c.args.procs.now c.args.place.pid z) fd c.descriptor_of.ensures.held in
-    let from_is : c.count_of-from.result ≡ count_of c.args.fd = subst (λ z. c.count_of-from.result ≡ count_of z) fd c.count_of-from.ensures in
     let closes = c.close_open.ensures.closes in
-    ap is_some (desc_named c.close_open.new.heap c.args.procs.now [] c.close_open.ensures.listed c.close_open.ensures.owners c.args.place.pid c.count_of-from.result c.in-Some.held
-    (ap (λ (h : Heap). named_at h c.args.procs.now c.args.place.pid c.count_of-from.result) closes.caches
-    ∙ others_stay c.args.heap.now closes.mid c.args.procs.now c.args.place.pid c.count_of-number.result c.count_of-from.result c.requires.listed closes.closes c.if-from-number.false
-    ∙ ap (named_at c.args.heap.now c.args.procs.now c.args.place.pid) from_is
-    ∙ sym (named_count c.args.heap.now c.args.procs.now c.args.place.pid c.args.fd c.in-Some.held (sym held ∙ c.in-Some.is))
-    ∙ sym held ∙ c.in-Some.is)).1
+    ap is_some (desc_named c.close_open.new.heap c.args.procs.now [] c.close_open.ensures.listed c.close_open.ensures.owners c.args.place.pid c.in-Some.found.number (held_in c.in-Some.found)
+    (ap (λ (h : Heap). named_at h c.args.procs.now c.args.place.pid c.in-Some.found.number) closes.caches
+    ∙ others_stay c.args.heap.now closes.mid c.args.procs.now c.args.place.pid c.count_of-number.result c.in-Some.found.number c.requires.listed closes.closes c.if-found-number.false
+    ∙ is_held_at c.args.heap.now c.args.procs.now c.args.place.pid c.args.on.now c.requires.opened c.in-Some.found c.in-Some.is)).1
 
 pub share_at-requires-clause-free : goal.share_at-requires-clause-free
 share_at-requires-clause-free c =
@@ -159,29 +139,26 @@ share_at-requires-clause-number c =
 
 pub returns-clause-answers : goal.returns-clause-answers
 returns-clause-answers c = λ numbers others script plain hold.
-    let fd = to_z-of_z w64 c.args.fd c.ranges.fd in
-    let held : c.descriptor_of.result ≡ named_by c.args.heap.now c.args.procs.now c.args.place.pid c.args.fd =
-    subst (λ z. c.descriptor_of.result ≡ named_by c.args.heap.now c.args.procs.now c.args.place.pid z) fd c.descriptor_of.ensures.held in
-    let is = sym held ∙ c.in-Some.is in
-    let desc = desc_named_by c.args.heap.now c.args.procs.now [] c.requires.listed c.requires.owners c.args.place.pid c.args.fd c.in-Some.held is in
+    let is = is_held c.args.heap.now c.args.procs.now c.args.place.pid c.args.on.now c.requires.opened c.in-Some.found c.in-Some.is in
+    let there = is_there c.args.heap.now c.args.procs.now c.args.place.pid c.args.on.now c.requires.opened c.in-Some.found c.in-Some.is in
     let to = to_z-of_z w64 c.args.to c.ranges.to in
     let within : may_be_descriptor c.args.to ≡ true =
     sym (subst (λ z. c.may_be_descriptor.result ≡ may_be_descriptor z) to c.may_be_descriptor.ensures) ∙ c.if-not-may_be_descriptor.false in
-    let from_is : c.count_of-from.result ≡ count_of c.args.fd = subst (λ z. c.count_of-from.result ≡ count_of z) fd c.count_of-from.ensures in
+    let from_is = is_counted c.args.heap.now c.args.procs.now c.args.place.pid c.args.on.now c.requires.opened c.in-Some.found c.in-Some.is in
     let number_is : c.count_of-number.result ≡ count_of c.args.to = subst (λ z. c.count_of-number.result ≡ count_of z) to c.count_of-number.ensures in
     let closed = c.close_open.ensures.closed numbers others plain.files hold in
     record {
-      files = shared_at (after_close plain.files c.args.place.pid c.count_of-number.result) c.args.place.pid (record { place = numbers.descs c.in-Some.held.desc; is = (counted_in numbers desc.0).is }) c.count_of-number.result;
+      files = shared_at (after_close plain.files c.args.place.pid c.count_of-number.result) c.args.place.pid (record { place = numbers.descs c.in-Some.found.key; is = (counted_in numbers c.in-Some.found.desc).is }) c.count_of-number.result;
       replies =
-          dup2_other numbers c.args.heap.now c.args.procs.now script plain c.args.place.pid hold.held.opened c.args.fd c.in-Some.held desc.0 is desc.1 c.args.to within
-          (λ same. c.if-from-number.false (from_is ∙ same ∙ sym number_is))
+          dup2_other numbers c.args.heap.now c.args.procs.now script plain c.args.place.pid hold.held.opened c.args.on.now.fd (held_in c.in-Some.found) c.in-Some.found.desc is there c.args.to within
+          (λ same. c.if-found-number.false (from_is ∙ same ∙ sym number_is))
           ∙ ap
           (λ n. replied script
-          (with_files plain (shared_at (after_close plain.files c.args.place.pid n) c.args.place.pid (record { place = numbers.descs c.in-Some.held.desc; is = (counted_in numbers desc.0).is }) n)) c.args.place.pid
+          (with_files plain (shared_at (after_close plain.files c.args.place.pid n) c.args.place.pid (record { place = numbers.descs c.in-Some.found.key; is = (counted_in numbers c.in-Some.found.desc).is }) n)) c.args.place.pid
           (Val (pos n)))
           (sym number_is);
       holds = hold_named numbers others c.close_open.new.heap c.share_at.new.heap c.args.procs.now c.close_open.new.tree c.close_open.new.names (after_close plain.files c.args.place.pid c.count_of-number.result) c.args.place.pid c.count_of-number.result
-          (Some (record { description = numbers.descs c.in-Some.held.desc; cloexec = false })) c.share_at.ensures.beside closed
+          (Some (record { description = numbers.descs c.in-Some.found.key; cloexec = false })) c.share_at.ensures.beside closed
           (c.share_at.ensures.opened numbers (after_close plain.files c.args.place.pid c.count_of-number.result) closed.held.opened);
     }
 
@@ -194,7 +171,7 @@ returns-clause-hold c =
       others = some.others;
       files = _;
       hold = hold_named some.numbers some.others c.close_open.new.heap c.share_at.new.heap c.args.procs.now c.close_open.new.tree c.close_open.new.names (after_close some.files c.args.place.pid c.count_of-number.result) c.args.place.pid
-          c.count_of-number.result (Some (record { description = some.numbers.descs c.in-Some.held.desc; cloexec = false }))
+          c.count_of-number.result (Some (record { description = some.numbers.descs c.in-Some.found.key; cloexec = false }))
           c.share_at.ensures.beside closed (c.share_at.ensures.opened some.numbers (after_close some.files c.args.place.pid c.count_of-number.result) closed.held.opened);
     }
 
@@ -216,14 +193,13 @@ returns-clause-paid c =
 
 pub returns-clause-stays : goal.returns-clause-stays
 returns-clause-stays c = λ none.
-    let fd = to_z-of_z w64 c.args.fd c.ranges.fd in
     let to = to_z-of_z w64 c.args.to c.ranges.to in
-    let from_is : c.count_of-from.result ≡ count_of c.args.fd = subst (λ z. c.count_of-from.result ≡ count_of z) fd c.count_of-from.ensures in
+    let from_is = is_counted c.args.heap.now c.args.procs.now c.args.place.pid c.args.on.now c.requires.opened c.in-Some.found c.in-Some.is in
     let number_is : c.count_of-number.result ≡ count_of c.args.to = subst (λ z. c.count_of-number.result ≡ count_of z) to c.count_of-number.ensures in
     c.close_open.ensures.stays
     (ap (λ n. node_closed c.args.heap.now.descs (named_at c.args.heap.now c.args.procs.now c.args.place.pid n)) number_is
     ∙ sym (ap (λ b. cond b None (node_closed c.args.heap.now.descs (named_at c.args.heap.now c.args.procs.now c.args.place.pid (count_of c.args.to))))
-    (ne_eqb (count_of c.args.fd) (count_of c.args.to) (λ same. c.if-from-number.false (from_is ∙ same ∙ sym number_is))))
+    (ne_eqb (count_of c.args.on.now.fd) (count_of c.args.to) (λ same. c.if-found-number.false (from_is ∙ same ∙ sym number_is))))
     ∙ none)
 
 pub share_at-requires-clause-pays : goal.share_at-requires-clause-pays

@@ -1,4 +1,4 @@
-use Rattle.std.proofs.Common.{◌≡◌, ◌∙◌, [], ap, is_some, pos, subst, sym, w64, arith, refl}
+use Rattle.std.proofs.Common.{◌≡◌, ◌∙◌, ap, is_some, pos, subst, sym, w64, arith, refl}
 use Rattle.std.proofs.lemmas.Int.{to_z-of_z}
 use Rattle.kabi_types.specs.Arguments.{count_of}
 use Rattle.kabi_types.specs.declared.errnos.Errno.TheVariants.{EBADF, EINVAL}
@@ -11,12 +11,12 @@ use Rattle.posix_defs.specs.Files.Descriptions.{has_flag, o_append, o_nonblock, 
 use Rattle.posix_defs.specs.Files.Descriptors.{descriptor_at, lowest_free_from}
 use Rattle.posix_defs.specs.Files.State.{described_as, descriptors_of, with_open}
 use Rattle.proc_numbers.specs.Having.{HaveOpen}
-use Rattle.proc_numbers.specs.Naming.{named_by}
 use Rattle.proc_numbers.proofs.NumberCloses.{listed_on, no_some}
-use Rattle.proc_numbers.proofs.NumberNames.{desc_named_by}
 use Rattle.proc_numbers.specs.Answering.{with_flags}
 use Rattle.proc_numbers.proofs.Answered.{answers_as, cloexec_is, fcntl_is, fcntl_unknown, on_nothing, refused}
 use Rattle.proc_numbers.proofs.Changes.{changes_after, changes_nothing}
+use Rattle.proc_numbers.proofs.OpenedBy.{is_counted, is_held, is_none, is_there}
+use Rattle.proc_numbers.specs.Found.{held_in}
 use Rattle.kheap_laws.proofs.PaidLemmas.{IsPaid-nothing, IsPaid-refl}
 use Rattle.proc_numbers.proofs.controlling.control.Goals as goal
 
@@ -25,11 +25,8 @@ use Rattle.proc_numbers.proofs.controlling.control.Goals as goal
 pub returns-in_default-clause-answers : goal.returns-in_default-clause-answers
 unfolding fcntl
 returns-in_default-clause-answers c = λ numbers script plain have.
-    let fd = to_z-of_z w64 c.args.fd c.ranges.fd in
-    let held : c.descriptor_of.result ≡ named_by c.args.heap.now c.args.procs.now c.args.place.pid c.args.fd =
-    subst (λ z. c.descriptor_of.result ≡ named_by c.args.heap.now c.args.procs.now c.args.place.pid z) fd c.descriptor_of.ensures.held in
-    refused numbers c.args.heap.now c.args.procs.now script plain c.args.place.pid (fcntl script plain c.args.place.pid c.args.fd c.args.cmd c.args.arg) EBADF
-    (on_nothing numbers c.args.heap.now c.args.procs.now script plain c.args.place.pid have c.args.fd _ (sym held ∙ no_some c.descriptor_of.result c.in_default.not-Some)) have
+    refused numbers c.args.heap.now c.args.procs.now script plain c.args.place.pid (fcntl script plain c.args.place.pid c.args.on.now.fd c.args.cmd c.args.arg) EBADF
+    (on_nothing numbers c.args.heap.now c.args.procs.now script plain c.args.place.pid have c.args.on.now.fd _ (is_none c.args.heap.now c.args.procs.now c.args.place.pid c.args.on.now c.requires.opened (no_some c.args.on.now.found c.in_default.not-Some))) have
 
 pub returns-in_default-clause-changes : goal.returns-in_default-clause-changes
 returns-in_default-clause-changes c = changes_nothing c.args.heap.now c.args.procs.now c.args.place.pid c.requires.listed (ap is_some c.requires.there)
@@ -38,40 +35,31 @@ returns-in_default-clause-changes c = changes_nothing c.args.heap.now c.args.pro
 
 pub share_lowest-requires-clause-used : goal.share_lowest-requires-clause-used
 share_lowest-requires-clause-used c =
-    let fd = to_z-of_z w64 c.args.fd c.ranges.fd in
-    let held : c.descriptor_of.result ≡ named_by c.args.heap.now c.args.procs.now c.args.place.pid c.args.fd =
-    subst (λ z. c.descriptor_of.result ≡ named_by c.args.heap.now c.args.procs.now c.args.place.pid z) fd c.descriptor_of.ensures.held in
-    ap is_some (desc_named_by c.args.heap.now c.args.procs.now [] c.requires.listed c.requires.owners c.args.place.pid c.args.fd c.in-Some.held (sym held ∙ c.in-Some.is)).1
+    ap is_some (is_there c.args.heap.now c.args.procs.now c.args.place.pid c.args.on.now c.requires.opened c.in-Some.found c.in-Some.is)
 
 pub returns-in-0-clause-answers : goal.returns-in-0-clause-answers
 returns-in-0-clause-answers c = λ numbers script plain have.
-    let fd = to_z-of_z w64 c.args.fd c.ranges.fd in
-    let held : c.descriptor_of.result ≡ named_by c.args.heap.now c.args.procs.now c.args.place.pid c.args.fd =
-    subst (λ z. c.descriptor_of.result ≡ named_by c.args.heap.now c.args.procs.now c.args.place.pid z) fd c.descriptor_of.ensures.held in
-    let is = sym held ∙ c.in-Some.is in
-    let desc = desc_named_by c.args.heap.now c.args.procs.now [] c.requires.listed c.requires.owners c.args.place.pid c.args.fd c.in-Some.held is in
+    let is = is_held c.args.heap.now c.args.procs.now c.args.place.pid c.args.on.now c.requires.opened c.in-Some.found c.in-Some.is in
+    let there = is_there c.args.heap.now c.args.procs.now c.args.place.pid c.args.on.now c.requires.opened c.in-Some.found c.in-Some.is in
     let cmd : count_of c.args.cmd ≡ 0 = sym (subst (λ z. c.count_of.result ≡ count_of z) (to_z-of_z w64 c.args.cmd c.ranges.cmd) c.count_of.ensures) ∙ c.in-0.is in
     let arg : c.count_of-in-0.result ≡ count_of c.args.arg = subst (λ z. c.count_of-in-0.result ≡ count_of z) (to_z-of_z w64 c.args.arg c.ranges.arg) c.count_of-in-0.ensures in
-    answers_as numbers c.share_lowest.new.heap c.args.procs.now script plain c.args.place.pid (fcntl script plain c.args.place.pid c.args.fd c.args.cmd c.args.arg) _ _
-    (fcntl_is numbers c.args.heap.now c.args.procs.now script plain c.args.place.pid have c.args.fd c.in-Some.held desc.0 is desc.1 c.args.cmd c.args.arg 0 cmd
-    ∙ ap (λ n. duplicated script plain c.args.place.pid (record { place = numbers.descs c.in-Some.held.desc; is = (counted_in numbers desc.0).is }) (lowest_free_from (descriptors_of plain.files c.args.place.pid) n)) (sym arg))
-    (c.share_lowest.ensures.answers numbers script plain (counted_in numbers desc.0).is have)
+    answers_as numbers c.share_lowest.new.heap c.args.procs.now script plain c.args.place.pid (fcntl script plain c.args.place.pid c.args.on.now.fd c.args.cmd c.args.arg) _ _
+    (fcntl_is numbers c.args.heap.now c.args.procs.now script plain c.args.place.pid have c.args.on.now.fd (held_in c.in-Some.found) c.in-Some.found.desc is there c.args.cmd c.args.arg 0 cmd
+    ∙ ap (λ n. duplicated script plain c.args.place.pid (record { place = numbers.descs c.in-Some.found.key; is = (counted_in numbers c.in-Some.found.desc).is }) (lowest_free_from (descriptors_of plain.files c.args.place.pid) n)) (sym arg))
+    (c.share_lowest.ensures.answers numbers script plain (counted_in numbers c.in-Some.found.desc).is have)
 
 -- ---- a number's flags
 
 pub returns-in-1-clause-answers : goal.returns-in-1-clause-answers
 returns-in-1-clause-answers c = λ numbers script plain have.
-    let fd = to_z-of_z w64 c.args.fd c.ranges.fd in
-    let held : c.descriptor_of.result ≡ named_by c.args.heap.now c.args.procs.now c.args.place.pid c.args.fd =
-    subst (λ z. c.descriptor_of.result ≡ named_by c.args.heap.now c.args.procs.now c.args.place.pid z) fd c.descriptor_of.ensures.held in
-    let is = sym held ∙ c.in-Some.is in
-    let desc = desc_named_by c.args.heap.now c.args.procs.now [] c.requires.listed c.requires.owners c.args.place.pid c.args.fd c.in-Some.held is in
+    let is = is_held c.args.heap.now c.args.procs.now c.args.place.pid c.args.on.now c.requires.opened c.in-Some.found c.in-Some.is in
+    let there = is_there c.args.heap.now c.args.procs.now c.args.place.pid c.args.on.now c.requires.opened c.in-Some.found c.in-Some.is in
     let cmd : count_of c.args.cmd ≡ 1 = sym (subst (λ z. c.count_of.result ≡ count_of z) (to_z-of_z w64 c.args.cmd c.ranges.cmd) c.count_of.ensures) ∙ c.in-1.is in
     record {
       files = plain.files;
       replies =
-          fcntl_is numbers c.args.heap.now c.args.procs.now script plain c.args.place.pid have c.args.fd c.in-Some.held desc.0 is desc.1 c.args.cmd c.args.arg 1 cmd
-          ∙ ap (λ b. replied script plain c.args.place.pid (Val (pos (cloexec_bit b)))) (cloexec_is numbers c.args.heap.now c.args.procs.now script plain c.args.place.pid have c.args.fd c.in-Some.held desc.0 is desc.1)
+          fcntl_is numbers c.args.heap.now c.args.procs.now script plain c.args.place.pid have c.args.on.now.fd (held_in c.in-Some.found) c.in-Some.found.desc is there c.args.cmd c.args.arg 1 cmd
+          ∙ ap (λ b. replied script plain c.args.place.pid (Val (pos (cloexec_bit b)))) (cloexec_is numbers c.args.heap.now c.args.procs.now script plain c.args.place.pid have c.args.on.now.fd (held_in c.in-Some.found) c.in-Some.found.desc is there)
           ∙ ap (λ n. replied script plain c.args.place.pid (Val (pos n))) (sym c.bit.ensures);
       stands = have;
     }
@@ -81,43 +69,30 @@ returns-in-1-clause-changes c = changes_nothing c.args.heap.now c.args.procs.now
 
 pub returns-in-2-clause-answers : goal.returns-in-2-clause-answers
 returns-in-2-clause-answers c = λ numbers script plain have.
-    let fd = to_z-of_z w64 c.args.fd c.ranges.fd in
-    let held : c.descriptor_of.result ≡ named_by c.args.heap.now c.args.procs.now c.args.place.pid c.args.fd =
-    subst (λ z. c.descriptor_of.result ≡ named_by c.args.heap.now c.args.procs.now c.args.place.pid z) fd c.descriptor_of.ensures.held in
-    let is = sym held ∙ c.in-Some.is in
-    let desc = desc_named_by c.args.heap.now c.args.procs.now [] c.requires.listed c.requires.owners c.args.place.pid c.args.fd c.in-Some.held is in
+    let is = is_held c.args.heap.now c.args.procs.now c.args.place.pid c.args.on.now c.requires.opened c.in-Some.found c.in-Some.is in
+    let there = is_there c.args.heap.now c.args.procs.now c.args.place.pid c.args.on.now c.requires.opened c.in-Some.found c.in-Some.is in
     let cmd : count_of c.args.cmd ≡ 2 = sym (subst (λ z. c.count_of.result ≡ count_of z) (to_z-of_z w64 c.args.cmd c.ranges.cmd) c.count_of.ensures) ∙ c.in-2.is in
-    let number : c.count_of-number.result ≡ count_of c.args.fd = subst (λ z. c.count_of-number.result ≡ count_of z) fd c.count_of-number.ensures in
+    let number = is_counted c.args.heap.now c.args.procs.now c.args.place.pid c.args.on.now c.requires.opened c.in-Some.found c.in-Some.is in
     let flag : c.has_flag-cloexec.result ≡ has_flag c.args.arg 1 = subst (λ z. c.has_flag-cloexec.result ≡ has_flag z 1) (to_z-of_z w64 c.args.arg c.ranges.arg) c.has_flag-cloexec.ensures in
     record {
-      files = with_open plain.files c.args.place.pid (count_of c.args.fd) (cloexec_set (has_flag c.args.arg 1) (descriptor_at (descriptors_of plain.files c.args.place.pid) (count_of c.args.fd)));
-      replies = fcntl_is numbers c.args.heap.now c.args.procs.now script plain c.args.place.pid have c.args.fd c.in-Some.held desc.0 is desc.1 c.args.cmd c.args.arg 2 cmd;
+      files = with_open plain.files c.args.place.pid (count_of c.args.on.now.fd) (cloexec_set (has_flag c.args.arg 1) (descriptor_at (descriptors_of plain.files c.args.place.pid) (count_of c.args.on.now.fd)));
+      replies = fcntl_is numbers c.args.heap.now c.args.procs.now script plain c.args.place.pid have c.args.on.now.fd (held_in c.in-Some.found) c.in-Some.found.desc is there c.args.cmd c.args.arg 2 cmd;
       stands =
-          subst (λ b. HaveOpen numbers c.mark_one.new.heap c.args.procs.now (with_open plain.files c.args.place.pid (count_of c.args.fd) (cloexec_set b (descriptor_at (descriptors_of plain.files c.args.place.pid) (count_of c.args.fd))))) flag
+          subst (λ b. HaveOpen numbers c.mark_one.new.heap c.args.procs.now (with_open plain.files c.args.place.pid (count_of c.args.on.now.fd) (cloexec_set b (descriptor_at (descriptors_of plain.files c.args.place.pid) (count_of c.args.on.now.fd))))) flag
           (subst (λ n. HaveOpen numbers c.mark_one.new.heap c.args.procs.now (with_open plain.files c.args.place.pid n (cloexec_set c.has_flag-cloexec.result (descriptor_at (descriptors_of plain.files c.args.place.pid) n)))) number
           (c.mark_one.ensures.marked numbers plain.files have));
     }
 
 -- ---- a description's flags
 
-pub get_desc-requires : goal.get_desc-requires
-get_desc-requires c =
-    let fd = to_z-of_z w64 c.args.fd c.ranges.fd in
-    let held : c.descriptor_of.result ≡ named_by c.args.heap.now c.args.procs.now c.args.place.pid c.args.fd =
-    subst (λ z. c.descriptor_of.result ≡ named_by c.args.heap.now c.args.procs.now c.args.place.pid z) fd c.descriptor_of.ensures.held in
-    ap is_some (desc_named_by c.args.heap.now c.args.procs.now [] c.requires.listed c.requires.owners c.args.place.pid c.args.fd c.in-Some.held (sym held ∙ c.in-Some.is)).1
-
 pub returns-in-3-clause-answers : goal.returns-in-3-clause-answers
 returns-in-3-clause-answers c = λ numbers script plain have.
-    let fd = to_z-of_z w64 c.args.fd c.ranges.fd in
-    let held : c.descriptor_of.result ≡ named_by c.args.heap.now c.args.procs.now c.args.place.pid c.args.fd =
-    subst (λ z. c.descriptor_of.result ≡ named_by c.args.heap.now c.args.procs.now c.args.place.pid z) fd c.descriptor_of.ensures.held in
-    let is = sym held ∙ c.in-Some.is in
+    let is = is_held c.args.heap.now c.args.procs.now c.args.place.pid c.args.on.now c.requires.opened c.in-Some.found c.in-Some.is in
     let cmd : count_of c.args.cmd ≡ 3 = sym (subst (λ z. c.count_of.result ≡ count_of z) (to_z-of_z w64 c.args.cmd c.ranges.cmd) c.count_of.ensures) ∙ c.in-3.is in
     record {
       files = plain.files;
       replies =
-          fcntl_is numbers c.args.heap.now c.args.procs.now script plain c.args.place.pid have c.args.fd c.in-Some.held c.get_desc.result.now is c.get_desc.ensures c.args.cmd c.args.arg 3 cmd
+          fcntl_is numbers c.args.heap.now c.args.procs.now script plain c.args.place.pid have c.args.on.now.fd (held_in c.in-Some.found) c.in-Some.found.desc is (is_there c.args.heap.now c.args.procs.now c.args.place.pid c.args.on.now c.requires.opened c.in-Some.found c.in-Some.is) c.args.cmd c.args.arg 3 cmd
           ∙ ap (λ n. replied script plain c.args.place.pid (Val (pos n))) (sym (c.status_bits.ensures numbers));
       stands = have;
     }
@@ -127,31 +102,25 @@ returns-in-3-clause-changes c = changes_nothing c.args.heap.now c.args.procs.now
 
 pub set_flags-requires : goal.set_flags-requires
 set_flags-requires c =
-    let fd = to_z-of_z w64 c.args.fd c.ranges.fd in
-    let held : c.descriptor_of.result ≡ named_by c.args.heap.now c.args.procs.now c.args.place.pid c.args.fd =
-    subst (λ z. c.descriptor_of.result ≡ named_by c.args.heap.now c.args.procs.now c.args.place.pid z) fd c.descriptor_of.ensures.held in
-    record { used = ap is_some (desc_named_by c.args.heap.now c.args.procs.now [] c.requires.listed c.requires.owners c.args.place.pid c.args.fd c.in-Some.held (sym held ∙ c.in-Some.is)).1 }
+    record { used = ap is_some (is_there c.args.heap.now c.args.procs.now c.args.place.pid c.args.on.now c.requires.opened c.in-Some.found c.in-Some.is) }
 
 pub returns-in-4-clause-answers : goal.returns-in-4-clause-answers
 returns-in-4-clause-answers c = λ numbers script plain have.
-    let fd = to_z-of_z w64 c.args.fd c.ranges.fd in
-    let held : c.descriptor_of.result ≡ named_by c.args.heap.now c.args.procs.now c.args.place.pid c.args.fd =
-    subst (λ z. c.descriptor_of.result ≡ named_by c.args.heap.now c.args.procs.now c.args.place.pid z) fd c.descriptor_of.ensures.held in
-    let is = sym held ∙ c.in-Some.is in
-    let desc = desc_named_by c.args.heap.now c.args.procs.now [] c.requires.listed c.requires.owners c.args.place.pid c.args.fd c.in-Some.held is in
+    let is = is_held c.args.heap.now c.args.procs.now c.args.place.pid c.args.on.now c.requires.opened c.in-Some.found c.in-Some.is in
+    let there = is_there c.args.heap.now c.args.procs.now c.args.place.pid c.args.on.now c.requires.opened c.in-Some.found c.in-Some.is in
     let cmd : count_of c.args.cmd ≡ 4 = sym (subst (λ z. c.count_of.result ≡ count_of z) (to_z-of_z w64 c.args.cmd c.ranges.cmd) c.count_of.ensures) ∙ c.in-4.is in
     let arg = to_z-of_z w64 c.args.arg c.ranges.arg in
     let append : c.flags_in.result.append ≡ has_flag c.args.arg o_append = subst (λ z. c.flags_in.result.append ≡ has_flag z o_append) arg c.flags_in.ensures.append in
     let nonblock : c.flags_in.result.nonblock ≡ has_flag c.args.arg o_nonblock = subst (λ z. c.flags_in.result.nonblock ≡ has_flag z o_nonblock) arg c.flags_in.ensures.nonblock in
     record {
-      files = described_as plain.files (numbers.descs c.in-Some.held.desc) (with_status (counted_in numbers desc.0).is c.args.arg);
-      replies = fcntl_is numbers c.args.heap.now c.args.procs.now script plain c.args.place.pid have c.args.fd c.in-Some.held desc.0 is desc.1 c.args.cmd c.args.arg 4 cmd;
+      files = described_as plain.files (numbers.descs c.in-Some.found.key) (with_status (counted_in numbers c.in-Some.found.desc).is c.args.arg);
+      replies = fcntl_is numbers c.args.heap.now c.args.procs.now script plain c.args.place.pid have c.args.on.now.fd (held_in c.in-Some.found) c.in-Some.found.desc is there c.args.cmd c.args.arg 4 cmd;
       stands =
           subst (λ b. HaveOpen numbers c.set_flags.new.heap c.args.procs.now
-          (described_as plain.files (numbers.descs c.in-Some.held.desc) (with_flags (counted_in numbers desc.0).is (has_flag c.args.arg o_append) b))) nonblock
+          (described_as plain.files (numbers.descs c.in-Some.found.key) (with_flags (counted_in numbers c.in-Some.found.desc).is (has_flag c.args.arg o_append) b))) nonblock
           (subst (λ b. HaveOpen numbers c.set_flags.new.heap c.args.procs.now
-          (described_as plain.files (numbers.descs c.in-Some.held.desc) (with_flags (counted_in numbers desc.0).is b c.flags_in.result.nonblock))) append
-          (c.set_flags.ensures.flags numbers c.args.procs.now plain.files desc.0 desc.1 have));
+          (described_as plain.files (numbers.descs c.in-Some.found.key) (with_flags (counted_in numbers c.in-Some.found.desc).is b c.flags_in.result.nonblock))) append
+          (c.set_flags.ensures.flags numbers c.args.procs.now plain.files c.in-Some.found.desc there have));
     }
 
 pub returns-in-4-clause-changes : goal.returns-in-4-clause-changes
@@ -165,14 +134,11 @@ returns-in-4-clause-changes c =
 
 pub returns-in_default-count_of-clause-answers : goal.returns-in_default-count_of-clause-answers
 returns-in_default-count_of-clause-answers c = λ numbers script plain have.
-    let fd = to_z-of_z w64 c.args.fd c.ranges.fd in
-    let held : c.descriptor_of.result ≡ named_by c.args.heap.now c.args.procs.now c.args.place.pid c.args.fd =
-    subst (λ z. c.descriptor_of.result ≡ named_by c.args.heap.now c.args.procs.now c.args.place.pid z) fd c.descriptor_of.ensures.held in
-    let is = sym held ∙ c.in-Some.is in
-    let desc = desc_named_by c.args.heap.now c.args.procs.now [] c.requires.listed c.requires.owners c.args.place.pid c.args.fd c.in-Some.held is in
+    let is = is_held c.args.heap.now c.args.procs.now c.args.place.pid c.args.on.now c.requires.opened c.in-Some.found c.in-Some.is in
+    let there = is_there c.args.heap.now c.args.procs.now c.args.place.pid c.args.on.now c.requires.opened c.in-Some.found c.in-Some.is in
     let cmd : count_of c.args.cmd ≡ c.count_of.result = sym (subst (λ z. c.count_of.result ≡ count_of z) (to_z-of_z w64 c.args.cmd c.ranges.cmd) c.count_of.ensures) in
-    refused numbers c.args.heap.now c.args.procs.now script plain c.args.place.pid (fcntl script plain c.args.place.pid c.args.fd c.args.cmd c.args.arg) EINVAL
-    (fcntl_unknown numbers c.args.heap.now c.args.procs.now script plain c.args.place.pid have c.args.fd c.in-Some.held desc.0 is desc.1 c.args.cmd c.args.arg c.count_of.result cmd
+    refused numbers c.args.heap.now c.args.procs.now script plain c.args.place.pid (fcntl script plain c.args.place.pid c.args.on.now.fd c.args.cmd c.args.arg) EINVAL
+    (fcntl_unknown numbers c.args.heap.now c.args.procs.now script plain c.args.place.pid have c.args.on.now.fd (held_in c.in-Some.found) c.in-Some.found.desc is there c.args.cmd c.args.arg c.count_of.result cmd
     (λ e. omega (arith, e)) (λ e. omega (arith, e)) (λ e. omega (arith, e)) (λ e. omega (arith, e)) (λ e. omega (arith, e))) have
 
 pub returns-in_default-count_of-clause-changes : goal.returns-in_default-count_of-clause-changes

@@ -1,30 +1,56 @@
-use Rattle.std.proofs.Common.{◌∙◌, ap, refl, sym, w64}
-use Rattle.std.proofs.lemmas.Int.{to_z-of_z}
-use Rattle.proc_numbers.specs.Found.{held_at}
+use Rattle.std.proofs.Common.{◌∙◌, [], None, Some, ap, is_some, length, w64}
+use mir.Val.{of_z, to_z}
+use Rattle.proc_table.proofs.NumberLemmas.{numbers_all}
 use Rattle.proc_table.specs.Procs.{numbers_in}
-use Rattle.proc_numbers.proofs.NamedOpen.{named_held, none_opened, some_opened}
+use Rattle.proc_numbers.specs.Having.{places_in}
+use Rattle.proc_numbers.proofs.NumberCloses.{no_some}
+use Rattle.proc_numbers.proofs.NumberNames.{desc_named_by, named_beyond}
+use Rattle.proc_numbers.proofs.OpenedBy.{by_number, number_so}
 use Rattle.proc_numbers.proofs.lookups.opened.Goals as goal
 
-pub at-requires-clause-stored : goal.at-requires-clause-stored
-at-requires-clause-stored c = c.requires.listed.stored
+pub at-proc-requires-clause-stored : goal.at-proc-requires-clause-stored
+at-proc-requires-clause-stored c = c.requires.listed.stored
 
-pub returns-in-Some-clause-found : goal.returns-in-Some-clause-found
-returns-in-Some-clause-found c = λ numbers files have.
-    some_opened c.args.heap.now c.args.procs.now c.args.place.pid c.args.place.key c.at.result.now c.requires.listed c.requires.there c.at.ensures.kept numbers files have
-    c.args.fd c.in-Some.descriptor c.get_desc.result.now
-    (sym (c.held_at.ensures ∙ ap (held_at (numbers_in c.args.heap.now c.at.result.now)) (to_z-of_z w64 c.args.fd c.ranges.fd)) ∙ c.in-Some.is) c.get_desc.ensures
+pub returns-in_default-clause-opened : goal.returns-in_default-clause-opened
+returns-in_default-clause-opened c = record {
+  names =
+      named_beyond c.args.heap.now c.args.procs.now c.args.place.pid (to_z w64 (of_z w64 c.args.fd))
+      (ap length (ap (places_in (numbers_in c.args.heap.now)) c.at-proc.ensures.found) ∙ numbers_all c.args.heap.now c.args.place.key c.at-proc.result.now c.is_well_formed.ensures c.at-proc.ensures.kept)
+      (c.number_of.ensures.none (no_some c.number_of.result c.in_default.not-Some));
+  there = tt;
+  number = tt;
+}
 
-pub returns-in-None-clause-found : goal.returns-in-None-clause-found
-returns-in-None-clause-found c = λ numbers files have.
-    none_opened c.args.heap.now c.args.procs.now c.args.place.pid c.args.place.key c.at.result.now c.requires.listed c.requires.there c.at.ensures.kept numbers files have
-    c.args.fd
-    (sym (c.held_at.ensures ∙ ap (held_at (numbers_in c.args.heap.now c.at.result.now)) (to_z-of_z w64 c.args.fd c.ranges.fd)) ∙ c.in-None.is)
+pub bounds-proc-number : goal.bounds-proc-number
+bounds-proc-number c =
+    let it = number_so (to_z w64 (of_z w64 c.args.fd)) c.number_of.result c.in-Some.number c.number_of.ensures.some c.in-Some.is in it.1
 
-pub returns-in-Some-clause-named : goal.returns-in-Some-clause-named
-returns-in-Some-clause-named c =
+pub returns-in_default-held-clause-opened : goal.returns-in_default-held-clause-opened
+returns-in_default-held-clause-opened c =
+    let it = number_so (to_z w64 (of_z w64 c.args.fd)) c.number_of.result c.in-Some.number c.number_of.ensures.some c.in-Some.is in
     record {
-      held = c.in-Some.descriptor;
-      is = named_held c.args.heap.now c.args.procs.now c.args.place.pid c.at.result.now c.args.fd c.at.ensures.found
-          ∙ (sym (c.held_at.ensures ∙ ap (held_at (numbers_in c.args.heap.now c.at.result.now)) (to_z-of_z w64 c.args.fd c.ranges.fd)) ∙ c.in-Some.is);
-      same = refl;
+      names =
+          by_number c.args.heap.now c.args.procs.now c.args.place.pid (to_z w64 (of_z w64 c.args.fd)) c.in-Some.number c.at-proc.result.now None it.0 c.at-proc.ensures.found
+          (no_some _ c.in_default-held.not-Some);
+      there = tt;
+      number = tt;
+    }
+
+pub get_desc-requires : goal.get_desc-requires
+get_desc-requires c =
+    let it = number_so (to_z w64 (of_z w64 c.args.fd)) c.number_of.result c.in-Some.number c.number_of.ensures.some c.in-Some.is in
+    let named =
+        by_number c.args.heap.now c.args.procs.now c.args.place.pid (to_z w64 (of_z w64 c.args.fd)) c.in-Some.number c.at-proc.result.now (Some c.in-Some-held.descriptor) it.0
+        c.at-proc.ensures.found c.in-Some-held.is in
+    ap is_some (desc_named_by c.args.heap.now c.args.procs.now [] c.requires.listed c.requires.owners c.args.place.pid (to_z w64 (of_z w64 c.args.fd)) c.in-Some-held.descriptor named).1
+
+pub returns-clause-opened : goal.returns-clause-opened
+returns-clause-opened c =
+    let it = number_so (to_z w64 (of_z w64 c.args.fd)) c.number_of.result c.in-Some.number c.number_of.ensures.some c.in-Some.is in
+    record {
+      names =
+          by_number c.args.heap.now c.args.procs.now c.args.place.pid (to_z w64 (of_z w64 c.args.fd)) c.in-Some.number c.at-proc.result.now (Some c.in-Some-held.descriptor) it.0
+          c.at-proc.ensures.found c.in-Some-held.is;
+      there = c.get_desc.ensures;
+      number = it;
     }

@@ -1,5 +1,4 @@
-use Rattle.std.proofs.Common.{is_some, ◌∙◌, [], ap, refl, subst, w64}
-use Rattle.std.proofs.lemmas.Int.{to_z-of_z}
+use Rattle.std.proofs.Common.{is_some, ◌∙◌, [], ap, refl, subst}
 use Rattle.kheap_slabs.specs.Heap.{Heap}
 use Rattle.posix_defs.specs.Calls.OnSockets.{listen}
 use Rattle.proc_numbers.proofs.Fronts.{queues_same}
@@ -14,14 +13,13 @@ use Rattle.proc_numbers.proofs.shutting.listen_number.Goals as goal
 -- ---- on a socket
 
 pub listen-requires-clause-there : goal.listen-requires-clause-there
-listen-requires-clause-there c = socket_there c.args.heap.now [] c.in-Ok.found.key c.requires.owners c.in-Ok.ensures.there
+listen-requires-clause-there c = socket_there c.args.heap.now [] c.in-Ok.found.key c.requires.owners (c.in-Ok.ensures.there c.args.heap.now c.args.procs.now c.args.place.pid c.requires.opened)
 
 pub returns-in-Ok-clause-answers : goal.returns-in-Ok-clause-answers
 returns-in-Ok-clause-answers c = λ numbers script plain have.
-    let fd = to_z-of_z w64 c.args.fd c.ranges.fd in
-    listens numbers c.args.heap.now c.listen.new.heap c.args.procs.now script plain c.args.place.pid c.args.fd c.in-Ok.found c.requires.owners c.in-Ok.ensures.there
+    listens numbers c.args.heap.now c.listen.new.heap c.args.procs.now script plain c.args.place.pid c.args.on.now.fd c.in-Ok.found c.requires.owners (c.in-Ok.ensures.there c.args.heap.now c.args.procs.now c.args.place.pid c.requires.opened)
     (record { others = c.listen.ensures.others; objects = c.listen.ensures.owned; held = c.listen.ensures.held }) have c.listen.result
-    (λ answer. subst (FindsSocket numbers script plain c.args.place.pid c.args.fd answer) c.in-Ok.is (subst (λ z. FindsSocket numbers script plain c.args.place.pid z answer c.socket_of.result) fd (c.socket_of.ensures.found numbers script plain answer have)))
+    (λ answer. subst (FindsSocket numbers script plain c.args.place.pid c.args.on.now.fd answer) c.in-Ok.is (c.socket.ensures.found c.args.heap.now c.args.procs.now c.args.place.pid numbers script plain answer c.requires.opened have))
     (c.listen.ensures.answer have.opened.socketed.keyed have.opened.socketed.stands)
     (c.listen.ensures.stands have.opened.socketed.keyed have.opened.socketed.stands)
 
@@ -44,9 +42,8 @@ returns-in-Ok-clause-queues c = queues_changed c.args.heap.now c.listen.new.heap
 
 pub returns-in-Err-clause-answers : goal.returns-in-Err-clause-answers
 returns-in-Err-clause-answers c = λ numbers script plain have.
-    let fd = to_z-of_z w64 c.args.fd c.ranges.fd in
-    refused numbers c.args.heap.now c.args.procs.now script plain c.args.place.pid (listen script plain c.args.place.pid c.args.fd) c.in-Err.errno
-    (listen_asks script plain c.args.place.pid c.args.fd ∙ subst (FindsSocket numbers script plain c.args.place.pid c.args.fd (listen_as script plain c.args.place.pid)) c.in-Err.is (subst (λ z. FindsSocket numbers script plain c.args.place.pid z (listen_as script plain c.args.place.pid) c.socket_of.result) fd (c.socket_of.ensures.found numbers script plain (listen_as script plain c.args.place.pid) have))) have
+    refused numbers c.args.heap.now c.args.procs.now script plain c.args.place.pid (listen script plain c.args.place.pid c.args.on.now.fd) c.in-Err.errno
+    (listen_asks script plain c.args.place.pid c.args.on.now.fd ∙ subst (FindsSocket numbers script plain c.args.place.pid c.args.on.now.fd (listen_as script plain c.args.place.pid)) c.in-Err.is (c.socket.ensures.found c.args.heap.now c.args.procs.now c.args.place.pid numbers script plain (listen_as script plain c.args.place.pid) c.requires.opened have)) have
 
 pub returns-in-Err-clause-changes : goal.returns-in-Err-clause-changes
 returns-in-Err-clause-changes c = changes_nothing c.args.heap.now c.args.procs.now c.args.place.pid c.requires.listed (ap is_some c.requires.there)

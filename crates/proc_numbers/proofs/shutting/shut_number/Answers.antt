@@ -17,14 +17,13 @@ use Rattle.proc_numbers.proofs.shutting.shut_number.Goals as goal
 -- ---- on a socket
 
 pub shutdown-requires-clause-there : goal.shutdown-requires-clause-there
-shutdown-requires-clause-there c = socket_there c.args.heap.now [] c.in-Ok.found.key c.requires.owners c.in-Ok.ensures.there
+shutdown-requires-clause-there c = socket_there c.args.heap.now [] c.in-Ok.found.key c.requires.owners (c.in-Ok.ensures.there c.args.heap.now c.args.procs.now c.args.place.pid c.requires.opened)
 
 pub returns-in-Ok-clause-answers : goal.returns-in-Ok-clause-answers
 returns-in-Ok-clause-answers c = λ numbers script plain have.
-    let fd = to_z-of_z w64 c.args.fd c.ranges.fd in
-    shuts numbers c.args.heap.now c.shutdown.new.heap c.args.procs.now script plain c.args.place.pid c.args.fd c.in-Ok.found c.requires.owners c.in-Ok.ensures.there
+    shuts numbers c.args.heap.now c.shutdown.new.heap c.args.procs.now script plain c.args.place.pid c.args.on.now.fd c.in-Ok.found c.requires.owners (c.in-Ok.ensures.there c.args.heap.now c.args.procs.now c.args.place.pid c.requires.opened)
     (record { others = c.shutdown.ensures.others; objects = c.shutdown.ensures.owned; held = c.shutdown.ensures.held }) have c.args.how c.shutdown.result
-    (λ answer. subst (FindsSocket numbers script plain c.args.place.pid c.args.fd answer) c.in-Ok.is (subst (λ z. FindsSocket numbers script plain c.args.place.pid z answer c.socket_of.result) fd (c.socket_of.ensures.found numbers script plain answer have)))
+    (λ answer. subst (FindsSocket numbers script plain c.args.place.pid c.args.on.now.fd answer) c.in-Ok.is (c.socket.ensures.found c.args.heap.now c.args.procs.now c.args.place.pid numbers script plain answer c.requires.opened have))
     (c.shutdown.ensures.answer have.opened.socketed.keyed have.opened.socketed.stands)
     (subst (λ h. MatchResult c.shutdown.result (λ _. SocketsStandFor c.shutdown.new.heap (after_shut have.opened.socketed.keyed c.in-Ok.found.key h)) (λ _. c.shutdown.new.heap ≡ c.args.heap.now)) (to_z-of_z w64 c.args.how c.ranges.how) (c.shutdown.ensures.stands have.opened.socketed.keyed have.opened.socketed.stands))
 
@@ -47,9 +46,8 @@ returns-in-Ok-clause-queues c = queues_changed c.args.heap.now c.shutdown.new.he
 
 pub returns-in-Err-clause-answers : goal.returns-in-Err-clause-answers
 returns-in-Err-clause-answers c = λ numbers script plain have.
-    let fd = to_z-of_z w64 c.args.fd c.ranges.fd in
-    refused numbers c.args.heap.now c.args.procs.now script plain c.args.place.pid (shutdown script plain c.args.place.pid c.args.fd c.args.how) c.in-Err.errno
-    (shutdown_asks script plain c.args.place.pid c.args.fd c.args.how ∙ subst (FindsSocket numbers script plain c.args.place.pid c.args.fd (shutdown_as script plain c.args.place.pid c.args.how)) c.in-Err.is (subst (λ z. FindsSocket numbers script plain c.args.place.pid z (shutdown_as script plain c.args.place.pid c.args.how) c.socket_of.result) fd (c.socket_of.ensures.found numbers script plain (shutdown_as script plain c.args.place.pid c.args.how) have))) have
+    refused numbers c.args.heap.now c.args.procs.now script plain c.args.place.pid (shutdown script plain c.args.place.pid c.args.on.now.fd c.args.how) c.in-Err.errno
+    (shutdown_asks script plain c.args.place.pid c.args.on.now.fd c.args.how ∙ subst (FindsSocket numbers script plain c.args.place.pid c.args.on.now.fd (shutdown_as script plain c.args.place.pid c.args.how)) c.in-Err.is (c.socket.ensures.found c.args.heap.now c.args.procs.now c.args.place.pid numbers script plain (shutdown_as script plain c.args.place.pid c.args.how) c.requires.opened have)) have
 
 pub returns-in-Err-clause-changes : goal.returns-in-Err-clause-changes
 returns-in-Err-clause-changes c = changes_nothing c.args.heap.now c.args.procs.now c.args.place.pid c.requires.listed (ap is_some c.requires.there)

@@ -25,8 +25,8 @@ pub go_on-requires-clause-kept : goal.go_on-requires-clause-kept
 go_on-requires-clause-kept c =
     let some = c.requires.stands in
     let done = c.accept_number-taken.ensures in
-    let names = names_made c.args.script.now c.args.objects.now c.accept_number-taken.new.heap c.args.caller.now.place.pid c.in-Some.reply (λ plain. accept c.args.script.now plain c.args.caller.now.place.pid (to_z w64 (of_z w64 c.args.fd)))
-    (λ plain. accept_stays c.args.script.now plain c.args.caller.now.place.pid (to_z w64 (of_z w64 c.args.fd))) some done.still
+    let names = names_made c.args.script.now c.args.objects.now c.accept_number-taken.new.heap c.args.caller.now.place.pid c.in-Some.reply (λ plain. accept c.args.script.now plain c.args.caller.now.place.pid (to_z w64 (of_z w64 c.args.on.now.fd)))
+    (λ plain. accept_stays c.args.script.now plain c.args.caller.now.place.pid (to_z w64 (of_z w64 c.args.on.now.fd))) some done.still
     (λ numbers plain have.
     accepts_reply numbers c.args.objects.now.heap c.accept_number-taken.new.heap c.args.objects.now.procs c.args.script.now plain c.args.caller.now.place.pid _ c.accept_number-taken.result c.in-Some.reply
     (sym c.told.ensures ∙ c.in-Some.is) (done.answers numbers c.args.script.now plain have)) in
@@ -36,8 +36,8 @@ pub go_on-requires-clause-runs : goal.go_on-requires-clause-runs
 go_on-requires-clause-runs c =
     let some = c.requires.stands in
     let done = c.accept_number-taken.ensures in
-    let names = names_made c.args.script.now c.args.objects.now c.accept_number-taken.new.heap c.args.caller.now.place.pid c.in-Some.reply (λ plain. accept c.args.script.now plain c.args.caller.now.place.pid (to_z w64 (of_z w64 c.args.fd)))
-    (λ plain. accept_stays c.args.script.now plain c.args.caller.now.place.pid (to_z w64 (of_z w64 c.args.fd))) some done.still
+    let names = names_made c.args.script.now c.args.objects.now c.accept_number-taken.new.heap c.args.caller.now.place.pid c.in-Some.reply (λ plain. accept c.args.script.now plain c.args.caller.now.place.pid (to_z w64 (of_z w64 c.args.on.now.fd)))
+    (λ plain. accept_stays c.args.script.now plain c.args.caller.now.place.pid (to_z w64 (of_z w64 c.args.on.now.fd))) some done.still
     (λ numbers plain have.
     accepts_reply numbers c.args.objects.now.heap c.accept_number-taken.new.heap c.args.objects.now.procs c.args.script.now plain c.args.caller.now.place.pid _ c.accept_number-taken.result c.in-Some.reply
     (sym c.told.ensures ∙ c.in-Some.is) (done.answers numbers c.args.script.now plain have)) in
@@ -56,21 +56,21 @@ returns-in-Some-clause-does c =
     let heap = c.accept_number-taken.new.heap in
     let pid = c.args.caller.now.place.pid in
     let done = c.accept_number-taken.ensures in
-    let names = names_made c.args.script.now c.args.objects.now c.accept_number-taken.new.heap c.args.caller.now.place.pid c.in-Some.reply (λ plain. accept c.args.script.now plain c.args.caller.now.place.pid (to_z w64 (of_z w64 c.args.fd)))
-    (λ plain. accept_stays c.args.script.now plain c.args.caller.now.place.pid (to_z w64 (of_z w64 c.args.fd))) some done.still
+    let names = names_made c.args.script.now c.args.objects.now c.accept_number-taken.new.heap c.args.caller.now.place.pid c.in-Some.reply (λ plain. accept c.args.script.now plain c.args.caller.now.place.pid (to_z w64 (of_z w64 c.args.on.now.fd)))
+    (λ plain. accept_stays c.args.script.now plain c.args.caller.now.place.pid (to_z w64 (of_z w64 c.args.on.now.fd))) some done.still
     (λ numbers plain have.
     accepts_reply numbers c.args.objects.now.heap c.accept_number-taken.new.heap c.args.objects.now.procs c.args.script.now plain c.args.caller.now.place.pid _ c.accept_number-taken.result c.in-Some.reply
     (sym c.told.ensures ∙ c.in-Some.is) (done.answers numbers c.args.script.now plain have)) in
     let taken = c.accept_number-taken.result in
     let said = c.in-Some.reply in
-    let which = call.Accept c.args.fd in
+    let which = call.Accept c.args.on.now.fd in
     performs_anew script old heap pid c.args.caller.now.control some.1.kept c.requires.runs done.changes done.listed done.owners names
-    c.go_on.new.objects which said c.go_on.result (λ plain. accept script plain pid c.args.fd)
+    c.go_on.new.objects which said c.go_on.result (λ plain. accept script plain pid c.args.on.now.fd)
     done.queues
-    (λ plain. accept_stays script plain pid c.args.fd) c.go_on.ensures.told c.go_on.ensures.goes (no_frames which (λ frames pid value. refl) pid said)
+    (λ plain. accept_stays script plain pid c.args.on.now.fd) c.go_on.ensures.told c.go_on.ensures.goes (no_frames which (λ frames pid value. refl) pid said)
     (λ numbers plain have.
-    accepts_reply numbers old.heap heap old.procs script plain pid (accept script plain pid c.args.fd) taken said (sym c.told.ensures ∙ c.in-Some.is)
-    (subst (λ z. Accepts numbers old.heap heap old.procs script plain pid (accept script plain pid z) taken) (to_z-of_z w64 c.args.fd c.ranges.fd)
+    accepts_reply numbers old.heap heap old.procs script plain pid (accept script plain pid c.args.on.now.fd) taken said (sym c.told.ensures ∙ c.in-Some.is)
+    (subst (λ z. Accepts numbers old.heap heap old.procs script plain pid (accept script plain pid z) taken) refl
     (done.answers numbers script plain have)))
 
 pub returns-in-None-clause-kept : goal.returns-in-None-clause-kept
@@ -89,8 +89,8 @@ returns-in-None-clause-does c =
     let done = c.accept_number-taken.ensures in
     let taken = c.accept_number-taken.result in
     let none = sym c.told.ensures ∙ c.in-None.is in
-    performs_asleep script old heap pid (call.Accept c.args.fd) (λ plain. accept script plain pid c.args.fd) (nothing_taken taken _ none done.unchanged).0
+    performs_asleep script old heap pid (call.Accept c.args.on.now.fd) (λ plain. accept script plain pid c.args.on.now.fd) (nothing_taken taken _ none done.unchanged).0
     (λ world stands.
-    accepts_later stands.files.numbers old.heap heap old.procs script world.plain pid (accept script world.plain pid c.args.fd) taken none
-    (subst (λ z. Accepts stands.files.numbers old.heap heap old.procs script world.plain pid (accept script world.plain pid z) taken) (to_z-of_z w64 c.args.fd c.ranges.fd)
+    accepts_later stands.files.numbers old.heap heap old.procs script world.plain pid (accept script world.plain pid c.args.on.now.fd) taken none
+    (subst (λ z. Accepts stands.files.numbers old.heap heap old.procs script world.plain pid (accept script world.plain pid z) taken) refl
     (done.answers stands.files.numbers script world.plain stands.files.opened)))

@@ -40,14 +40,14 @@ returns-clause-does c =
     let pid = c.args.caller.now.place.pid in
     let done = c.dup_one.ensures in
     let said = c.value-reply.result in
-    let which = call.Dup c.args.fd in
+    let which = call.Dup c.args.on.now.fd in
     performs script old heap pid c.args.caller.now.control c.requires.kept c.requires.runs done.changes done.listed done.owners (λ key. ap (λ (h : Heap). name_of h.socks key) done.beside)
-    c.go_on.new.objects which said c.go_on.result (λ plain. dup script plain pid c.args.fd)
+    c.go_on.new.objects which said c.go_on.result (λ plain. dup script plain pid c.args.on.now.fd)
     (queues_same old.heap heap (ap (λ (h : Heap). h.pipes) done.beside) (ap (λ (h : Heap). h.socks) done.beside))
-    (λ plain. dup_stay script plain pid c.args.fd) c.go_on.ensures.told c.go_on.ensures.goes (no_frames which (λ frames pid value. refl) pid said)
+    (λ plain. dup_stay script plain pid c.args.on.now.fd) c.go_on.ensures.told c.go_on.ensures.goes (no_frames which (λ frames pid value. refl) pid said)
     (λ numbers plain have.
-    subst (Answers numbers heap old.procs script plain pid (dup script plain pid c.args.fd)) (sym c.value-reply.ensures)
-    (subst (λ z. Answers numbers heap old.procs script plain pid (dup script plain pid z) (value_of c.dup_one.result)) (to_z-of_z w64 c.args.fd c.ranges.fd)
+    subst (Answers numbers heap old.procs script plain pid (dup script plain pid c.args.on.now.fd)) (sym c.value-reply.ensures)
+    (subst (λ z. Answers numbers heap old.procs script plain pid (dup script plain pid z) (value_of c.dup_one.result)) refl
     (done.answers numbers script plain have)))
 
 pub returns-clause-paid : goal.returns-clause-paid

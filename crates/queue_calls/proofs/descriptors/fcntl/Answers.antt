@@ -40,16 +40,16 @@ returns-clause-does c =
     let pid = c.args.caller.now.place.pid in
     let done = c.control.ensures in
     let said = c.value-reply.result in
-    let which = call.Fcntl c.args.fd c.args.cmd c.args.arg in
+    let which = call.Fcntl c.args.on.now.fd c.args.cmd c.args.arg in
     performs script old heap pid c.args.caller.now.control c.requires.kept c.requires.runs done.changes done.listed done.owners (λ key. ap (λ (h : Heap). name_of h.socks key) done.beside)
-    c.go_on.new.objects which said c.go_on.result (λ plain. fcntl script plain pid c.args.fd c.args.cmd c.args.arg)
+    c.go_on.new.objects which said c.go_on.result (λ plain. fcntl script plain pid c.args.on.now.fd c.args.cmd c.args.arg)
     (queues_same old.heap heap (ap (λ (h : Heap). h.pipes) done.beside) (ap (λ (h : Heap). h.socks) done.beside))
-    (λ plain. fcntl_stay script plain pid c.args.fd c.args.cmd c.args.arg) c.go_on.ensures.told c.go_on.ensures.goes (no_frames which (λ frames pid value. refl) pid said)
+    (λ plain. fcntl_stay script plain pid c.args.on.now.fd c.args.cmd c.args.arg) c.go_on.ensures.told c.go_on.ensures.goes (no_frames which (λ frames pid value. refl) pid said)
     (λ numbers plain have.
-    subst (Answers numbers heap old.procs script plain pid (fcntl script plain pid c.args.fd c.args.cmd c.args.arg)) (sym c.value-reply.ensures)
-    (subst (λ z. Answers numbers heap old.procs script plain pid (fcntl script plain pid z c.args.cmd c.args.arg) (value_of c.control.result)) (to_z-of_z w64 c.args.fd c.ranges.fd)
-    (subst (λ z. Answers numbers heap old.procs script plain pid (fcntl script plain pid (to_z w64 (of_z w64 c.args.fd)) z c.args.arg) (value_of c.control.result)) (to_z-of_z w64 c.args.cmd c.ranges.cmd)
-    (subst (λ z. Answers numbers heap old.procs script plain pid (fcntl script plain pid (to_z w64 (of_z w64 c.args.fd)) (to_z w64 (of_z w64 c.args.cmd)) z) (value_of c.control.result)) (to_z-of_z w64 c.args.arg c.ranges.arg)
+    subst (Answers numbers heap old.procs script plain pid (fcntl script plain pid c.args.on.now.fd c.args.cmd c.args.arg)) (sym c.value-reply.ensures)
+    (subst (λ z. Answers numbers heap old.procs script plain pid (fcntl script plain pid z c.args.cmd c.args.arg) (value_of c.control.result)) refl
+    (subst (λ z. Answers numbers heap old.procs script plain pid (fcntl script plain pid (to_z w64 (of_z w64 c.args.on.now.fd)) z c.args.arg) (value_of c.control.result)) (to_z-of_z w64 c.args.cmd c.ranges.cmd)
+    (subst (λ z. Answers numbers heap old.procs script plain pid (fcntl script plain pid (to_z w64 (of_z w64 c.args.on.now.fd)) (to_z w64 (of_z w64 c.args.cmd)) z) (value_of c.control.result)) (to_z-of_z w64 c.args.arg c.ranges.arg)
     (done.answers numbers script plain have)))))
 
 pub returns-clause-paid : goal.returns-clause-paid

@@ -20,19 +20,19 @@ pub read-told-requires-clause-alive : goal.read-told-requires-clause-alive
 read-told-requires-clause-alive c = runs_alive c.args.objects.now c.args.caller.now.place.pid c.args.caller.now.control c.requires.runs
 
 pub read-told-requires-clause-off : goal.read-told-requires-clause-off
-read-told-requires-clause-off c = subst (IsOffNodes c.args.objects.now.heap c.args.objects.now.procs c.args.caller.now.place.pid) (sym (to_z-of_z w64 c.args.fd c.ranges.fd)) c.requires.off
+read-told-requires-clause-off c = subst (IsOffNodes c.args.objects.now.heap c.args.objects.now.procs c.args.caller.now.place.pid) (sym refl) c.requires.off
 
 pub go_on_done-requires-clause-kept : goal.go_on_done-requires-clause-kept
 go_on_done-requires-clause-kept c =
     let some = c.requires.stands in
     let names = names_read c.args.script.now c.args.objects.now c.read-told.new.heap c.args.caller.now.place.pid _ _ _ c.read-told.result (c.read-told.ensures.leads c.args.script.now) c.requires.stands
-    (subst (IsOffNodes c.args.objects.now.heap c.args.objects.now.procs c.args.caller.now.place.pid) (sym (to_z-of_z w64 c.args.fd c.ranges.fd)) c.requires.off) in
+    (subst (IsOffNodes c.args.objects.now.heap c.args.objects.now.procs c.args.caller.now.place.pid) (sym refl) c.requires.off) in
     kept_mid c.args.script.now c.args.objects.now c.read-told.new.heap c.read-told.ensures.kept (leaves_rest c.args.objects.now.heap c.read-told.new.heap c.read-told.ensures.beside) names some.1.kept
 
 pub go_on_done-requires-clause-runs : goal.go_on_done-requires-clause-runs
 go_on_done-requires-clause-runs c =
     let names = names_read c.args.script.now c.args.objects.now c.read-told.new.heap c.args.caller.now.place.pid _ _ _ c.read-told.result (c.read-told.ensures.leads c.args.script.now) c.requires.stands
-    (subst (IsOffNodes c.args.objects.now.heap c.args.objects.now.procs c.args.caller.now.place.pid) (sym (to_z-of_z w64 c.args.fd c.ranges.fd)) c.requires.off) in
+    (subst (IsOffNodes c.args.objects.now.heap c.args.objects.now.procs c.args.caller.now.place.pid) (sym refl) c.requires.off) in
     runs_mid c.args.script.now c.args.objects.now c.read-told.new.heap c.read-told.ensures.kept (leaves_rest c.args.objects.now.heap c.read-told.new.heap c.read-told.ensures.beside) names
     c.args.caller.now.place.pid c.args.caller.now.control c.requires.runs
 
@@ -50,12 +50,12 @@ returns-clause-does c =
     let pid = c.args.caller.now.place.pid in
     let told = c.read-told.result in
     let names = names_read c.args.script.now c.args.objects.now c.read-told.new.heap c.args.caller.now.place.pid _ _ _ c.read-told.result (c.read-told.ensures.leads c.args.script.now) c.requires.stands
-    (subst (IsOffNodes c.args.objects.now.heap c.args.objects.now.procs c.args.caller.now.place.pid) (sym (to_z-of_z w64 c.args.fd c.ranges.fd)) c.requires.off) in
-    subst (λ t. Performs script old pid (call.Read c.args.fd c.args.addr c.args.n) (λ plain. read script plain pid c.args.fd c.args.addr c.args.n) t new) (sym c.go_on_done.ensures.told)
-    (performs script old heap c.read-told.ensures.kept (leaves_rest old.heap heap c.read-told.ensures.beside) names pid (call.Read c.args.fd c.args.addr c.args.n) (λ moved. ⊥) new
-    (λ plain. read script plain pid c.args.fd c.args.addr c.args.n) told
+    (subst (IsOffNodes c.args.objects.now.heap c.args.objects.now.procs c.args.caller.now.place.pid) (sym refl) c.requires.off) in
+    subst (λ t. Performs script old pid (call.Read c.args.on.now.fd c.args.addr c.args.n) (λ plain. read script plain pid c.args.on.now.fd c.args.addr c.args.n) t new) (sym c.go_on_done.ensures.told)
+    (performs script old heap c.read-told.ensures.kept (leaves_rest old.heap heap c.read-told.ensures.beside) names pid (call.Read c.args.on.now.fd c.args.addr c.args.n) (λ moved. ⊥) new
+    (λ plain. read script plain pid c.args.on.now.fd c.args.addr c.args.n) told
     (λ numbers plain account stands.
-    of_three (λ fd addr n. Leads script numbers heap old.procs plain account pid (call.Read fd addr n) (read script plain pid fd addr n) told) _ _ _ c.args.fd c.args.addr c.args.n
-    (to_z-of_z w64 c.args.fd c.ranges.fd) (to_z-of_z w64 c.args.addr c.ranges.addr) (to_z-of_z w64 c.args.n c.ranges.n) (c.read-told.ensures.leads script numbers plain account stands))
-    (λ world stands. read_leaves (λ moved. ⊥) script world.plain pid c.args.fd (off_world script old world pid c.args.fd stands c.requires.off) c.args.addr c.args.n)
+    of_three (λ fd addr n. Leads script numbers heap old.procs plain account pid (call.Read fd addr n) (read script plain pid fd addr n) told) _ _ _ c.args.on.now.fd c.args.addr c.args.n
+    refl (to_z-of_z w64 c.args.addr c.ranges.addr) (to_z-of_z w64 c.args.n c.ranges.n) (c.read-told.ensures.leads script numbers plain account stands))
+    (λ world stands. read_leaves (λ moved. ⊥) script world.plain pid c.args.on.now.fd (off_world script old world pid c.args.on.now.fd stands c.requires.off) c.args.addr c.args.n)
     (follows_done script (record { heap = heap; procs = old.procs; tree = old.tree; names = old.names }) pid (λ moved. ⊥) told new c.go_on_done.ensures.goes (λ moved is never. never)))

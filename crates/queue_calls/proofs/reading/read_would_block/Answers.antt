@@ -8,7 +8,18 @@ use Rattle.store_objects.proofs.RunningProcs.{alive_runs}
 use Rattle.queue_calls.proofs.Blocking.{blocks_right, blocks_wrong, no_fault}
 use Rattle.queue_calls.proofs.MovedNumbers.{of_three}
 use Rattle.queue_calls.proofs.Queueing.{is_kept, queues_stand}
+use Rattle.store_objects.proofs.Keeping.{listed_in}
 use Rattle.queue_calls.proofs.reading.read_would_block.Goals as goal
+
+-- the number that was looked up is that of the call
+same : (c : goal.After-opened-on) → c.opened-on.result.fd ≡ c.args.fd
+same c = c.opened-on.ensures.number ∙ to_z-of_z w64 c.args.fd c.ranges.fd
+
+pub opened-on-requires-clause-listed : goal.opened-on-requires-clause-listed
+opened-on-requires-clause-listed c = let some = c.requires.stands in listed_in some.0 c.args.objects.now some.2.kept
+
+pub opened-on-requires-clause-owners : goal.opened-on-requires-clause-owners
+opened-on-requires-clause-owners c = let some = c.requires.stands in some.2.kept.owners
 
 pub read_waits-requires-clause-kept : goal.read_waits-requires-clause-kept
 read_waits-requires-clause-kept c = let some = c.requires.stands in is_kept some.0 c.args.objects.now some.2.kept
@@ -17,23 +28,24 @@ pub read_waits-requires-clause-alive : goal.read_waits-requires-clause-alive
 read_waits-requires-clause-alive c = let some = c.requires.stands in alive_runs some.0 c.args.objects.now some.1.plain c.args.place.pid some.2.processes some.3
 
 pub read_waits-requires-clause-right : goal.read_waits-requires-clause-right
-read_waits-requires-clause-right c = no_fault _ (sym c.may_move.ensures ∙ c.if-may_move.true)
+read_waits-requires-clause-right c = no_fault _ (sym c.may_move.ensures ∙ c.if-not-may_move.false)
 
-pub returns-then-may_move : goal.returns-then-may_move
-returns-then-may_move c = λ script world stands.
+pub returns : goal.returns
+returns c = λ script world stands.
     let pid = c.args.place.pid in
     let fd = to_z-of_z w64 c.args.fd c.ranges.fd in
+    let found = same c in
     let addr = to_z-of_z w64 c.args.addr c.ranges.addr in
     let n = to_z-of_z w64 c.args.n c.ranges.n in
     let right = of_three (λ x y z. c.may_move.result ≡ is_none (moved_fault 0 y z)) _ _ _ c.args.fd c.args.addr c.args.n fd addr n c.may_move.ensures in
-    of_three (λ x y z. c.read_waits.result ≡ blocks (read script world.plain pid x y z)) _ _ _ c.args.fd c.args.addr c.args.n fd addr n
+    of_three (λ x y z. c.read_waits.result ≡ blocks (read script world.plain pid x y z)) _ _ _ c.args.fd c.args.addr c.args.n found addr n
     (c.read_waits.ensures script stands.files.numbers world.plain world.account (queues_stand script c.args.objects.now world stands))
-    ∙ sym (blocks_right script world.plain pid (moved_fault 0 c.args.addr c.args.n) (read script world.plain pid c.args.fd c.args.addr c.args.n) (sym right ∙ c.if-may_move.true))
+    ∙ sym (blocks_right script world.plain pid (moved_fault 0 c.args.addr c.args.n) (read script world.plain pid c.args.fd c.args.addr c.args.n) (sym right ∙ c.if-not-may_move.false))
 
-pub returns-else-may_move : goal.returns-else-may_move
-returns-else-may_move c = λ script world stands.
+pub returns-then-not-may_move : goal.returns-then-not-may_move
+returns-then-not-may_move c = λ script world stands.
     let fd = to_z-of_z w64 c.args.fd c.ranges.fd in
     let addr = to_z-of_z w64 c.args.addr c.ranges.addr in
     let n = to_z-of_z w64 c.args.n c.ranges.n in
     let right = of_three (λ x y z. c.may_move.result ≡ is_none (moved_fault 0 y z)) _ _ _ c.args.fd c.args.addr c.args.n fd addr n c.may_move.ensures in
-    c.if-may_move.false ∙ sym (blocks_wrong script world.plain c.args.place.pid (moved_fault 0 c.args.addr c.args.n) (read script world.plain c.args.place.pid c.args.fd c.args.addr c.args.n) (sym right ∙ c.if-may_move.false))
+    sym (blocks_wrong script world.plain c.args.place.pid (moved_fault 0 c.args.addr c.args.n) (read script world.plain c.args.place.pid c.args.fd c.args.addr c.args.n) (sym right ∙ c.if-not-may_move.true))

@@ -30,21 +30,21 @@ pub write-told-requires-clause-alive : goal.write-told-requires-clause-alive
 write-told-requires-clause-alive c = runs_alive c.args.objects.now c.args.caller.now.place.pid c.args.caller.now.control c.requires.runs
 
 pub write-told-requires-clause-off : goal.write-told-requires-clause-off
-write-told-requires-clause-off c = subst (IsOffNodes c.args.objects.now.heap c.args.objects.now.procs c.args.caller.now.place.pid) (sym (to_z-of_z w64 c.args.fd c.ranges.fd)) c.requires.off
+write-told-requires-clause-off c = subst (IsOffNodes c.args.objects.now.heap c.args.objects.now.procs c.args.caller.now.place.pid) (sym refl) c.requires.off
 
 pub do_part-requires-clause-kept : goal.do_part-requires-clause-kept
 do_part-requires-clause-kept c =
     let some = c.requires.stands in
     let names = names_written c.args.script.now c.args.objects.now c.write-told.new.heap c.args.caller.now.place.pid _ _ _ c.args.done c.write-told.result
     (c.write-told.ensures.leads c.args.script.now) c.requires.stands
-    (subst (IsOffNodes c.args.objects.now.heap c.args.objects.now.procs c.args.caller.now.place.pid) (sym (to_z-of_z w64 c.args.fd c.ranges.fd)) c.requires.off) in
+    (subst (IsOffNodes c.args.objects.now.heap c.args.objects.now.procs c.args.caller.now.place.pid) (sym refl) c.requires.off) in
     (c.args.script.now, kept_mid c.args.script.now c.args.objects.now c.write-told.new.heap c.write-told.ensures.kept (leaves_more c.args.objects.now.heap c.write-told.new.heap c.write-told.ensures.beside) names some.1.kept)
 
 pub do_part-requires-clause-runs : goal.do_part-requires-clause-runs
 do_part-requires-clause-runs c =
     let names = names_written c.args.script.now c.args.objects.now c.write-told.new.heap c.args.caller.now.place.pid _ _ _ c.args.done c.write-told.result
     (c.write-told.ensures.leads c.args.script.now) c.requires.stands
-    (subst (IsOffNodes c.args.objects.now.heap c.args.objects.now.procs c.args.caller.now.place.pid) (sym (to_z-of_z w64 c.args.fd c.ranges.fd)) c.requires.off) in
+    (subst (IsOffNodes c.args.objects.now.heap c.args.objects.now.procs c.args.caller.now.place.pid) (sym refl) c.requires.off) in
     runs_mid c.args.script.now c.args.objects.now c.write-told.new.heap c.write-told.ensures.kept (leaves_more c.args.objects.now.heap c.write-told.new.heap c.write-told.ensures.beside) names
     c.args.caller.now.place.pid c.args.caller.now.control c.requires.runs
 
@@ -58,13 +58,13 @@ do_part-requires-clause-fits c =
     let pid = c.args.caller.now.place.pid in
     let within : ℕ → Type 0 = λ moved. c.args.done + moved ≤ count_of c.args.n in
     let led = of_three (λ fd addr n. Leads script some.1.files.numbers c.write-told.new.heap old.procs plain some.0.account pid (call.Write fd addr n c.args.done) (write script plain pid fd addr n c.args.done) c.write-told.result)
-    _ _ _ c.args.fd c.args.addr c.args.n (to_z-of_z w64 c.args.fd c.ranges.fd) (to_z-of_z w64 c.args.addr c.ranges.addr) (to_z-of_z w64 c.args.n c.ranges.n)
+    _ _ _ c.args.on.now.fd c.args.addr c.args.n refl (to_z-of_z w64 c.args.addr c.ranges.addr) (to_z-of_z w64 c.args.n c.ranges.n)
     (c.write-told.ensures.leads script some.1.files.numbers plain some.0.account (queues_stand script old some.0 some.1)) in
-    let told : IsTold script plain pid (write script plain pid c.args.fd c.args.addr c.args.n c.args.done) (turned.Part c.in-Part.moved) led.next =
-    subst (λ t. IsTold script plain pid (write script plain pid c.args.fd c.args.addr c.args.n c.args.done) t led.next) c.in-Part.is led.told_so in
+    let told : IsTold script plain pid (write script plain pid c.args.on.now.fd c.args.addr c.args.n c.args.done) (turned.Part c.in-Part.moved) led.next =
+    subst (λ t. IsTold script plain pid (write script plain pid c.args.on.now.fd c.args.addr c.args.n c.args.done) t led.next) c.in-Part.is led.told_so in
     let more : c.args.done + c.in-Part.moved ≤ count_of c.args.n =
     part_told script plain pid within _ c.in-Part.moved led.next told
-    (write_leaves within script plain pid c.args.fd (off_world script old some.0 pid c.args.fd some.1 c.requires.off) c.args.addr c.args.n c.args.done (λ moved less. less)) in
+    (write_leaves within script plain pid c.args.on.now.fd (off_world script old some.0 pid c.args.on.now.fd some.1 c.requires.off) c.args.addr c.args.n c.args.done (λ moved less. less)) in
     let few = count_few c.args.addr c.args.n c.requires.right in
     let same = c.requires.so_far in
     omega arith
@@ -74,14 +74,14 @@ go_on_done-requires-clause-kept c =
     let some = c.requires.stands in
     let names = names_written c.args.script.now c.args.objects.now c.write-told.new.heap c.args.caller.now.place.pid _ _ _ c.args.done c.write-told.result
     (c.write-told.ensures.leads c.args.script.now) c.requires.stands
-    (subst (IsOffNodes c.args.objects.now.heap c.args.objects.now.procs c.args.caller.now.place.pid) (sym (to_z-of_z w64 c.args.fd c.ranges.fd)) c.requires.off) in
+    (subst (IsOffNodes c.args.objects.now.heap c.args.objects.now.procs c.args.caller.now.place.pid) (sym refl) c.requires.off) in
     kept_mid c.args.script.now c.args.objects.now c.write-told.new.heap c.write-told.ensures.kept (leaves_more c.args.objects.now.heap c.write-told.new.heap c.write-told.ensures.beside) names some.1.kept
 
 pub go_on_done-requires-clause-runs : goal.go_on_done-requires-clause-runs
 go_on_done-requires-clause-runs c =
     let names = names_written c.args.script.now c.args.objects.now c.write-told.new.heap c.args.caller.now.place.pid _ _ _ c.args.done c.write-told.result
     (c.write-told.ensures.leads c.args.script.now) c.requires.stands
-    (subst (IsOffNodes c.args.objects.now.heap c.args.objects.now.procs c.args.caller.now.place.pid) (sym (to_z-of_z w64 c.args.fd c.ranges.fd)) c.requires.off) in
+    (subst (IsOffNodes c.args.objects.now.heap c.args.objects.now.procs c.args.caller.now.place.pid) (sym refl) c.requires.off) in
     runs_mid c.args.script.now c.args.objects.now c.write-told.new.heap c.write-told.ensures.kept (leaves_more c.args.objects.now.heap c.write-told.new.heap c.write-told.ensures.beside) names
     c.args.caller.now.place.pid c.args.caller.now.control c.requires.runs
 
@@ -90,7 +90,7 @@ returns-in-Part-clause-kept c =
     let some = c.requires.stands in
     let names = names_written c.args.script.now c.args.objects.now c.write-told.new.heap c.args.caller.now.place.pid _ _ _ c.args.done c.write-told.result
     (c.write-told.ensures.leads c.args.script.now) c.requires.stands
-    (subst (IsOffNodes c.args.objects.now.heap c.args.objects.now.procs c.args.caller.now.place.pid) (sym (to_z-of_z w64 c.args.fd c.ranges.fd)) c.requires.off) in
+    (subst (IsOffNodes c.args.objects.now.heap c.args.objects.now.procs c.args.caller.now.place.pid) (sym refl) c.requires.off) in
     c.do_part.ensures.kept c.args.script.now
     (kept_mid c.args.script.now c.args.objects.now c.write-told.new.heap c.write-told.ensures.kept (leaves_more c.args.objects.now.heap c.write-told.new.heap c.write-told.ensures.beside) names some.1.kept)
 
@@ -129,11 +129,11 @@ returns-in-Part-clause-does c =
     let new = c.do_part.new.objects in
     let names = names_written c.args.script.now c.args.objects.now c.write-told.new.heap c.args.caller.now.place.pid _ _ _ c.args.done c.write-told.result
     (c.write-told.ensures.leads c.args.script.now) c.requires.stands
-    (subst (IsOffNodes c.args.objects.now.heap c.args.objects.now.procs c.args.caller.now.place.pid) (sym (to_z-of_z w64 c.args.fd c.ranges.fd)) c.requires.off) in
-    subst (λ t. Performs script old pid (call.Write c.args.fd c.args.addr c.args.n c.args.done) (λ plain. write script plain pid c.args.fd c.args.addr c.args.n c.args.done) t new)
+    (subst (IsOffNodes c.args.objects.now.heap c.args.objects.now.procs c.args.caller.now.place.pid) (sym refl) c.requires.off) in
+    subst (λ t. Performs script old pid (call.Write c.args.on.now.fd c.args.addr c.args.n c.args.done) (λ plain. write script plain pid c.args.on.now.fd c.args.addr c.args.n c.args.done) t new)
     (c.in-Part.is ∙ sym c.do_part.ensures.told)
-    (leads script old new c.write-told.new.heap pid c.args.fd c.args.addr c.args.n _ _ _ c.args.done c.write-told.result
-    (to_z-of_z w64 c.args.fd c.ranges.fd) (to_z-of_z w64 c.args.addr c.ranges.addr) (to_z-of_z w64 c.args.n c.ranges.n) c.write-told.ensures.kept c.write-told.ensures.beside names c.requires.off
+    (leads script old new c.write-told.new.heap pid c.args.on.now.fd c.args.addr c.args.n _ _ _ c.args.done c.write-told.result
+    refl (to_z-of_z w64 c.args.addr c.ranges.addr) (to_z-of_z w64 c.args.n c.ranges.n) c.write-told.ensures.kept c.write-told.ensures.beside names c.requires.off
     (c.write-told.ensures.leads script)
     (follows_part script (record { heap = c.write-told.new.heap; procs = old.procs; tree = old.tree; names = old.names }) pid (λ moved. c.args.done + moved ≤ count_of c.args.n) c.write-told.result new c.in-Part.moved
     c.in-Part.is (c.do_part.ensures.goes script)))
@@ -146,11 +146,11 @@ returns-in_default-clause-does c =
     let new = c.go_on_done.new.objects in
     let names = names_written c.args.script.now c.args.objects.now c.write-told.new.heap c.args.caller.now.place.pid _ _ _ c.args.done c.write-told.result
     (c.write-told.ensures.leads c.args.script.now) c.requires.stands
-    (subst (IsOffNodes c.args.objects.now.heap c.args.objects.now.procs c.args.caller.now.place.pid) (sym (to_z-of_z w64 c.args.fd c.ranges.fd)) c.requires.off) in
-    subst (λ t. Performs script old pid (call.Write c.args.fd c.args.addr c.args.n c.args.done) (λ plain. write script plain pid c.args.fd c.args.addr c.args.n c.args.done) t new)
+    (subst (IsOffNodes c.args.objects.now.heap c.args.objects.now.procs c.args.caller.now.place.pid) (sym refl) c.requires.off) in
+    subst (λ t. Performs script old pid (call.Write c.args.on.now.fd c.args.addr c.args.n c.args.done) (λ plain. write script plain pid c.args.on.now.fd c.args.addr c.args.n c.args.done) t new)
     (sym c.go_on_done.ensures.told)
-    (leads script old new c.write-told.new.heap pid c.args.fd c.args.addr c.args.n _ _ _ c.args.done c.write-told.result
-    (to_z-of_z w64 c.args.fd c.ranges.fd) (to_z-of_z w64 c.args.addr c.ranges.addr) (to_z-of_z w64 c.args.n c.ranges.n) c.write-told.ensures.kept c.write-told.ensures.beside names c.requires.off
+    (leads script old new c.write-told.new.heap pid c.args.on.now.fd c.args.addr c.args.n _ _ _ c.args.done c.write-told.result
+    refl (to_z-of_z w64 c.args.addr c.ranges.addr) (to_z-of_z w64 c.args.n c.ranges.n) c.write-told.ensures.kept c.write-told.ensures.beside names c.requires.off
     (c.write-told.ensures.leads script)
     (follows_done script (record { heap = c.write-told.new.heap; procs = old.procs; tree = old.tree; names = old.names }) pid (λ moved. c.args.done + moved ≤ count_of c.args.n) c.write-told.result new
     c.go_on_done.ensures.goes (λ moved is some. c.in_default.not-Part moved is)))

@@ -2,7 +2,7 @@ use Rattle.std.proofs.Common.{◌∙◌, length, ap, sym}
 use Rattle.proc_table.proofs.NumberLemmas.{numbers_all}
 use Rattle.proc_table.specs.Procs.{numbers_in}
 use Rattle.proc_numbers.specs.Having.{places_in}
-use Rattle.proc_numbers.proofs.opening.places_in.Goals as goal
+use Rattle.proc_numbers.proofs.opening.places_of.Goals as goal
 
 pub at-requires-clause-stored : goal.at-requires-clause-stored
 at-requires-clause-stored c = c.requires.listed.stored
