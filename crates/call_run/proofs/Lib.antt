@@ -14,6 +14,7 @@ pub mod Choosing
 pub mod Killing
 pub mod Ends
 pub mod Naming
+pub mod Numbering
 pub mod Needing
 pub mod Telling
 pub mod Minding

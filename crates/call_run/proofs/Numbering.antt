@@ -1,6 +1,5 @@
 -- The number that a call has, and whether it moves bytes.
 use Rattle.std.specs.Prelude.{ℕ, ℤ, ◌≡◌, List, Option, None, false, refl}
-use Rattle.kabi_types.specs.Call.{kind_of}
 use Rattle.kabi_types.specs.declared.calls.Call.{Call}
 use Rattle.kabi_types.specs.declared.calls.Call.TheVariants as call
 use Rattle.call_run.specs.Families.{is_moving, number_of}
@@ -48,7 +47,7 @@ no_number _ _ _ _ _ _ _ _ _ _ _ _ _ _ _ _ _ _ = refl
 -- ---- a call that moves no bytes
 
 pub no_bytes : (which : Call) → ((a b c : ℤ) → which ≡ call.Read a b c → ⊥) → ((a b c : ℤ) (done : ℕ) → which ≡ call.Write a b c done → ⊥)
-    → false ≡ is_moving (kind_of which)
+    → false ≡ is_moving which
 no_bytes (call.Read a b c) no _ = absurd (no a b c refl)
 no_bytes (call.Write a b c done) _ no = absurd (no a b c done refl)
 no_bytes _ _ _ = refl
