@@ -22,7 +22,7 @@ pub(crate) fn is_directory(info: &StatInfo) -> bool
     }
 }
 
-/// The offset that a description is at.
+/// The offset that a description is at. It is asked for by a call, since what a call tells is known to fit its type.
 pub(crate) fn offset_of(found: &Found) -> u64
     ensures { result ≡ found.now.desc.offset }
 {
