@@ -20,6 +20,7 @@ pub mod Telling
 pub mod Minding
 pub mod Asking
 pub mod Channels
+pub mod Touching
 pub mod Resting
 pub mod BytesCached
 pub mod SettledBlocks
