@@ -10,7 +10,7 @@ place_of-place-requires c = subst (AreRising 0) (sym c.as_slice.ensures.value) c
 pub returns-then-stands_at : goal.returns-then-stands_at
 returns-then-stands_at c =
     told_at c.self.inside.told.items c.as_slice.result.now c.as_slice-2.result.now c.args.pid c.place_of-place.result c.stands_at.result c.as_slice.ensures.value c.as_slice-2.ensures.value
-    c.self.invariant.rising c.place_of-place.ensures.place c.stands_at.ensures.stands c.deref.result.now _ c.deref.ensures.value c.stands_at.ensures.within c.if-stands_at.true
+    c.self.invariant.rising c.place_of-place.ensures.place c.stands_at.ensures.stands c.deref.result.now _ c.deref.ensures.0 c.stands_at.ensures.within c.if-stands_at.true
     ∙ ap (λ (s : SleepersView). told_of s.told c.args.pid) c.self.view_is
 
 pub returns-else-stands_at : goal.returns-else-stands_at
