@@ -1,33 +1,34 @@
 -- The loops that ask sleepers again, from the last to the first.
 use Rattle.std.proofs.Common.{◌≡◌, ◌≢◌, ◌==◌, ℕ, zero, suc, ◌+◌, ◌-◌, ◌<◌, ◌≤◌, ℤ, Bool, true, false, if◌then◌else◌, Option, None, Some, eqb-true, List, [], ◌∷◌, drop, length, slice_set, slice_index_or, remove, refl, ap, sym, ◌∙◌, subst, arith, length-set}
-use Rattle.std.specs.List.{AllByRecursion}
+use Rattle.std.specs.List.{AllByRecursion, refill}
 use Rattle.kabi_types.specs.declared.scripts.Script.{Script}
+use Rattle.posix_defs.specs.Machine.{would_block}
 use Rattle.posix_defs.specs.World.{World}
 use Rattle.posix_defs.specs.Process.{is_alive}
 use Rattle.store_objects.specs.declared.objects.Objects.{Objects}
 use Rattle.store_objects.specs.Standing.{StandsFor}
 use Rattle.call_run.specs.declared.sleepers.Sleeper.{Sleeper}
-use Rattle.call_run.specs.Sleepers.{AreFewer, AreNear, AreRising, AreTrulyTold, IsLookedAt, IsNear, IsTrulyTold, any_sleeper, is_asked, is_gone, is_known, is_learned, is_near, told_of}
-use Rattle.call_run.proofs.Telling.{each_other, rising_removed, rising_set, told_removed, told_set, told_there}
+use Rattle.call_run.specs.Sleepers.{AreFewer, AreNear, AreRising, AreTrulyTold, IsLookedAt, IsNear, IsTrulyTold, NamesMore, NamesOne, any_sleeper, is_asked, is_gone, is_known, is_learned, is_near, told_of}
+use Rattle.call_run.proofs.Telling.{each_other, names_set, read_any, rising_removed, rising_set, set_all, told_removed, told_set, told_there}
 
 -- ---- all are asked
 
 -- one is looked at: it is told truly of him and of those behind
 pub looked_truly : (script : Script) (objects : Objects) (place : ℕ) (old new : List Sleeper) → place < length old → IsLookedAt script objects old place new
     → AreTrulyTold script objects (drop (suc place) old) → AreTrulyTold script objects (drop place new)
-looked_truly script objects place old new within (is_asked sleeper same truly) behind = λ world stands. set place old within (truly world stands) (behind world stands)
+looked_truly script objects place old new within (is_asked sleeper same truly) behind = λ world stands. set (IsTrulyTold script world.plain) place old within (truly world stands) (behind world stands)
   where
-    set : {P : Sleeper → Type 0} (at : ℕ) (ts : List Sleeper) → at < length ts → P sleeper → AllByRecursion P (drop (suc at) ts) → AllByRecursion P (drop at (slice_set ts at sleeper))
-    set at [] inside here all = absurd (omega arith)
-    set zero (t ∷ ts) inside here all = (here, all)
-    set (suc at) (t ∷ ts) inside here all = set at ts (omega arith) here all
-looked_truly script objects place old new within is_gone behind = λ world stands. gone place old (behind world stands)
+    set : (P : Sleeper → Type 0) (at : ℕ) (ts : List Sleeper) → at < length ts → P sleeper → AllByRecursion P (drop (suc at) ts) → AllByRecursion P (drop at (slice_set ts at sleeper))
+    set P at [] inside here all = absurd (omega arith)
+    set P zero (t ∷ ts) inside here all = (here, all)
+    set P (suc at) (t ∷ ts) inside here all = set P at ts (omega arith) here all
+looked_truly script objects place old new within is_gone behind = λ world stands. gone (IsTrulyTold script world.plain) place old (behind world stands)
   where
-    gone : {P : Sleeper → Type 0} (at : ℕ) (ts : List Sleeper) → AllByRecursion P (drop (suc at) ts) → AllByRecursion P (drop at (remove ts at))
-    gone zero [] all = tt
-    gone (suc at) [] all = tt
-    gone zero (t ∷ ts) all = all
-    gone (suc at) (t ∷ ts) all = gone at ts all
+    gone : (P : Sleeper → Type 0) (at : ℕ) (ts : List Sleeper) → AllByRecursion P (drop (suc at) ts) → AllByRecursion P (drop at (remove ts at))
+    gone P zero [] all = tt
+    gone P (suc at) [] all = tt
+    gone P zero (t ∷ ts) all = all
+    gone P (suc at) (t ∷ ts) all = gone P at ts all
 
 pub looked_rising : (script : Script) (objects : Objects) (place : ℕ) (old new : List Sleeper) → place < length old → IsLookedAt script objects old place new → AreRising 0 old → AreRising 0 new
 looked_rising script objects place old new within (is_asked sleeper same truly) rising = rising_set old 0 place any_sleeper sleeper rising within same
@@ -44,6 +45,32 @@ looked_within script objects place old new within is_gone = removed old place wi
     removed (t ∷ ts) zero inside = omega arith
     removed (t ∷ ts) (suc at) inside = let later : at ≤ length (remove ts at) = removed ts at (omega arith) in omega arith
 
+-- one who lives was asked
+abbrev pub blank : Sleeper
+blank = record { pid = 0; blocks = false; apart = [] }
+
+module _ (told read : List Sleeper) (place : ℕ) (new : Sleeper) (reads : read ≡ told) (within : place < length told) where
+  its_pid : new.pid ≡ (slice_index_or read place blank).pid → new.pid ≡ (slice_index_or told place any_sleeper).pid
+  its_pid same =
+      same ∙ ap (λ (list : List Sleeper). (slice_index_or list place blank).pid) reads ∙ ap (λ (s : Sleeper). s.pid) (read_any told place blank any_sleeper within)
+
+  pub asked_looked : (script : Script) (objects : Objects) → new.pid ≡ (slice_index_or read place blank).pid
+      → ((world : World) → StandsFor script objects world
+      → (is_alive world.plain.table (slice_index_or read place blank).pid ≡ true) × (would_block script world.plain (slice_index_or read place blank).pid ≡ new.blocks))
+      → IsLookedAt script objects told place (refill (length told) told (slice_set read place new))
+  asked_looked script objects same truly =
+      subst (IsLookedAt script objects told place) (sym (set_all told read place new reads))
+      (is_asked new (its_pid same) (λ world stands.
+      let it = truly world stands in
+      record { alive = ap (is_alive world.plain.table) same ∙ it.0; blocks = ap (would_block script world.plain) same ∙ it.1 }))
+
+  pub asked_named : (named more : List ℕ) → AreRising 0 told → new.pid ≡ (slice_index_or read place blank).pid → NamesOne named (slice_index_or read place blank) new more
+      → NamesMore told named (refill (length told) told (slice_set read place new)) more
+  asked_named named more rising same one =
+      subst (λ ts. NamesMore told named ts more) (sym (set_all told read place new reads))
+      (names_set told place blank new named more rising within (same ∙ ap (λ (list : List Sleeper). (slice_index_or list place blank).pid) reads)
+      (subst (λ (list : List Sleeper). NamesOne named (slice_index_or list place blank) new more) reads one))
+
 -- ---- those who are near are asked
 
 -- those before a place are as they were
@@ -59,24 +86,24 @@ module _ (script : Script) (objects : Objects) (pid : ℕ) (fd : ℤ) (channel :
   near_none (sleeper ∷ told) near = (refl, near_none told near)
 
   near_more : (old new : List Sleeper) (near more : Bool) → (near ≡ true → more ≡ true) → AreNear script objects pid fd channel old new near → AreNear script objects pid fd channel old new more
-  near_more [] [] near more then asked = tt
-  near_more [] (y ∷ new) near more then asked = absurd asked
-  near_more (x ∷ old) [] near more then asked = absurd asked
-  near_more (x ∷ old) (y ∷ new) near more then asked =
-      ((asked.0.0, asked.0.1, (λ one. then (asked.0.2 one))), near_more old new near more then asked.1)
+  near_more [] [] near more leads asked = tt
+  near_more [] (y ∷ new) near more leads asked = absurd asked
+  near_more (x ∷ old) [] near more leads asked = absurd asked
+  near_more (x ∷ old) (y ∷ new) near more leads asked =
+      ((asked.0.0, asked.0.1, (λ one. leads (asked.0.2 one))), near_more old new near more leads asked.1)
 
   -- one more
   pub near_step : (place : ℕ) (old new : List Sleeper) (d sleeper : Sleeper) (one near more : Bool) → place < length new → (near ≡ true → more ≡ true) → (one ≡ true → more ≡ true)
       → IsNear script objects pid fd channel (slice_index_or new place d) sleeper one → AreNearFrom script objects pid fd channel (suc place) old new near
       → AreNearFrom script objects pid fd channel place old (slice_set new place sleeper) more
-  near_step zero [] new d sleeper one near more within then here is asked = absurd asked
-  near_step zero (x ∷ old) [] d sleeper one near more within then here is asked = absurd asked
-  near_step zero (x ∷ old) (y ∷ new) d sleeper one near more within then here is asked =
-      ((one, subst (λ s. IsNear script objects pid fd channel s sleeper one) asked.0 is, here), near_more old new near more then asked.1)
-  near_step (suc place) [] new d sleeper one near more within then here is asked = absurd asked
-  near_step (suc place) (x ∷ old) [] d sleeper one near more within then here is asked = absurd asked
-  near_step (suc place) (x ∷ old) (y ∷ new) d sleeper one near more within then here is asked =
-      (asked.0, near_step place old new d sleeper one near more (omega arith) then here is asked.1)
+  near_step zero [] new d sleeper one near more within leads here is asked = absurd asked
+  near_step zero (x ∷ old) [] d sleeper one near more within leads here is asked = absurd asked
+  near_step zero (x ∷ old) (y ∷ new) d sleeper one near more within leads here is asked =
+      ((one, subst (λ s. IsNear script objects pid fd channel s sleeper one) asked.0 is, here), near_more old new near more leads asked.1)
+  near_step (suc place) [] new d sleeper one near more within leads here is asked = absurd asked
+  near_step (suc place) (x ∷ old) [] d sleeper one near more within leads here is asked = absurd asked
+  near_step (suc place) (x ∷ old) (y ∷ new) d sleeper one near more within leads here is asked =
+      (asked.0, near_step place old new d sleeper one near more (omega arith) leads here is asked.1)
 
   -- who isn't looked at yet is alive as he was
   pub alive_there : (world : World) (place : ℕ) (old new : List Sleeper) (d : Sleeper) (near : Bool) → AreNearFrom script objects pid fd channel (suc place) old new near
@@ -102,6 +129,13 @@ module _ (script : Script) (objects : Objects) (pid : ℕ) (fd : ℤ) (channel :
   near_rising least (x ∷ old) (y ∷ new) near asked rising =
       let same = same_pid x y asked.0.0 asked.0.1 in
       (subst (λ n. least < n) (sym same) rising.0, subst (λ n. AreRising n new) (sym same) (near_rising x.pid old new near asked.1 rising.1))
+
+  -- as many as there were
+  pub near_length : (old new : List Sleeper) (near : Bool) → AreNear script objects pid fd channel old new near → length new ≡ length old
+  near_length [] [] near asked = refl
+  near_length [] (y ∷ new) near asked = absurd asked
+  near_length (x ∷ old) [] near asked = absurd asked
+  near_length (x ∷ old) (y ∷ new) near asked = ap (λ n. suc n) (near_length old new near asked.1)
 
 -- ---- of whom nothing was told nothing is
 

@@ -19,6 +19,8 @@ pub mod Needing
 pub mod Telling
 pub mod Minding
 pub mod Asking
+pub mod Channels
+pub mod Meeting
 pub mod Resting
 pub mod BytesCached
 pub mod SettledBlocks

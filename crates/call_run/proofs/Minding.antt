@@ -36,6 +36,7 @@ use Rattle.call_run.specs.declared.sleepers.Channel.{Channel}
 use Rattle.call_run.specs.declared.sleepers.Sleeper.{Sleeper}
 use Rattle.call_run.specs.declared.sleepers.Stirs.TheVariants.{Nobody, Through, Everybody}
 use Rattle.call_run.specs.Sleepers.{AreMinded, AreNear, HasBegun, IsApartAt, IsBehind, IsChannel, IsDoubted, IsNear, IsOf, IsPassed, IsToldApart, IsTrulyTold, KnowsChannels, StandsAsleep, begun, came_of, channel_at, doubted, has_stood, is_anew, is_known, is_learned, is_near, is_settled, lain, stirs_by, stirs_of, told_of, with_sleeper, without}
+use Rattle.call_run.proofs.Asking.{near_pid}
 use Rattle.call_run.proofs.Telling.{each_other, each_with, each_without, none_without}
 
 -- ---- lists
@@ -81,12 +82,7 @@ near_same P script objects pid fd channel near [] [] asked all = tt
 near_same P script objects pid fd channel near [] (one ∷ new) asked all = absurd asked
 near_same P script objects pid fd channel near (was ∷ old) [] asked all = absurd asked
 near_same P script objects pid fd channel near (was ∷ old) (one ∷ new) asked all =
-    (same asked.0.0 asked.0.1 all.0, near_same P script objects pid fd channel near old new asked.1 all.1)
-  where
-    same : (b : Bool) → IsNear script objects pid fd channel was one b → P was.pid → P one.pid
-    same false (is_known of told_apart) here = here
-    same false (is_learned of apart) here = here
-    same true (is_near of blocks apart blocked) here = here
+    (subst P (sym (near_pid script objects pid fd channel was one asked.0.0 asked.0.1)) all.0, near_same P script objects pid fd channel near old new asked.1 all.1)
 
 -- ---- what a process waits for has to do with what it had before
 
@@ -380,43 +376,44 @@ module _ (script : Script) (old new : World) (pid : ℕ) (fd : ℤ) (which : Cal
           ∙ subst (IsApartAt script old.plain sleeper at) is (begun.there at apart) told_apart
 
       module _ (objects : Objects) (stands : StandsFor script objects new) where
-        looked : (near : Bool) (sleeper one : Sleeper) → Begun place sleeper → (b : Bool) × IsNear script objects pid fd place sleeper one b × (b ≡ true → near ≡ true) → Looked objects near sleeper one
-        looked near sleeper one begun it = go it.0 it.1 it.2
-          where
-            alive : is_alive new.plain.table sleeper.pid ≡ true
-            alive = other_lives sleeper.pid begun.other begun.truly.alive
+        alive_behind : (sleeper : Sleeper) → Begun place sleeper → is_alive new.plain.table sleeper.pid ≡ true
+        alive_behind sleeper begun = other_lives sleeper.pid begun.other begun.truly.alive
 
-            still : is_apart script old.plain sleeper.pid pid fd ≡ true → IsTrulyTold script new.plain sleeper
-            still apart =
-                let stays = other_apart sleeper.pid begun.other begun.truly.alive apart in
-                record { alive = alive; blocks = stays.waits ∙ begun.truly.blocks }
+        still : (sleeper : Sleeper) → Begun place sleeper → is_apart script old.plain sleeper.pid pid fd ≡ true → IsTrulyTold script new.plain sleeper
+        still sleeper begun apart =
+            let stays = other_apart sleeper.pid begun.other begun.truly.alive apart in
+            record { alive = alive_behind sleeper begun; blocks = stays.waits ∙ begun.truly.blocks }
 
-            go : (b : Bool) → IsNear script objects pid fd place sleeper one b → (b ≡ true → near ≡ true) → Looked objects near sleeper one
-            go false (is_known of told_apart) more =
-                let was = begun.here told_apart in record {
-                  same = refl;
-                  truly = still was;
-                  here = λ _. here_same sleeper.pid begun.other begun.truly.alive ∙ was;
-                  there = from_there sleeper begun;
-                  quiet = λ _. here_same sleeper.pid begun.other begun.truly.alive ∙ was;
-                }
-            go false (is_learned of apart) more =
-                let now = apart new stands alive in
-                let was = still (sym (here_same sleeper.pid begun.other begun.truly.alive) ∙ now) in record {
-                  same = refl;
-                  truly = record { alive = alive; blocks = was.blocks };
-                  here = λ _. now;
-                  there = λ at other channel is stays told_apart.
-                      from_there sleeper begun at other channel is stays (sym (get_set_other sleeper.apart place at true other) ∙ told_apart);
-                  quiet = λ _. now;
-                }
-            go true (is_near of blocks apart blocked) more = record {
+        looked_by : (near : Bool) (sleeper one : Sleeper) (b : Bool) → Begun place sleeper → IsNear script objects pid fd place sleeper one b → (b ≡ true → near ≡ true)
+            → Looked objects near sleeper one
+        looked_by near sleeper one b begun (is_known of told_apart) more =
+            let was = begun.here told_apart in record {
               same = refl;
-              truly = record { alive = alive; blocks = blocked new stands alive };
-              here = λ told_apart. absurd (apart told_apart);
-              there = from_there sleeper begun;
-              quiet = λ none. true_false (more refl) none;
+              truly = still of begun was;
+              here = λ _. here_same of.pid begun.other begun.truly.alive ∙ was;
+              there = from_there of begun;
+              quiet = λ _. here_same of.pid begun.other begun.truly.alive ∙ was;
             }
+        looked_by near sleeper one b begun (is_learned of apart) more =
+            let now = apart new stands (alive_behind of begun) in
+            let was = still of begun (sym (here_same of.pid begun.other begun.truly.alive) ∙ now) in record {
+              same = refl;
+              truly = record { alive = alive_behind of begun; blocks = was.blocks };
+              here = λ _. now;
+              there = λ at other channel is stays told_apart.
+                  from_there of begun at other channel is stays (sym (get_set_other of.apart place at true other) ∙ told_apart);
+              quiet = λ _. now;
+            }
+        looked_by near sleeper one b begun (is_near of blocks apart blocked) more = record {
+          same = refl;
+          truly = record { alive = alive_behind of begun; blocks = blocked new stands (alive_behind of begun) };
+          here = λ told_apart. absurd (apart told_apart);
+          there = from_there of begun;
+          quiet = λ none. true_false (more refl) none;
+        }
+
+        looked : (near : Bool) (sleeper one : Sleeper) → Begun place sleeper → (b : Bool) × IsNear script objects pid fd place sleeper one b × (b ≡ true → near ≡ true) → Looked objects near sleeper one
+        looked near sleeper one begun it = looked_by near sleeper one it.0 begun it.1 it.2
 
         module _ (near : Bool) where
           -- so it is of all
@@ -638,9 +635,18 @@ stands_asleep script objects old new pid which told sleepers channels behind cam
       alive = ap (λ (plain : Plain). is_alive plain.table pid) tells.1 ∙ alive;
       blocks = ap (λ (plain : Plain). would_block script plain pid) tells.1 ∙ ap blocks is;
     }
-    by (Done said next) is tells alive = cc
-    by (Part moved next) is tells alive = cc
-    by (Ended status next) is tells alive = cc
+    by (Done said next) is tells alive = absurd (other_than (sym tells.0 ∙ asleep))
+      where
+        other_than : turned.Done said ≡ turned.Sleep → ⊥
+        other_than e = cc
+    by (Part moved next) is tells alive = absurd (other_than (sym tells.0 ∙ asleep))
+      where
+        other_than : turned.Part moved ≡ turned.Sleep → ⊥
+        other_than e = cc
+    by (Ended status next) is tells alive = absurd (other_than (sym tells.0 ∙ asleep))
+      where
+        other_than : turned.Ended status ≡ turned.Sleep → ⊥
+        other_than e = cc
 
     go : (lives : Bool) → is_alive old.plain.table pid ≡ lives → TurnsWhere lives script old pid which told new → StandsAsleep script new pid sleepers channels
     go true is answers =

@@ -1,7 +1,8 @@
 -- The sleepers of whom something is told: where each stands among them, and what is told of whom when they change.
-use Rattle.std.proofs.Common.{◌≡◌, ◌≢◌, ℕ, zero, suc, ◌+◌, ◌-◌, ◌<◌, ◌≤◌, ◌==◌, ◌||◌, nat_lt, not, Bool, true, false, cond, if◌then◌else◌, List, [], ◌∷◌, ◌++◌, length, filter, Option, None, Some, slice_get, slice_set, slice_index_or, remove, refl, ap, sym, ◌∙◌, subst, arith, min, map, ℤ}
+use Rattle.std.proofs.Common.{◌≡◌, ◌≢◌, ℕ, zero, suc, ◌+◌, ◌-◌, ◌<◌, ◌≤◌, ◌==◌, ◌||◌, nat_lt, not, Bool, true, false, cond, if◌then◌else◌, List, [], ◌∷◌, ◌++◌, length, filter, Option, None, Some, slice_get, slice_set, slice_index_or, remove, refl, ap, sym, ◌∙◌, subst, arith, min, map, ℤ, length-set}
 use Rattle.std.specs.Prelude.{insert}
-use Rattle.std.specs.List.{AllByRecursion, list_any}
+use Rattle.std.specs.List.{AllByRecursion, list_any, refill}
+use Rattle.arrayvec.proofs.ArrayVecLemmas.{items-with_items}
 use borrow.Author.Tests.{eqb-true, eq-eqb, le-ltb, lt-ltb, ltb-false, ltb-true}
 use Rattle.posix_defs.specs.Minding.{HasNamed, is_among}
 use Rattle.call_run.specs.declared.sleepers.Channel.{Channel}
@@ -168,7 +169,8 @@ lower least more [] less rising = tt
 lower least more (sleeper ∷ told) less rising = ((let here : more < sleeper.pid = rising.0 in omega arith), rising.1)
 
 pub rising_removed : (told : List Sleeper) (least i : ℕ) → AreRising least told → AreRising least (remove told i)
-rising_removed [] least i rising = tt
+rising_removed [] least zero rising = tt
+rising_removed [] least (suc i) rising = tt
 rising_removed (sleeper ∷ told) least zero rising = lower least sleeper.pid told (let here : least < sleeper.pid = rising.0 in omega arith) rising.1
 rising_removed (sleeper ∷ told) least (suc i) rising = (rising.0, rising_removed told sleeper.pid i rising.1)
 
@@ -220,7 +222,7 @@ each_other (sleeper ∷ told) pid none = go (sleeper.pid == pid) refl none (each
         → (told_of told pid ≡ None → AllByRecursion (λ one. one.pid ≢ pid) told) → AllByRecursion (λ one. one.pid ≢ pid) (sleeper ∷ told)
     go true e f later = absurd (never f)
       where
-        never : {b : Bool} {o : Option Bool} → Some b ≡ None → ⊥
+        never : {b : Bool} → Some b ≡ None → ⊥
         never g = cc
     go false e f later = ((λ same. both (eq-eqb sleeper.pid pid same) e), later f)
 
@@ -322,6 +324,62 @@ told_set (sleeper ∷ told) least (suc i) who d new rising within same = go (sle
         let here : sleeper.pid < (slice_index_or told i d).pid = above_first told sleeper.pid i d rising.1 (omega arith) in
         sym (ap (λ b. if b then Some new.blocks else Some sleeper.blocks) (above new.pid who (omega arith)))
     go false e later = later
+
+-- ---- what is read of a list of sleepers
+
+-- a place within is read the same whatever stands for one that isn't
+pub read_any : (told : List Sleeper) (i : ℕ) (d e : Sleeper) → i < length told → slice_index_or told i d ≡ slice_index_or told i e
+read_any [] i d e within = absurd (omega arith)
+read_any (sleeper ∷ told) zero d e within = refl
+read_any (sleeper ∷ told) (suc i) d e within = read_any told i d e (omega arith)
+
+-- where the process stands at its place he is told of, and gone when that is taken out; where he doesn't stand there, nothing is told of him
+module _ (told ts us : List Sleeper) (pid place : ℕ) (stands : Bool) (same : ts ≡ told) (also : us ≡ told) (rising : AreRising 0 told) (is : place ≡ place_in ts pid)
+    (is_there : stands ≡ stands_in us place pid) where
+  its_place : place ≡ place_in told pid
+  its_place = is ∙ ap (λ list. place_in list pid) same
+
+  stands_so : stands ≡ stands_in told (place_in told pid) pid
+  stands_so = is_there ∙ ap (λ list. stands_in list place pid) also ∙ ap (λ n. stands_in told n pid) its_place
+
+  pub gone_at : stands ≡ true → remove told place ≡ without told pid
+  gone_at e = ap (remove told) its_place ∙ without_at told 0 pid rising (sym stands_so ∙ e)
+
+  pub untold_at : stands ≡ false → told_of told pid ≡ None
+  untold_at e = none_at told 0 pid rising (sym stands_so ∙ e)
+
+  pub told_at : (read : List Sleeper) (d : Sleeper) → read ≡ told → (stands ≡ true → place < length us) → stands ≡ true → Some (slice_index_or read place d).blocks ≡ told_of told pid
+  told_at read d reads within e =
+      ap (λ list. Some (slice_index_or list place d).blocks) reads
+      ∙ sym (found_at told pid place d rising (subst (λ list. place < length list) also (within e)) (sym (ap (λ list. stands_in list place pid) also) ∙ sym is_there ∙ e))
+
+-- who stands in at his place stands among those who rise by pid
+pub inserted_at : (told ts : List Sleeper) (new : Sleeper) (place : ℕ) → ts ≡ told → place ≡ place_in ts new.pid → insert told place new ≡ with_sleeper told new
+inserted_at told ts new place same is = ap (λ n. insert told n new) (is ∙ ap (λ list. place_in list new.pid) same) ∙ inserted told new
+
+-- ---- a list is written as a slice
+
+pub refilled : (old new : List Sleeper) → length new ≡ length old → refill (length old) old new ≡ new
+refilled old new same = items-with_items (record { items = old }) new same
+
+-- ---- where a channel begins
+
+begun_length : (place : ℕ) (told : List Sleeper) → length (map (begun place) told) ≡ length told
+begun_length place [] = refl
+begun_length place (sleeper ∷ told) = ap (λ n. suc n) (begun_length place told)
+
+pub begun_rising : (place least : ℕ) (told : List Sleeper) → AreRising least told → AreRising least (map (begun place) told)
+begun_rising place least [] rising = tt
+begun_rising place least (sleeper ∷ told) rising = (rising.0, begun_rising place sleeper.pid told rising.1)
+
+pub begun_all : (place : ℕ) (old middle now : List Sleeper) → middle ≡ old → now ≡ map (begun place) middle → refill (length old) old now ≡ map (begun place) old
+begun_all place old middle now same is =
+    ap (refill (length old) old) (is ∙ ap (map (begun place)) same) ∙ refilled old (map (begun place) old) (begun_length place old)
+
+-- a place is written
+pub set_all : (old middle : List Sleeper) (i : ℕ) (sleeper : Sleeper) → middle ≡ old → refill (length old) old (slice_set middle i sleeper) ≡ slice_set old i sleeper
+set_all old middle i sleeper same =
+    ap (λ list. refill (length old) old (slice_set list i sleeper)) same ∙ refilled old (slice_set old i sleeper) (length-set old i sleeper)
 
 -- ---- who is named
 

@@ -1,7 +1,7 @@
 use Rattle.std.proofs.Common.{◌≡◌, ◌<◌, ◌≤◌, ◌+◌, ◌-◌, suc, drop, length, ap, sym, subst, ◌∙◌, arith}
 use Rattle.std.proofs.lemmas.List.{drop_all}
 use Rattle.call_run.specs.Sleepers.{AreTrulyTold}
-use Rattle.call_run.proofs.Asking.{looked_rising, looked_truly, looked_within}
+use Rattle.call_run.proofs.Asking.{looked_fewer, looked_rising, looked_truly, looked_within}
 use Rattle.call_run.proofs.Telling.{names_same, names_then}
 use Rattle.call_run.proofs.sleepers.ask_each.Goals as goal
 
@@ -9,8 +9,9 @@ pub loop-place-init : goal.loop-place-init
 loop-place-init c = record {
   within = omega (arith, c.len-place.ensures);
   rising = c.requires.rising;
-  truly = λ world stands.
-      subst (λ ts. AreTrulyTold c.args.script.now c.args.objects.now ts) (sym (drop_all _ _ (omega (arith, c.len-place.ensures)))) (λ w s. tt) world stands;
+  truly =
+      subst (AreTrulyTold c.args.script.now c.args.objects.now) (sym (drop_all c.len-place.result c.args.told.now.items (omega (arith, c.len-place.ensures)))) (λ world stands. tt);
+  fewer = λ who none. none;
   named = names_same c.args.told.now.items c.args.stirred.now.items;
   room = omega (arith, c.len-place.ensures);
 }
@@ -27,7 +28,7 @@ look_at-requires-clause-rising c = c.loop-place.invariant.rising
 pub look_at-requires-clause-room : goal.look_at-requires-clause-room
 look_at-requires-clause-room c =
     let some : 0 < c.loop-place.place = c.loop-place-test.true in
-    let room : length c.loop-place.stirred.items + c.loop-place.place ≤ length c.args.stirred.now.items + length c.args.told.now.items = c.loop-place.invariant.room in
+    let room : length c.loop-place.stirred.items + c.loop-place.place ≤ length c.args.stirred.now.items + 64 = c.loop-place.invariant.room in
     omega (arith, c.requires.room)
 
 pub loop-place-preserved : goal.loop-place-preserved
@@ -42,9 +43,11 @@ loop-place-preserved c =
       truly =
           looked_truly c.args.script.now c.args.objects.now _ _ _ within c.look_at.ensures.looked
           (subst (λ n. AreTrulyTold c.args.script.now c.args.objects.now (drop n c.loop-place.told.items)) (sym next) c.loop-place.invariant.truly);
+      fewer = λ who none.
+          looked_fewer c.args.script.now c.args.objects.now _ _ _ within c.loop-place.invariant.rising c.look_at.ensures.looked who (c.loop-place.invariant.fewer who none);
       named = names_then _ _ _ _ _ _ c.loop-place.invariant.named c.look_at.ensures.named;
       room =
-          let room : length c.loop-place.stirred.items + c.loop-place.place ≤ length c.args.stirred.now.items + length c.args.told.now.items = c.loop-place.invariant.room in
+          let room : length c.loop-place.stirred.items + c.loop-place.place ≤ length c.args.stirred.now.items + 64 = c.loop-place.invariant.room in
           omega (arith, c.look_at.ensures.room);
     }
 

@@ -1,5 +1,5 @@
 use Rattle.std.proofs.Common.{◌≤◌, ◌+◌, drop, length}
-use Rattle.call_run.specs.Sleepers.{AreRising, AreTrulyTold, NamesMore}
+use Rattle.call_run.specs.Sleepers.{AreFewer, AreRising, AreTrulyTold, NamesMore}
 use Rattle.call_run.proofs.sleepers.ask_each.Given as goal
 
 -- those from this place on were looked at
@@ -8,8 +8,9 @@ invariant-loop-place l = record {
   within : l.place ≤ length l.told.items;
   rising : AreRising 0 l.told.items;
   truly : AreTrulyTold l.script l.objects (drop l.place l.told.items);
+  fewer : AreFewer l.fn.told.items l.told.items;
   named : NamesMore l.fn.told.items l.fn.stirred.items l.told.items l.stirred.items;
-  room : length l.stirred.items + l.place ≤ length l.fn.stirred.items + length l.fn.told.items;
+  room : length l.stirred.items + l.place ≤ length l.fn.stirred.items + 64;
 }
 
 abbrev pub decreases-loop-place : goal.decreases-loop-place

@@ -1,4 +1,4 @@
-use Rattle.std.proofs.Common.{◌≡◌, None, refl, sym, subst}
+use Rattle.std.proofs.Common.{◌≡◌, None, [], refl, sym, subst}
 use Rattle.call_run.specs.Sleepers.{told_of}
 use Rattle.call_run.proofs.Minding.{up_behind}
 use Rattle.call_run.proofs.Telling.{names_then, none_without}
@@ -21,4 +21,4 @@ returns-clause-minded c = λ old new told behind came.
     (up_behind c.args.script.now c.args.objects.now old new c.args.pid c.args.call.now told _ _ behind _ _ c.get_up.ensures.told c.get_up.ensures.channels) came
 
 pub returns-clause-named : goal.returns-clause-named
-returns-clause-named c = names_then _ _ _ _ _ _ c.get_up.ensures.named c.stir.ensures.named
+returns-clause-named c = names_then _ _ _ [] _ _ c.get_up.ensures.named c.stir.ensures.named

@@ -37,4 +37,4 @@ returns-clause-minded c = λ old new told behind came.
     ]
 
 pub returns-clause-named : goal.returns-clause-named
-returns-clause-named c = names_all _ _ [] _ refl (names_then _ _ _ _ _ _ c.go_on.ensures.named c.lie_down.ensures.named)
+returns-clause-named c = names_all _ _ [] _ refl (names_then _ _ _ [] _ _ c.go_on.ensures.named c.lie_down.ensures.named)

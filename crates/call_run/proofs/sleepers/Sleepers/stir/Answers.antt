@@ -1,4 +1,7 @@
-use Rattle.std.proofs.Common.{◌≡◌, sym, ap, subst, ◌∙◌}
+use Rattle.std.proofs.Common.{◌≡◌, sym, ap, rules, subst, w64, ◌∙◌}
+use Rattle.std.proofs.lemmas.Int.{to_z-of_z}
+use mir.Val.{of_z, to_z}
+use Rattle.call_run.specs.declared.sleepers.Stirs.TheVariants.{Through}
 use Rattle.call_run.specs.Sleepers.{AreMinded, came_of, stirs_of}
 use Rattle.call_run.proofs.Minding.{nobody_forgotten, nobody_stirred}
 use Rattle.call_run.proofs.sleepers.Sleepers.stir.Goals as goal
@@ -6,11 +9,13 @@ use Rattle.call_run.proofs.sleepers.Sleepers.stir.Goals as goal
 pub touch-requires-clause-behind : goal.touch-requires-clause-behind
 touch-requires-clause-behind c =
     let b = c.requires.behind in
-    (b.0, b.1, c.args.call.now, b.2, b.3, ap (stirs_of c.args.call.now) (sym b.4) ∙ sym c.stirs_of.ensures ∙ c.in-Through.is)
+    let fd : to_z w64 (of_z w64 c.in-Through.fd) ≡ c.in-Through.fd = search (rules, to_z-of_z) in
+    (b.0, b.1, c.args.call.now, b.2, b.3, ap (stirs_of c.args.call.now) (sym b.4) ∙ sym c.stirs_of.ensures ∙ c.in-Through.is ∙ ap Through (sym fd))
 
 pub returns-in-Through-clause-minded : goal.returns-in-Through-clause-minded
 returns-in-Through-clause-minded c = λ old new told behind came.
-    c.touch.ensures.minded old new c.args.call.now told behind (ap (stirs_of c.args.call.now) (sym came) ∙ sym c.stirs_of.ensures ∙ c.in-Through.is)
+    let fd : to_z w64 (of_z w64 c.in-Through.fd) ≡ c.in-Through.fd = search (rules, to_z-of_z) in
+    c.touch.ensures.minded old new c.args.call.now told behind (ap (stirs_of c.args.call.now) (sym came) ∙ sym c.stirs_of.ensures ∙ c.in-Through.is ∙ ap Through (sym fd))
 
 pub ask_all-requires-clause-stands : goal.ask_all-requires-clause-stands
 ask_all-requires-clause-stands c = let b = c.requires.behind in (b.1, let behind = b.3 in behind.stands)
