@@ -31,7 +31,6 @@ EXCEPTIONS = {
     ("kheap_laws", "new_pipe"): "a worked call: its contract follows from those of the heap and from laws",
     ("vnode_cache", "forget"): "the three caches answer to the same calls",
     ("desc_table", "set"): "a table of descriptors by itself; a process's are set in its Proc",
-    ("desc_table", "clear"): "a table of descriptors by itself; a process's are set in its Proc",
     ("prog_ctl", "next_call"): "the next call, and where its caller stands then; the store asks for one at a time",
     ("kern_events", "default_event"): "what a run takes that chooses nothing; the program picks by numbers, by ends or by workers",
     ("kern_events", "step"): "an event, and what is noted of it; the program reads what was noted when the run has ended",

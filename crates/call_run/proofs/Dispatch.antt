@@ -15,7 +15,7 @@ use Rattle.store_objects.specs.declared.objects.Objects.{Objects}
 use Rattle.store_objects.specs.Standing.{Performs}
 use Rattle.store_objects.specs.Walking.{Reaches, Serves}
 use Rattle.call_run.proofs.Reaching.{served, unnamed_served}
-use Rattle.call_run.specs.Families.{HasDone}
+use Rattle.call_run.specs.Families.{HasDone, number_of}
 
 -- a wrong operand is told
 pub wrong_told : (script : Script) (plain : Plain) (pid : ℕ) (fault : Option Errno) (errno : Errno) (answer : Answer) → fault ≡ Some errno
@@ -49,9 +49,25 @@ module _ {which : Call} where
   spelt_four of {a} {b} {c} {d} is one other third fourth =
       spelt_three (λ x y z. of x y z d) is one other third ∙ ap (of (to_z w64 (of_z w64 a)) (to_z w64 (of_z w64 b)) (to_z w64 (of_z w64 c))) (sym fourth)
 
--- the number is handed on as it was found
-pub named_as : (which : Call) (of : ℤ → Call) (a b : ℤ) → which ≡ of a → b ≡ a → which ≡ of b
-named_as which of a b is same = is ∙ ap of (sym same)
+-- ---- the number is handed on as it was found
+
+module _ {which : Call} {n : ℤ} (names : (fd : ℤ) → number_of which ≡ Some fd → n ≡ fd) where
+  pub numbered : {a : ℤ} → number_of which ≡ Some a → number_of which ≡ Some n
+  numbered {a} has = has ∙ ap Some (sym (names a has))
+
+  pub named_one : (of : ℤ → Call) {a : ℤ} → which ≡ of a → number_of (of a) ≡ Some a → which ≡ of n
+  named_one of {a} is has = is ∙ ap of (sym (names a (ap number_of is ∙ has)))
+
+  pub named_two : (of : ℤ → ℤ → Call) {a b : ℤ} → which ≡ of a b → number_of (of a b) ≡ Some a → to_z w64 (of_z w64 b) ≡ b → which ≡ of n (to_z w64 (of_z w64 b))
+  named_two of {b} is has = spelt_one (of n) (named_one (λ x. of x b) is has)
+
+  pub named_three : (of : ℤ → ℤ → ℤ → Call) {a b c : ℤ} → which ≡ of a b c → number_of (of a b c) ≡ Some a → to_z w64 (of_z w64 b) ≡ b → to_z w64 (of_z w64 c) ≡ c
+      → which ≡ of n (to_z w64 (of_z w64 b)) (to_z w64 (of_z w64 c))
+  named_three of {b} {c} is has = spelt_two (of n) (named_one (λ x. of x b c) is has)
+
+  pub named_four : (of : ℤ → ℤ → ℤ → ℤ → Call) {a b c d : ℤ} → which ≡ of a b c d → number_of (of a b c d) ≡ Some a → to_z w64 (of_z w64 b) ≡ b → to_z w64 (of_z w64 c) ≡ c
+      → to_z w64 (of_z w64 d) ≡ d → which ≡ of n (to_z w64 (of_z w64 b)) (to_z w64 (of_z w64 c)) (to_z w64 (of_z w64 d))
+  named_four of {b} {c} {d} is has = spelt_three (of n) (named_one (λ x. of x b c d) is has)
 
 -- ---- what a call does that is another, spelt in other words
 

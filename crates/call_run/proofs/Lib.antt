@@ -14,11 +14,13 @@ pub mod Choosing
 pub mod Killing
 pub mod Ends
 pub mod Naming
+pub mod Numbering
 pub mod Needing
 pub mod Telling
 pub mod Minding
 pub mod Asking
 pub mod Channels
+pub mod Meeting
 pub mod Resting
 pub mod BytesCached
 pub mod SettledBlocks

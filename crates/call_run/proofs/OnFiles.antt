@@ -1,8 +1,7 @@
 -- Which calls move bytes of a file or a directory that is open.
-use Rattle.std.proofs.Common.{◌≡◌, ℕ, zero, suc, ℤ, true, false, Option, None, Some, refl, sym, subst, arith}
+use Rattle.std.proofs.Common.{◌≡◌, ℕ, zero, suc, ℤ, true, false, Option, None, Some, ap, refl, sym, ◌∙◌, subst, arith}
 use Rattle.kabi_types.specs.declared.calls.Call.{Call}
 use Rattle.kabi_types.specs.declared.calls.Call.TheVariants as call
-use Rattle.kabi_types.specs.Call.{kind_of}
 use Rattle.kheap_slabs.specs.Heap.{Heap}
 use Rattle.posix_defs.specs.Calls.Opened.{Opened, opened_at}
 use Rattle.posix_defs.specs.Files.Descriptions.{Target, OnNode, OnPipe, OnSocket}
@@ -37,8 +36,8 @@ fresh_on files pid (call.Write at addr n done) fd is on half = let same : fd ≡
     fresh_of files pid at addr n done (subst (λ z. is_on_node files (opened_at files pid z) ≡ true) same on) half
 fresh_on files pid _ fd is on half = tt
 
-pub fresh_is : (which : Call) (fd addr n : ℤ) (done : ℕ) → which ≡ call.Write fd addr n done → IsFresh which → done ≡ 0
-fresh_is which fd addr n done is fresh = subst IsFresh is fresh
+pub written_anew : {which : Call} {fd addr n : ℤ} {done : ℕ} → which ≡ call.Write fd addr n done → IsFresh which → which ≡ call.Write fd addr n 0
+written_anew {fd} {addr} {n} is fresh = is ∙ ap (call.Write fd addr n) (subst IsFresh is fresh)
 
 -- ---- what a call moves bytes of is what its number names
 
@@ -54,11 +53,11 @@ off_files h kept pid _ fd is off = tt
 
 -- ---- a call that moves no bytes
 
-pub other_on : (h : Heap) (kept : TableView) (pid : ℕ) (which : Call) → is_moving (kind_of which) ≡ false → IsOnFile h kept pid which
+pub other_on : (h : Heap) (kept : TableView) (pid : ℕ) (which : Call) → is_moving which ≡ false → IsOnFile h kept pid which
 other_on h kept pid (call.Read a b c) still = never (sym still)
 other_on h kept pid (call.Write a b c done) still = never (sym still)
 other_on h kept pid _ still = tt
 
-pub other_fresh : (which : Call) → is_moving (kind_of which) ≡ false → IsFresh which
+pub other_fresh : (which : Call) → is_moving which ≡ false → IsFresh which
 other_fresh (call.Write a b c done) still = never (sym still)
 other_fresh _ still = tt

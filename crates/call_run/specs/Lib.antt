@@ -3,3 +3,4 @@ pub mod Touching
 pub mod Stores
 pub mod Families
 pub mod Weights
+pub mod Settled

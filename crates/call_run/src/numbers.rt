@@ -1,7 +1,6 @@
 //! The number that a call has, and what it names, found once for each turn; and what a call that moves bytes moves them of.
 
 ghost use Rattle.std.specs.Prelude.{◌≡◌, ℕ, ℤ, Some, false};
-ghost use Rattle.kabi_types.specs.Call.{kind_of};
 ghost use Rattle.kabi_types.specs.declared.scripts.Script.{Script};
 ghost use Rattle.kheap_slabs.specs.Heap.{Heap};
 ghost use Rattle.posix_defs.specs.World.{World};
@@ -60,7 +59,7 @@ pub(crate) fn named_by(objects: &Objects, place: Place, call: &Call) -> Named
 
 /// Whether a call moves bytes of whatever is open.
 fn moves(call: &Call) -> bool
-    ensures { result ≡ is_moving (kind_of call.now) }
+    ensures { result ≡ is_moving call.now }
 {
     match call {
         Call::Read { .. } | Call::Write { .. } => true,
@@ -71,7 +70,7 @@ fn moves(call: &Call) -> bool
 /// What a call moves bytes of: a queue where it reads or writes a number that isn't open on a node, and else a file, or nothing. Of a
 /// file nobody has written a part, so that a write to one begins anew.
 pub(crate) fn target_of(call: &Call, on: &Named) -> Target
-    ensures other { is_moving (kind_of call.now) ≡ false → result ≡ File }
+    ensures other { is_moving call.now ≡ false → result ≡ File }
     ensures on { (h : Heap) (kept : TableView) (pid : ℕ) → IsOpened h kept pid on.now → number_of call.now ≡ Some on.now.fd
         → result ≡ File → IsOnFile h kept pid call.now }
     ensures off { (h : Heap) (kept : TableView) (pid : ℕ) → IsOpened h kept pid on.now → number_of call.now ≡ Some on.now.fd

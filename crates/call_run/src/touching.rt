@@ -12,7 +12,7 @@ ghost use Rattle.proc_numbers.specs.Having.{AreListed, HaveOpen};
 ghost use Rattle.proc_table.specs.Table.{IsPlaced};
 ghost use Rattle.store_objects.specs.Standing.{StandsFor};
 ghost use Rattle.waking_laws.specs.Waking.{is_apart, meet, target_at};
-ghost use Rattle.call_run.specs.Touching.{MeetsNone, meet_in};
+ghost use Rattle.call_run.specs.Touching.{IsOpenOn, MeetsNone, meet_in};
 
 use crate::turns::waits_for;
 use kabi_types::{PollEntry, Script};
@@ -38,6 +38,7 @@ fn is_near(objects: &Objects, target: Target, who: Place, fd: i64) -> bool
     requires listed { AreListed objects.now.heap objects.now.procs }
     requires owners { HasItsOwners objects.now.heap [] }
     requires there { IsPlaced objects.now.procs who }
+    requires held { IsOpenOn objects.now.heap target }
     ensures { (numbers : Numbers) (files : Files) → HaveOpen numbers objects.now.heap objects.now.procs files → result ≡ false
         → meet (Some (target_in numbers target)) (target_at files who.pid fd) ≡ false }
 {
@@ -52,6 +53,7 @@ fn some_near(objects: &Objects, target: Target, who: Place, entries: &[PollEntry
     requires listed { AreListed objects.now.heap objects.now.procs }
     requires owners { HasItsOwners objects.now.heap [] }
     requires there { IsPlaced objects.now.procs who }
+    requires held { IsOpenOn objects.now.heap target }
     ensures { (numbers : Numbers) (files : Files) → HaveOpen numbers objects.now.heap objects.now.procs files → result ≡ false
         → MeetsNone files who.pid (Some (target_in numbers target)) entries.now }
 {

@@ -32,7 +32,7 @@ use Rattle.proc_table.specs.Table.{TableView}
 use Rattle.proc_numbers.specs.Having.{AreListed, HaveOpen, node_closed, node_dropped}
 use Rattle.proc_numbers.specs.Naming.{named_at, named_by}
 use Rattle.proc_numbers.proofs.NumberNames.{desc_named_by, opened_so}
-use Rattle.proc_files.proofs.Finding.{tells_target}
+use Rattle.proc_numbers.proofs.OnNodes.{tells_target}
 use Rattle.proc_numbers.specs.Answering.{node_replaced, value_of}
 use Rattle.store_objects.specs.declared.objects.Objects.{Objects}
 use Rattle.store_objects.specs.Trees.{kept_by}

@@ -87,7 +87,14 @@ fn take_out<B: LookedBlocks>(b: &mut B, dir: u32, inode: &mut Inode, name: &Name
 }
 
 // An entry gets a name and a node, in its place.
-fn set_named<B: LookedBlocks>(b: &mut B, dir: u32, inode: &Inode, from: &Name27, to: &Name27, node: u32)
+fn set_named<B: LookedBlocks>(
+    b: &mut B,
+    dir: u32,
+    inode: &Inode,
+    from: &Name27,
+    to: &Name27,
+    node: u32,
+)
     requires stands { (tree : Tree) × StandsFor (B.blocks b.old) tree × (directory_in tree dir ≡ true)
         × HasEntry tree dir from.now }
     requires node { HasNode (B.blocks b.old) dir inode.now }

@@ -71,8 +71,6 @@ pub fn rmdir(
     ensures does { Reaches script.now objects.old caller.now.place.pid (Call.Rmdir path.now) (λ plain. rmdir script.now plain caller.now.place.pid path.now) result objects.new }
 {
     let cwd = directory_of(objects, caller.place);
-    let gone = objects
-        .tree
-        .remove_dir(&mut objects.heap, purse, cwd, path);
+    let gone = objects.tree.remove_dir(&mut objects.heap, purse, cwd, path);
     go_on(script, objects, caller, done(gone))
 }

@@ -22,6 +22,13 @@ pub(crate) fn is_directory(info: &StatInfo) -> bool
     }
 }
 
+/// The offset that a description is at. It is asked for by a call, since what a call tells is known to fit its type.
+pub(crate) fn offset_of(found: &Found) -> u64
+    ensures { result ≡ found.now.desc.offset }
+{
+    found.desc.offset
+}
+
 /// A description is at another offset from now on, for all numbers that name it.
 pub(crate) fn move_to(heap: &mut KHeap, found: &Found, offset: u64)
     requires { object heap.old.descs found.now.key ≡ Some found.now.desc }

@@ -33,7 +33,7 @@ ghost use Rattle.proc_files.specs.Holding.{HoldFiles, HoldSome};
 ghost use Rattle.proc_numbers.specs.Found.{IsOnNode, IsOpened};
 ghost use Rattle.proc_files.specs.Reading.{HoldsDirectory, HoldsFile, KeepsRead, LeadsHolding, ReadsNode, SavesRead, moved_by};
 
-use crate::nodes::{is_directory, move_to};
+use crate::nodes::{is_directory, move_to, offset_of};
 use crate::spaces::{FileBuffer, Range, range_of};
 use kabi_types::Errno;
 use kheap_slabs::{KHeap, Purse, Target};
@@ -104,7 +104,7 @@ pub fn read_file(
     if range.is_empty() {
         return Ok(0);
     }
-    let at = found.desc.offset;
+    let at = offset_of(&found);
     let count = read_into(heap, purse, tree, buffer, &mut range, node, at);
     move_to(heap, &found, at + u64::from(count));
     Ok(count)
@@ -267,7 +267,7 @@ pub fn read_entries(
     let Some(mut range) = range_of(heap, procs, place, addr, n) else {
         return Err(Errno::EFAULT);
     };
-    let at = found.desc.offset;
+    let at = offset_of(&found);
     let count = list_into(heap, purse, tree, buffer, &mut range, node, at);
     move_to(heap, &found, at + u64::from(count));
     Ok(count)

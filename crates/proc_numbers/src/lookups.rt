@@ -121,7 +121,11 @@ impl Named {
         let Some(found) = self.found else {
             return None;
         };
-        if found.is_readable() { Some(found) } else { None }
+        if found.is_readable() {
+            Some(found)
+        } else {
+            None
+        }
     }
 
     /// What it names, where that may be written; None, which is EBADF, where it isn't open or isn't open for writing.
@@ -135,7 +139,11 @@ impl Named {
         let Some(found) = self.found else {
             return None;
         };
-        if found.is_writable() { Some(found) } else { None }
+        if found.is_writable() {
+            Some(found)
+        } else {
+            None
+        }
     }
 }
 

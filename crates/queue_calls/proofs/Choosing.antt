@@ -11,7 +11,7 @@ use Rattle.proc_numbers.specs.Having.{AreListed, HaveOpen}
 use Rattle.proc_numbers.specs.Naming.{named_by}
 use Rattle.proc_numbers.proofs.NumberNames.{desc_named_by, opened_nothing, opened_so}
 use Rattle.proc_numbers.specs.Found.{IsOffNodes}
-use Rattle.proc_files.proofs.Finding.{tells_target}
+use Rattle.proc_numbers.proofs.OnNodes.{tells_target}
 use Rattle.proc_table.specs.Table.{TableView}
 
 -- what is open on no node in the heap is open on none in the machine

@@ -63,7 +63,6 @@ returns-clause-does c =
     let kept = c.requires.stands.1.kept in
     let which = call.Close c.args.on.now.fd in
     let said = c.zero.result in
-    let fd = refl in
     let one : HoldSome n.new.heap old.procs n.new.tree = record { numbers = some.numbers; others = some.others; files = some.files; hold = some.hold.held } in
     serves_naming script old n.new.heap n.new.tree n.new.names pid c.args.caller.now.control kept c.requires.runs n.ensures.changes n.ensures.listed n.ensures.owners some.hold.bound n.ensures.places one
     which said c.go_on.result c.go_on.new.objects (λ plain. close script plain pid c.args.on.now.fd) c.heap_is_well_formed.ensures
@@ -72,11 +71,10 @@ returns-clause-does c =
     n.ensures.queues c.go_on.ensures.told c.go_on.ensures.goes (no_frames which (λ frames pid value. refl) pid said)
     (λ numbers others plain hold.
     subst (AnswersNaming numbers others n.new.heap old.procs n.new.tree n.new.names script plain pid (close script plain pid c.args.on.now.fd)) (sym c.zero.ensures)
-    (subst (λ z. AnswersNaming numbers others n.new.heap old.procs n.new.tree n.new.names script plain pid (close script plain pid z) (zero_of n.result)) fd
-    (n.ensures.answers numbers others script plain hold)))
+    (n.ensures.answers numbers others script plain hold))
     (λ world next stands.
     leaves_numbers old (mid script old n.new.heap n.new.tree n.new.names pid c.args.caller.now.control kept c.requires.runs n.ensures.changes n.ensures.listed n.ensures.owners some.hold.bound n.ensures.places one)
     world pid which (record { right = refl; paths = refl; leaves = refl; walks = refl }) said next
     (λ off.
-    (subst (λ z. node_closed old.heap.descs (named_by old.heap old.procs pid z) ≡ None → n.new.tree ≡ old.tree) fd n.ensures.stays)
+    n.ensures.stays
     (closed_off stands.files.numbers old.heap old.procs world.plain.files pid stands.files.opened (listed_in script old kept) kept.owners c.args.on.now.fd (first_off _ _ off))))

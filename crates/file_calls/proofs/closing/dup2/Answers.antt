@@ -68,7 +68,6 @@ returns-clause-does c =
     let kept = c.requires.stands.1.kept in
     let which = call.Dup2 c.args.on.now.fd c.args.to in
     let said = c.value.result in
-    let fd = refl in
     let to = to_z-of_z w64 c.args.to c.ranges.to in
     let one : HoldSome n.new.heap old.procs n.new.tree = record { numbers = some.numbers; others = some.others; files = some.files; hold = some.hold.held } in
     serves_naming script old n.new.heap n.new.tree n.new.names pid c.args.caller.now.control kept c.requires.runs n.ensures.changes n.ensures.listed n.ensures.owners some.hold.bound n.ensures.places one
@@ -79,8 +78,7 @@ returns-clause-does c =
     (λ numbers others plain hold.
     subst (AnswersNaming numbers others n.new.heap old.procs n.new.tree n.new.names script plain pid (dup2 script plain pid c.args.on.now.fd c.args.to)) (sym c.value.ensures)
     (subst (λ z. AnswersNaming numbers others n.new.heap old.procs n.new.tree n.new.names script plain pid (dup2 script plain pid c.args.on.now.fd z) (value_of n.result)) to
-    (subst (λ z. AnswersNaming numbers others n.new.heap old.procs n.new.tree n.new.names script plain pid (dup2 script plain pid z (to_z w64 (of_z w64 c.args.to))) (value_of n.result)) fd
-    (n.ensures.answers numbers others script plain hold))))
+    (n.ensures.answers numbers others script plain hold)))
     (λ world next stands.
     leaves_numbers old (mid script old n.new.heap n.new.tree n.new.names pid c.args.caller.now.control kept c.requires.runs n.ensures.changes n.ensures.listed n.ensures.owners some.hold.bound n.ensures.places one)
     world pid which (record { right = refl; paths = refl; leaves = refl; walks = refl }) said next
@@ -89,8 +87,8 @@ returns-clause-does c =
     let it = n.ensures.answers first.1.files.numbers (others_in first.0.plain) script first.0.plain (holds_names script old first.0 first.1 c.heap_is_well_formed.ensures first.2) in
     stays_replaced stands.files.numbers old.heap old.procs world.plain.files script first.0.plain it.files pid c.args.on.now.fd c.args.to n.result old.tree n.new.tree _
     (subst (λ z. dup2 script first.0.plain pid c.args.on.now.fd z ≡ replied script (with_files first.0.plain it.files) pid (value_of n.result)) to
-    (subst (λ z. dup2 script first.0.plain pid z (to_z w64 (of_z w64 c.args.to)) ≡ replied script (with_files first.0.plain it.files) pid (value_of n.result)) fd it.replies))
+    it.replies)
     n.ensures.unchanged (λ same. same.1)
     (subst (λ z. node_replaced old.heap old.procs pid c.args.on.now.fd z ≡ None → n.new.tree ≡ old.tree) to
-    (subst (λ z. node_replaced old.heap old.procs pid z (to_z w64 (of_z w64 c.args.to)) ≡ None → n.new.tree ≡ old.tree) fd n.ensures.stays))
+    n.ensures.stays)
     stands.files.opened (listed_in script old kept) kept.owners (second_off (is_on_node world.plain.files (opened_at world.plain.files pid c.args.on.now.fd)) _ off)))

@@ -46,7 +46,6 @@ returns-clause-does c =
     let kept = c.requires.stands.1.kept in
     let which = call.Fstat c.args.on.now.fd in
     let said = c.stat.result in
-    let fd = refl in
     let same = unchanged script old pid c.args.caller.now.control kept c.requires.runs in
     let then = mid script old old.heap n.new.tree old.names pid c.args.caller.now.control kept c.requires.runs same (listed_in script old kept) kept.owners kept.bound refl n.ensures.hold in
     serves_holding script old old.heap n.new.tree old.names pid c.args.caller.now.control kept c.requires.runs same (listed_in script old kept) kept.owners kept.bound refl n.ensures.hold
@@ -55,9 +54,8 @@ returns-clause-does c =
     (queues_same old.heap old.heap refl refl) c.go_on.ensures.told c.go_on.ensures.goes (no_frames which (λ frames pid value. refl) pid said)
     (λ numbers others plain hold.
     subst (AnswersHolding numbers others old.heap old.procs n.new.tree script plain pid (fstat script plain pid c.args.on.now.fd)) (sym c.stat.ensures)
-    (subst (λ z. AnswersHolding numbers others old.heap old.procs n.new.tree script plain pid (fstat script plain pid z) (stat_of n.result)) fd
-    (n.ensures.answers numbers others script plain hold)))
+    (n.ensures.answers numbers others script plain hold))
     (λ world next stands.
     leaves_numbers old then world pid which (record { right = refl; paths = refl; leaves = refl; walks = refl }) said next
     (λ off.
-    subst (λ z. StaysOffNodes old.heap old.procs pid z old.tree n.new.tree) fd n.ensures.stays stands.files.numbers world.plain.files stands.files.opened (first_off _ _ off)))
+    n.ensures.stays stands.files.numbers world.plain.files stands.files.opened (first_off _ _ off)))

@@ -170,7 +170,7 @@ returns-then-is_empty-clause-saved c = saves_used c.args.heap.now c.args.procs.n
 pub returns-clause-saved : goal.returns-clause-saved
 returns-clause-saved c =
     saves_read c.args.heap.now c.args.procs.now c.args.place.pid c.args.on.now.fd c.args.tree.now c.stat_node-info.new.self c.stat_node-info.ensures.used c.read_into.new.tree c.in-Some.found c.in-Inode.node
-    (subst (λ z. IsNamed c.args.heap.now c.args.procs.now c.args.place.pid z c.in-Some.found) refl (is_named c.args.heap.now c.args.procs.now c.args.place.pid c.args.on.now c.requires.opened c.in-Some.found c.in-Some.is))
+    (is_named c.args.heap.now c.args.procs.now c.args.place.pid c.args.on.now c.requires.opened c.in-Some.found c.in-Some.is)
     (is_there c.args.heap.now c.args.procs.now c.args.place.pid c.args.on.now c.requires.opened c.in-Some.found c.in-Some.is) c.in-Inode.is (λ (desc : Desc). count_of c.args.at) c.count_of.result c.read_into.result
     (subst (λ z. c.count_of.result ≡ count_of z) (to_z-of_z w64 c.args.at c.ranges.at) c.count_of.ensures)
     c.read_into.ensures.saved
@@ -196,7 +196,7 @@ returns-then-is_empty-clause-last c = λ held desc number inode named there on h
 pub returns-clause-last : goal.returns-clause-last
 returns-clause-last c =
     keeps_read c.args.heap.now c.args.procs.now c.args.place.pid c.args.on.now.fd c.args.tree.now c.stat_node-info.new.self c.stat_node-info.ensures.used c.read_into.new.tree c.in-Some.found c.in-Inode.node
-    (subst (λ z. IsNamed c.args.heap.now c.args.procs.now c.args.place.pid z c.in-Some.found) refl (is_named c.args.heap.now c.args.procs.now c.args.place.pid c.args.on.now c.requires.opened c.in-Some.found c.in-Some.is))
+    (is_named c.args.heap.now c.args.procs.now c.args.place.pid c.args.on.now c.requires.opened c.in-Some.found c.in-Some.is)
     (is_there c.args.heap.now c.args.procs.now c.args.place.pid c.args.on.now c.requires.opened c.in-Some.found c.in-Some.is) c.in-Inode.is (λ (desc : Desc). count_of c.args.at) c.count_of.result c.read_into.result
     (subst (λ z. c.count_of.result ≡ count_of z) (to_z-of_z w64 c.args.at c.ranges.at) c.count_of.ensures)
     c.read_into.ensures.last

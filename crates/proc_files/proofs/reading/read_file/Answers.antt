@@ -1,4 +1,4 @@
-use Rattle.std.proofs.Common.{◌≡◌, ◌∙◌, ◌+◌, ◌≤◌, ap, false, true, List, None, of_z, Option, pos, refl, Some, sym, subst, to_z, w64, arith, is_some}
+use Rattle.std.proofs.Common.{◌≡◌, ◌∙◌, ◌+◌, ◌≤◌, ap, false, true, List, length, None, of_z, Option, pos, refl, Some, sym, subst, to_z, w64, arith, is_some}
 use Rattle.std.proofs.lemmas.Int.{to_z-of_z}
 use Rattle.kabi_types.specs.Arguments.{count_of, range_fault}
 use Rattle.kabi_types.specs.declared.errnos.Errno.TheVariants.{EBADF, EFAULT, EISDIR}
@@ -126,41 +126,42 @@ pub overflow_add-at : goal.overflow_add-at
 overflow_add-at c =
     let some = c.requires.hold in
     let count = c.read_into-count.ensures.count some.files.tree (holders some.others some.files) (c.stat_node-info.ensures.stands some.files.tree (holders some.others some.files) some.hold.tree) in
-    let ends = read_ends some.files.tree c.in-Inode.node c.in-Some.found.desc.offset c.in-Some-range_of.range.count some.hold.tree.is_tree (omega arith) in
+    let ends = read_ends some.files.tree c.in-Inode.node c.offset_of-at.result c.in-Some-range_of.range.count some.hold.tree.is_tree (omega arith) in
     let from = c.from.ensures in omega (arith, count, ends, from)
 
 pub move_to-requires : goal.move_to-requires
 move_to-requires c =
     let some = c.requires.hold in
-    ap (λ (d : List (Option Desc)). object d c.in-Some.found.key) (read_descs c.args.heap.now c.args.purse.now c.read_into-count.new.heap c.read_into-count.new.purse c.stat_node-info.new.self c.read_into-count.new.tree c.in-Some-range_of.range.space c.in-Some-range_of.range.start (read_node some.files.tree c.in-Inode.node c.in-Some.found.desc.offset c.in-Some-range_of.range.count) (c.read_into-count.ensures.reads some.files.tree (holders some.others some.files) (c.stat_node-info.ensures.stands some.files.tree (holders some.others some.files) some.hold.tree))) ∙ (is_there c.args.heap.now c.args.procs.now c.args.place.pid c.args.on.now c.requires.opened c.in-Some.found c.in-Some.is)
+    ap (λ (d : List (Option Desc)). object d c.in-Some.found.key) (read_descs c.args.heap.now c.args.purse.now c.read_into-count.new.heap c.read_into-count.new.purse c.stat_node-info.new.self c.read_into-count.new.tree c.in-Some-range_of.range.space c.in-Some-range_of.range.start (read_node some.files.tree c.in-Inode.node c.offset_of-at.result c.in-Some-range_of.range.count) (c.read_into-count.ensures.reads some.files.tree (holders some.others some.files) (c.stat_node-info.ensures.stands some.files.tree (holders some.others some.files) some.hold.tree))) ∙ (is_there c.args.heap.now c.args.procs.now c.args.place.pid c.args.on.now c.requires.opened c.in-Some.found c.in-Some.is)
 
 pub returns-clause-leads : goal.returns-clause-leads
 returns-clause-leads c = λ script numbers others plain account stands hold.
     let held = (hold_on numbers others c.args.heap.now c.args.procs.now c.args.tree.now c.stat_node-info.new.self plain.files c.stat_node-info.ensures.stands hold) in
     let range = (as_range c.args.heap.now c.args.procs.now c.args.place.pid _ c.args.addr _ c.args.n _ _ _ (to_z-of_z w64 c.args.addr c.ranges.addr) (to_z-of_z w64 c.args.n c.ranges.n) c.in-Some-range_of.ensures.range) in
-    leads_moved c.args.heap.now c.args.purse.now c.read_into-count.new.heap c.read_into-count.new.purse c.stat_node-info.new.self c.read_into-count.new.tree c.in-Some-range_of.range.space c.in-Some-range_of.range.start (read_node plain.files.tree c.in-Inode.node c.in-Some.found.desc.offset c.in-Some-range_of.range.count) (c.read_into-count.ensures.reads plain.files.tree (holders others plain.files) held.tree) c.args.procs.now c.args.place.pid c.requires.kept range.space numbers others plain account stands held c.args.addr (range.begins (some_count _ (sym c.is_empty.ensures ∙ c.if-is_empty.false)).1)
+    leads_moved c.args.heap.now c.args.purse.now c.read_into-count.new.heap c.read_into-count.new.purse c.stat_node-info.new.self c.read_into-count.new.tree c.in-Some-range_of.range.space c.in-Some-range_of.range.start (read_node plain.files.tree c.in-Inode.node c.offset_of-at.result c.in-Some-range_of.range.count) (c.read_into-count.ensures.reads plain.files.tree (holders others plain.files) held.tree) c.args.procs.now c.args.place.pid c.requires.kept range.space numbers others plain account stands held c.args.addr (range.begins (some_count _ (sym c.is_empty.ensures ∙ c.if-is_empty.false)).1)
     script (call.Read c.args.on.now.fd c.args.addr c.args.n) _ c.read_into-count.result (c.read_into-count.ensures.count plain.files.tree (holders others plain.files) held.tree) refl c.move_to.new.heap c.in-Some.found.key c.in-Inode.node c.in-Some.found.desc _ (is_there c.args.heap.now c.args.procs.now c.args.place.pid c.args.on.now c.requires.opened c.in-Some.found c.in-Some.is) c.in-Inode.is c.move_to.ensures.moved
     (λ directory. absurd (let both : true ≡ false = sym directory ∙ (sym (c.is_directory.ensures plain.files.tree c.in-Inode.node (c.stat_node-info.ensures.value plain.files.tree (holders others plain.files) hold.tree)) ∙ c.if-is_directory.false) in cc))
     (read_goes script numbers plain c.args.place.pid c.args.on.now.fd c.args.addr c.args.n c.in-Some.found (as_found numbers plain.files c.args.place.pid _ c.args.on.now.fd _ (Some c.in-Some.found) refl (opened_is c.args.heap.now c.args.procs.now c.args.place.pid c.args.on.now c.requires.opened numbers plain.files hold.opened) c.in-Some.is) c.in-Inode.node c.in-Inode.is (sym c.is_readable.ensures ∙ c.if-not-is_readable.false) (sym (c.is_directory.ensures plain.files.tree c.in-Inode.node (c.stat_node-info.ensures.value plain.files.tree (holders others plain.files) hold.tree)) ∙ c.if-is_directory.false) (as_mapped c.args.heap.now c.args.procs.now plain.table c.args.place.pid _ c.args.addr _ c.args.n _ true (to_z-of_z w64 c.args.addr c.ranges.addr) (to_z-of_z w64 c.args.n c.ranges.n) c.range_of.ensures.tells stands.table (ap is_some c.in-Some-range_of.is)) (λ none. (some_count _ (sym c.is_empty.ensures ∙ c.if-is_empty.false)).0 (range.counted ∙ none))
     ∙ ap (λ m. read_file script plain c.args.place.pid (opened_in numbers c.in-Some.found) c.in-Inode.node c.args.addr m) (sym range.counted)
-    ∙ ap (λ k. put script (moved_to plain (opened_in numbers c.in-Some.found) (c.in-Some.found.desc.offset + k)) c.args.place.pid c.args.addr (read_node plain.files.tree c.in-Inode.node c.in-Some.found.desc.offset c.in-Some-range_of.range.count)) (sym (c.from.ensures ∙ (c.read_into-count.ensures.count plain.files.tree (holders others plain.files) held.tree))))
+    ∙ ap (λ o. put script (moved_to plain (opened_in numbers c.in-Some.found) (o + length (read_node plain.files.tree c.in-Inode.node o c.in-Some-range_of.range.count))) c.args.place.pid c.args.addr (read_node plain.files.tree c.in-Inode.node o c.in-Some-range_of.range.count)) (sym c.offset_of-at.ensures)
+    ∙ ap (λ k. put script (moved_to plain (opened_in numbers c.in-Some.found) (c.offset_of-at.result + k)) c.args.place.pid c.args.addr (read_node plain.files.tree c.in-Inode.node c.offset_of-at.result c.in-Some-range_of.range.count)) (sym (c.from.ensures ∙ (c.read_into-count.ensures.count plain.files.tree (holders others plain.files) held.tree))))
 
 pub returns-clause-kept : goal.returns-clause-kept
 returns-clause-kept c =
     let some = c.requires.hold in
-    let there = ap (λ (d : List (Option Desc)). object d c.in-Some.found.key) (read_descs c.args.heap.now c.args.purse.now c.read_into-count.new.heap c.read_into-count.new.purse c.stat_node-info.new.self c.read_into-count.new.tree c.in-Some-range_of.range.space c.in-Some-range_of.range.start (read_node some.files.tree c.in-Inode.node c.in-Some.found.desc.offset c.in-Some-range_of.range.count) (c.read_into-count.ensures.reads some.files.tree (holders some.others some.files) (c.stat_node-info.ensures.stands some.files.tree (holders some.others some.files) some.hold.tree))) ∙ (is_there c.args.heap.now c.args.procs.now c.args.place.pid c.args.on.now c.requires.opened c.in-Some.found c.in-Some.is) in
+    let there = ap (λ (d : List (Option Desc)). object d c.in-Some.found.key) (read_descs c.args.heap.now c.args.purse.now c.read_into-count.new.heap c.read_into-count.new.purse c.stat_node-info.new.self c.read_into-count.new.tree c.in-Some-range_of.range.space c.in-Some-range_of.range.start (read_node some.files.tree c.in-Inode.node c.offset_of-at.result c.in-Some-range_of.range.count) (c.read_into-count.ensures.reads some.files.tree (holders some.others some.files) (c.stat_node-info.ensures.stands some.files.tree (holders some.others some.files) some.hold.tree))) ∙ (is_there c.args.heap.now c.args.procs.now c.args.place.pid c.args.on.now c.requires.opened c.in-Some.found c.in-Some.is) in
     moved_kept c.read_into-count.new.heap c.move_to.new.heap c.in-Some.found.key c.in-Some.found.desc _ there c.move_to.ensures.moved c.args.procs.now
-    (read_kept c.args.heap.now c.args.purse.now c.read_into-count.new.heap c.read_into-count.new.purse c.stat_node-info.new.self c.read_into-count.new.tree c.in-Some-range_of.range.space c.in-Some-range_of.range.start (read_node some.files.tree c.in-Inode.node c.in-Some.found.desc.offset c.in-Some-range_of.range.count) (c.read_into-count.ensures.reads some.files.tree (holders some.others some.files) (c.stat_node-info.ensures.stands some.files.tree (holders some.others some.files) some.hold.tree)) c.args.procs.now c.args.place.pid c.requires.kept c.in-Some-range_of.ensures.range.space)
+    (read_kept c.args.heap.now c.args.purse.now c.read_into-count.new.heap c.read_into-count.new.purse c.stat_node-info.new.self c.read_into-count.new.tree c.in-Some-range_of.range.space c.in-Some-range_of.range.start (read_node some.files.tree c.in-Inode.node c.offset_of-at.result c.in-Some-range_of.range.count) (c.read_into-count.ensures.reads some.files.tree (holders some.others some.files) (c.stat_node-info.ensures.stands some.files.tree (holders some.others some.files) some.hold.tree)) c.args.procs.now c.args.place.pid c.requires.kept c.in-Some-range_of.ensures.range.space)
 
 pub returns-clause-beside : goal.returns-clause-beside
 returns-clause-beside c =
     let some = c.requires.hold in
-    moved_beside c.args.heap.now c.args.purse.now c.read_into-count.new.heap c.read_into-count.new.purse c.stat_node-info.new.self c.read_into-count.new.tree c.in-Some-range_of.range.space c.in-Some-range_of.range.start (read_node some.files.tree c.in-Inode.node c.in-Some.found.desc.offset c.in-Some-range_of.range.count) (c.read_into-count.ensures.reads some.files.tree (holders some.others some.files) (c.stat_node-info.ensures.stands some.files.tree (holders some.others some.files) some.hold.tree)) c.move_to.new.heap c.in-Some.found.key c.in-Some.found.desc _ c.move_to.ensures.moved
+    moved_beside c.args.heap.now c.args.purse.now c.read_into-count.new.heap c.read_into-count.new.purse c.stat_node-info.new.self c.read_into-count.new.tree c.in-Some-range_of.range.space c.in-Some-range_of.range.start (read_node some.files.tree c.in-Inode.node c.offset_of-at.result c.in-Some-range_of.range.count) (c.read_into-count.ensures.reads some.files.tree (holders some.others some.files) (c.stat_node-info.ensures.stands some.files.tree (holders some.others some.files) some.hold.tree)) c.move_to.new.heap c.in-Some.found.key c.in-Some.found.desc _ c.move_to.ensures.moved
 
 pub returns-clause-paid : goal.returns-clause-paid
 returns-clause-paid c =
     let some = c.requires.hold in
-    IsPaid-trans c.args.heap.now c.args.purse.now c.read_into-count.new.heap c.read_into-count.new.purse c.move_to.new.heap c.read_into-count.new.purse (read_paid c.args.heap.now c.args.purse.now c.read_into-count.new.heap c.read_into-count.new.purse c.stat_node-info.new.self c.read_into-count.new.tree c.in-Some-range_of.range.space c.in-Some-range_of.range.start (read_node some.files.tree c.in-Inode.node c.in-Some.found.desc.offset c.in-Some-range_of.range.count) (c.read_into-count.ensures.reads some.files.tree (holders some.others some.files) (c.stat_node-info.ensures.stands some.files.tree (holders some.others some.files) some.hold.tree)))
+    IsPaid-trans c.args.heap.now c.args.purse.now c.read_into-count.new.heap c.read_into-count.new.purse c.move_to.new.heap c.read_into-count.new.purse (read_paid c.args.heap.now c.args.purse.now c.read_into-count.new.heap c.read_into-count.new.purse c.stat_node-info.new.self c.read_into-count.new.tree c.in-Some-range_of.range.space c.in-Some-range_of.range.start (read_node some.files.tree c.in-Inode.node c.offset_of-at.result c.in-Some-range_of.range.count) (c.read_into-count.ensures.reads some.files.tree (holders some.others some.files) (c.stat_node-info.ensures.stands some.files.tree (holders some.others some.files) some.hold.tree)))
     (IsPaid-nothing c.read_into-count.new.heap c.move_to.new.heap c.read_into-count.new.purse c.read_into-count.new.purse c.move_to.ensures.takes refl refl)
 
 pub returns-clause-reads : goal.returns-clause-reads
@@ -192,8 +193,8 @@ returns-then-is_empty-clause-saved c = saves_used c.args.heap.now c.args.procs.n
 pub returns-clause-saved : goal.returns-clause-saved
 returns-clause-saved c =
     saves_read c.args.heap.now c.args.procs.now c.args.place.pid c.args.on.now.fd c.args.tree.now c.stat_node-info.new.self c.stat_node-info.ensures.used c.read_into-count.new.tree c.in-Some.found c.in-Inode.node
-    (subst (λ z. IsNamed c.args.heap.now c.args.procs.now c.args.place.pid z c.in-Some.found) refl (is_named c.args.heap.now c.args.procs.now c.args.place.pid c.args.on.now c.requires.opened c.in-Some.found c.in-Some.is))
-    (is_there c.args.heap.now c.args.procs.now c.args.place.pid c.args.on.now c.requires.opened c.in-Some.found c.in-Some.is) c.in-Inode.is (λ (desc : Desc). desc.offset) c.in-Some.found.desc.offset c.read_into-count.result refl
+    (is_named c.args.heap.now c.args.procs.now c.args.place.pid c.args.on.now c.requires.opened c.in-Some.found c.in-Some.is)
+    (is_there c.args.heap.now c.args.procs.now c.args.place.pid c.args.on.now c.requires.opened c.in-Some.found c.in-Some.is) c.in-Inode.is (λ (desc : Desc). desc.offset) c.offset_of-at.result c.read_into-count.result c.offset_of-at.ensures
     c.read_into-count.ensures.saved
 
 pub returns-in_default-clause-last : goal.returns-in_default-clause-last
@@ -214,6 +215,6 @@ returns-then-is_empty-clause-last c = λ held desc number inode named there on h
 pub returns-clause-last : goal.returns-clause-last
 returns-clause-last c =
     keeps_read c.args.heap.now c.args.procs.now c.args.place.pid c.args.on.now.fd c.args.tree.now c.stat_node-info.new.self c.stat_node-info.ensures.used c.read_into-count.new.tree c.in-Some.found c.in-Inode.node
-    (subst (λ z. IsNamed c.args.heap.now c.args.procs.now c.args.place.pid z c.in-Some.found) refl (is_named c.args.heap.now c.args.procs.now c.args.place.pid c.args.on.now c.requires.opened c.in-Some.found c.in-Some.is))
-    (is_there c.args.heap.now c.args.procs.now c.args.place.pid c.args.on.now c.requires.opened c.in-Some.found c.in-Some.is) c.in-Inode.is (λ (desc : Desc). desc.offset) c.in-Some.found.desc.offset c.read_into-count.result refl
+    (is_named c.args.heap.now c.args.procs.now c.args.place.pid c.args.on.now c.requires.opened c.in-Some.found c.in-Some.is)
+    (is_there c.args.heap.now c.args.procs.now c.args.place.pid c.args.on.now c.requires.opened c.in-Some.found c.in-Some.is) c.in-Inode.is (λ (desc : Desc). desc.offset) c.offset_of-at.result c.read_into-count.result c.offset_of-at.ensures
     c.read_into-count.ensures.last

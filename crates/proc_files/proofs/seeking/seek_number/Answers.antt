@@ -13,8 +13,7 @@ pub returns-in_default-clause-answers : goal.returns-in_default-clause-answers
 returns-in_default-clause-answers c = λ numbers others script plain hold. record {
   files = plain.files;
   replies = lseek_bad script numbers plain c.args.place.pid c.args.on.now.fd c.args.offset c.args.whence
-      (subst (λ z. opened_at plain.files c.args.place.pid z ≡ None) refl
-      (opened_is c.args.heap.now c.args.procs.now c.args.place.pid c.args.on.now c.requires.opened numbers plain.files hold.opened ∙ ap (option_map (opened_in numbers)) c.in_default.is));
+      (opened_is c.args.heap.now c.args.procs.now c.args.place.pid c.args.on.now c.requires.opened numbers plain.files hold.opened ∙ ap (option_map (opened_in numbers)) c.in_default.is);
   holds = hold;
 }
 
@@ -22,8 +21,7 @@ pub returns-in_default-target-clause-answers : goal.returns-in_default-target-cl
 returns-in_default-target-clause-answers c = λ numbers others script plain hold. record {
   files = plain.files;
   replies = lseek_refused script numbers plain c.args.place.pid c.args.on.now.fd c.in-Some.found
-      (subst (λ z. opened_at plain.files c.args.place.pid z ≡ Some (opened_in numbers c.in-Some.found)) refl
-      (opened_is c.args.heap.now c.args.procs.now c.args.place.pid c.args.on.now c.requires.opened numbers plain.files hold.opened ∙ ap (option_map (opened_in numbers)) c.in-Some.is))
+      (opened_is c.args.heap.now c.args.procs.now c.args.place.pid c.args.on.now c.requires.opened numbers plain.files hold.opened ∙ ap (option_map (opened_in numbers)) c.in-Some.is)
       c.args.offset c.args.whence (no_node c.in-Some.found.desc.target c.in_default-target.not-Inode);
   holds = hold;
 }
@@ -38,8 +36,7 @@ returns-clause-answers c = λ numbers others script plain hold.
     let whence = to_z-of_z w64 c.args.whence c.ranges.whence in
     seek_holds numbers others c.args.heap.now c.seek_node.new.heap c.args.procs.now c.args.tree.now c.seek_node.new.tree script plain c.args.place.pid c.args.on.now.fd c.args.offset c.args.whence
     c.in-Some.found c.in-Inode.node (hold_on numbers others c.args.heap.now c.args.procs.now c.args.tree.now c.seek_node.new.tree plain.files c.seek_node.ensures.stands hold)
-    (subst (λ z. opened_at plain.files c.args.place.pid z ≡ Some (opened_in numbers c.in-Some.found)) refl
-    (opened_is c.args.heap.now c.args.procs.now c.args.place.pid c.args.on.now c.requires.opened numbers plain.files hold.opened ∙ ap (option_map (opened_in numbers)) c.in-Some.is))
+    (opened_is c.args.heap.now c.args.procs.now c.args.place.pid c.args.on.now c.requires.opened numbers plain.files hold.opened ∙ ap (option_map (opened_in numbers)) c.in-Some.is)
     (is_there c.args.heap.now c.args.procs.now c.args.place.pid c.args.on.now c.requires.opened c.in-Some.found c.in-Some.is) c.in-Inode.is c.seek_node.result
     (subst (λ z. c.seek_node.result ≡ sought plain.files.tree c.in-Inode.node c.in-Some.found.desc.offset c.args.offset z) whence
     (subst (λ z. c.seek_node.result ≡ sought plain.files.tree c.in-Inode.node c.in-Some.found.desc.offset z (to_z w64 (of_z w64 c.args.whence))) offset
@@ -67,5 +64,4 @@ returns-clause-hold c =
 pub returns-clause-stays : goal.returns-clause-stays
 returns-clause-stays c = λ numbers files have off.
     absurd (on_node numbers files c.args.place.pid c.args.on.now.fd c.in-Some.found c.in-Inode.node
-    (subst (λ z. opened_at files c.args.place.pid z ≡ Some (opened_in numbers c.in-Some.found)) refl
-    (opened_is c.args.heap.now c.args.procs.now c.args.place.pid c.args.on.now c.requires.opened numbers files have ∙ ap (option_map (opened_in numbers)) c.in-Some.is)) c.in-Inode.is off)
+    (opened_is c.args.heap.now c.args.procs.now c.args.place.pid c.args.on.now c.requires.opened numbers files have ∙ ap (option_map (opened_in numbers)) c.in-Some.is) c.in-Inode.is off)

@@ -13,8 +13,7 @@ pub returns-in_default-clause-answers : goal.returns-in_default-clause-answers
 returns-in_default-clause-answers c = λ numbers others script plain hold. record {
   files = plain.files;
   replies = fstat_bad script numbers plain c.args.place.pid c.args.on.now.fd
-      (subst (λ z. opened_at plain.files c.args.place.pid z ≡ None) refl
-      (opened_is c.args.heap.now c.args.procs.now c.args.place.pid c.args.on.now c.requires.opened numbers plain.files hold.opened ∙ ap (option_map (opened_in numbers)) c.in_default.is));
+      (opened_is c.args.heap.now c.args.procs.now c.args.place.pid c.args.on.now c.requires.opened numbers plain.files hold.opened ∙ ap (option_map (opened_in numbers)) c.in_default.is);
   holds = hold;
 }
 
@@ -27,8 +26,7 @@ returns-clause-answers c = λ numbers others script plain hold. record {
   files = plain.files;
   replies =
       fstat_is script numbers plain c.args.place.pid c.args.on.now.fd c.in-Some.found
-      (subst (λ z. opened_at plain.files c.args.place.pid z ≡ Some (opened_in numbers c.in-Some.found)) refl
-      (opened_is c.args.heap.now c.args.procs.now c.args.place.pid c.args.on.now c.requires.opened numbers plain.files hold.opened ∙ ap (option_map (opened_in numbers)) c.in-Some.is))
+      (opened_is c.args.heap.now c.args.procs.now c.args.place.pid c.args.on.now c.requires.opened numbers plain.files hold.opened ∙ ap (option_map (opened_in numbers)) c.in-Some.is)
       ∙ ap (λ info. replied script plain c.args.place.pid (Stat info)) (c.info_of.ensures.value numbers plain.files.tree _ hold.tree);
   holds = hold_on numbers others c.args.heap.now c.args.procs.now c.args.tree.now c.info_of.new.tree plain.files c.info_of.ensures.stands hold;
 }
@@ -40,5 +38,4 @@ pub returns-clause-stays : goal.returns-clause-stays
 returns-clause-stays c = λ numbers files have off.
     c.info_of.ensures.stays
     (off_node numbers files c.args.place.pid c.args.on.now.fd c.in-Some.found
-    (subst (λ z. opened_at files c.args.place.pid z ≡ Some (opened_in numbers c.in-Some.found)) refl
-    (opened_is c.args.heap.now c.args.procs.now c.args.place.pid c.args.on.now c.requires.opened numbers files have ∙ ap (option_map (opened_in numbers)) c.in-Some.is)) off)
+    (opened_is c.args.heap.now c.args.procs.now c.args.place.pid c.args.on.now c.requires.opened numbers files have ∙ ap (option_map (opened_in numbers)) c.in-Some.is) off)

@@ -40,8 +40,8 @@ pub get_desc-requires : goal.get_desc-requires
 get_desc-requires c =
     let it = number_so (to_z w64 (of_z w64 c.args.fd)) c.number_of.result c.in-Some.number c.number_of.ensures.some c.in-Some.is in
     let named =
-        by_number c.args.heap.now c.args.procs.now c.args.place.pid (to_z w64 (of_z w64 c.args.fd)) c.in-Some.number c.at-proc.result.now (Some c.in-Some-held.descriptor) it.0
-        c.at-proc.ensures.found c.in-Some-held.is in
+    by_number c.args.heap.now c.args.procs.now c.args.place.pid (to_z w64 (of_z w64 c.args.fd)) c.in-Some.number c.at-proc.result.now (Some c.in-Some-held.descriptor) it.0
+    c.at-proc.ensures.found c.in-Some-held.is in
     ap is_some (desc_named_by c.args.heap.now c.args.procs.now [] c.requires.listed c.requires.owners c.args.place.pid (to_z w64 (of_z w64 c.args.fd)) c.in-Some-held.descriptor named).1
 
 pub returns-clause-opened : goal.returns-clause-opened

@@ -25,8 +25,8 @@ pub go_on-requires-clause-kept : goal.go_on-requires-clause-kept
 go_on-requires-clause-kept c =
     let some = c.requires.stands in
     let done = c.accept_number-taken.ensures in
-    let names = names_made c.args.script.now c.args.objects.now c.accept_number-taken.new.heap c.args.caller.now.place.pid c.in-Some.reply (λ plain. accept c.args.script.now plain c.args.caller.now.place.pid (to_z w64 (of_z w64 c.args.on.now.fd)))
-    (λ plain. accept_stays c.args.script.now plain c.args.caller.now.place.pid (to_z w64 (of_z w64 c.args.on.now.fd))) some done.still
+    let names = names_made c.args.script.now c.args.objects.now c.accept_number-taken.new.heap c.args.caller.now.place.pid c.in-Some.reply (λ plain. accept c.args.script.now plain c.args.caller.now.place.pid c.args.on.now.fd)
+    (λ plain. accept_stays c.args.script.now plain c.args.caller.now.place.pid c.args.on.now.fd) some done.still
     (λ numbers plain have.
     accepts_reply numbers c.args.objects.now.heap c.accept_number-taken.new.heap c.args.objects.now.procs c.args.script.now plain c.args.caller.now.place.pid _ c.accept_number-taken.result c.in-Some.reply
     (sym c.told.ensures ∙ c.in-Some.is) (done.answers numbers c.args.script.now plain have)) in
@@ -36,8 +36,8 @@ pub go_on-requires-clause-runs : goal.go_on-requires-clause-runs
 go_on-requires-clause-runs c =
     let some = c.requires.stands in
     let done = c.accept_number-taken.ensures in
-    let names = names_made c.args.script.now c.args.objects.now c.accept_number-taken.new.heap c.args.caller.now.place.pid c.in-Some.reply (λ plain. accept c.args.script.now plain c.args.caller.now.place.pid (to_z w64 (of_z w64 c.args.on.now.fd)))
-    (λ plain. accept_stays c.args.script.now plain c.args.caller.now.place.pid (to_z w64 (of_z w64 c.args.on.now.fd))) some done.still
+    let names = names_made c.args.script.now c.args.objects.now c.accept_number-taken.new.heap c.args.caller.now.place.pid c.in-Some.reply (λ plain. accept c.args.script.now plain c.args.caller.now.place.pid c.args.on.now.fd)
+    (λ plain. accept_stays c.args.script.now plain c.args.caller.now.place.pid c.args.on.now.fd) some done.still
     (λ numbers plain have.
     accepts_reply numbers c.args.objects.now.heap c.accept_number-taken.new.heap c.args.objects.now.procs c.args.script.now plain c.args.caller.now.place.pid _ c.accept_number-taken.result c.in-Some.reply
     (sym c.told.ensures ∙ c.in-Some.is) (done.answers numbers c.args.script.now plain have)) in
@@ -56,8 +56,8 @@ returns-in-Some-clause-does c =
     let heap = c.accept_number-taken.new.heap in
     let pid = c.args.caller.now.place.pid in
     let done = c.accept_number-taken.ensures in
-    let names = names_made c.args.script.now c.args.objects.now c.accept_number-taken.new.heap c.args.caller.now.place.pid c.in-Some.reply (λ plain. accept c.args.script.now plain c.args.caller.now.place.pid (to_z w64 (of_z w64 c.args.on.now.fd)))
-    (λ plain. accept_stays c.args.script.now plain c.args.caller.now.place.pid (to_z w64 (of_z w64 c.args.on.now.fd))) some done.still
+    let names = names_made c.args.script.now c.args.objects.now c.accept_number-taken.new.heap c.args.caller.now.place.pid c.in-Some.reply (λ plain. accept c.args.script.now plain c.args.caller.now.place.pid c.args.on.now.fd)
+    (λ plain. accept_stays c.args.script.now plain c.args.caller.now.place.pid c.args.on.now.fd) some done.still
     (λ numbers plain have.
     accepts_reply numbers c.args.objects.now.heap c.accept_number-taken.new.heap c.args.objects.now.procs c.args.script.now plain c.args.caller.now.place.pid _ c.accept_number-taken.result c.in-Some.reply
     (sym c.told.ensures ∙ c.in-Some.is) (done.answers numbers c.args.script.now plain have)) in
@@ -70,8 +70,7 @@ returns-in-Some-clause-does c =
     (λ plain. accept_stays script plain pid c.args.on.now.fd) c.go_on.ensures.told c.go_on.ensures.goes (no_frames which (λ frames pid value. refl) pid said)
     (λ numbers plain have.
     accepts_reply numbers old.heap heap old.procs script plain pid (accept script plain pid c.args.on.now.fd) taken said (sym c.told.ensures ∙ c.in-Some.is)
-    (subst (λ z. Accepts numbers old.heap heap old.procs script plain pid (accept script plain pid z) taken) refl
-    (done.answers numbers script plain have)))
+    (done.answers numbers script plain have))
 
 pub returns-in-None-clause-kept : goal.returns-in-None-clause-kept
 returns-in-None-clause-kept c =
@@ -92,5 +91,4 @@ returns-in-None-clause-does c =
     performs_asleep script old heap pid (call.Accept c.args.on.now.fd) (λ plain. accept script plain pid c.args.on.now.fd) (nothing_taken taken _ none done.unchanged).0
     (λ world stands.
     accepts_later stands.files.numbers old.heap heap old.procs script world.plain pid (accept script world.plain pid c.args.on.now.fd) taken none
-    (subst (λ z. Accepts stands.files.numbers old.heap heap old.procs script world.plain pid (accept script world.plain pid z) taken) refl
-    (done.answers stands.files.numbers script world.plain stands.files.opened)))
+    (done.answers stands.files.numbers script world.plain stands.files.opened))

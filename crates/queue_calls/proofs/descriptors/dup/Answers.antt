@@ -47,8 +47,7 @@ returns-clause-does c =
     (λ plain. dup_stay script plain pid c.args.on.now.fd) c.go_on.ensures.told c.go_on.ensures.goes (no_frames which (λ frames pid value. refl) pid said)
     (λ numbers plain have.
     subst (Answers numbers heap old.procs script plain pid (dup script plain pid c.args.on.now.fd)) (sym c.value-reply.ensures)
-    (subst (λ z. Answers numbers heap old.procs script plain pid (dup script plain pid z) (value_of c.dup_one.result)) refl
-    (done.answers numbers script plain have)))
+    (done.answers numbers script plain have))
 
 pub returns-clause-paid : goal.returns-clause-paid
 returns-clause-paid c =

@@ -47,10 +47,9 @@ returns-clause-does c =
     (λ plain. fcntl_stay script plain pid c.args.on.now.fd c.args.cmd c.args.arg) c.go_on.ensures.told c.go_on.ensures.goes (no_frames which (λ frames pid value. refl) pid said)
     (λ numbers plain have.
     subst (Answers numbers heap old.procs script plain pid (fcntl script plain pid c.args.on.now.fd c.args.cmd c.args.arg)) (sym c.value-reply.ensures)
-    (subst (λ z. Answers numbers heap old.procs script plain pid (fcntl script plain pid z c.args.cmd c.args.arg) (value_of c.control.result)) refl
-    (subst (λ z. Answers numbers heap old.procs script plain pid (fcntl script plain pid (to_z w64 (of_z w64 c.args.on.now.fd)) z c.args.arg) (value_of c.control.result)) (to_z-of_z w64 c.args.cmd c.ranges.cmd)
-    (subst (λ z. Answers numbers heap old.procs script plain pid (fcntl script plain pid (to_z w64 (of_z w64 c.args.on.now.fd)) (to_z w64 (of_z w64 c.args.cmd)) z) (value_of c.control.result)) (to_z-of_z w64 c.args.arg c.ranges.arg)
-    (done.answers numbers script plain have)))))
+    (subst (λ z. Answers numbers heap old.procs script plain pid (fcntl script plain pid c.args.on.now.fd z c.args.arg) (value_of c.control.result)) (to_z-of_z w64 c.args.cmd c.ranges.cmd)
+    (subst (λ z. Answers numbers heap old.procs script plain pid (fcntl script plain pid c.args.on.now.fd (to_z w64 (of_z w64 c.args.cmd)) z) (value_of c.control.result)) (to_z-of_z w64 c.args.arg c.ranges.arg)
+    (done.answers numbers script plain have))))
 
 pub returns-clause-paid : goal.returns-clause-paid
 returns-clause-paid c =

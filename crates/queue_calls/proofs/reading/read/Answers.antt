@@ -20,19 +20,19 @@ pub read-told-requires-clause-alive : goal.read-told-requires-clause-alive
 read-told-requires-clause-alive c = runs_alive c.args.objects.now c.args.caller.now.place.pid c.args.caller.now.control c.requires.runs
 
 pub read-told-requires-clause-off : goal.read-told-requires-clause-off
-read-told-requires-clause-off c = subst (IsOffNodes c.args.objects.now.heap c.args.objects.now.procs c.args.caller.now.place.pid) (sym refl) c.requires.off
+read-told-requires-clause-off c = c.requires.off
 
 pub go_on_done-requires-clause-kept : goal.go_on_done-requires-clause-kept
 go_on_done-requires-clause-kept c =
     let some = c.requires.stands in
     let names = names_read c.args.script.now c.args.objects.now c.read-told.new.heap c.args.caller.now.place.pid _ _ _ c.read-told.result (c.read-told.ensures.leads c.args.script.now) c.requires.stands
-    (subst (IsOffNodes c.args.objects.now.heap c.args.objects.now.procs c.args.caller.now.place.pid) (sym refl) c.requires.off) in
+    c.requires.off in
     kept_mid c.args.script.now c.args.objects.now c.read-told.new.heap c.read-told.ensures.kept (leaves_rest c.args.objects.now.heap c.read-told.new.heap c.read-told.ensures.beside) names some.1.kept
 
 pub go_on_done-requires-clause-runs : goal.go_on_done-requires-clause-runs
 go_on_done-requires-clause-runs c =
     let names = names_read c.args.script.now c.args.objects.now c.read-told.new.heap c.args.caller.now.place.pid _ _ _ c.read-told.result (c.read-told.ensures.leads c.args.script.now) c.requires.stands
-    (subst (IsOffNodes c.args.objects.now.heap c.args.objects.now.procs c.args.caller.now.place.pid) (sym refl) c.requires.off) in
+    c.requires.off in
     runs_mid c.args.script.now c.args.objects.now c.read-told.new.heap c.read-told.ensures.kept (leaves_rest c.args.objects.now.heap c.read-told.new.heap c.read-told.ensures.beside) names
     c.args.caller.now.place.pid c.args.caller.now.control c.requires.runs
 
@@ -50,7 +50,7 @@ returns-clause-does c =
     let pid = c.args.caller.now.place.pid in
     let told = c.read-told.result in
     let names = names_read c.args.script.now c.args.objects.now c.read-told.new.heap c.args.caller.now.place.pid _ _ _ c.read-told.result (c.read-told.ensures.leads c.args.script.now) c.requires.stands
-    (subst (IsOffNodes c.args.objects.now.heap c.args.objects.now.procs c.args.caller.now.place.pid) (sym refl) c.requires.off) in
+    c.requires.off in
     subst (λ t. Performs script old pid (call.Read c.args.on.now.fd c.args.addr c.args.n) (λ plain. read script plain pid c.args.on.now.fd c.args.addr c.args.n) t new) (sym c.go_on_done.ensures.told)
     (performs script old heap c.read-told.ensures.kept (leaves_rest old.heap heap c.read-told.ensures.beside) names pid (call.Read c.args.on.now.fd c.args.addr c.args.n) (λ moved. ⊥) new
     (λ plain. read script plain pid c.args.on.now.fd c.args.addr c.args.n) told

@@ -21,16 +21,16 @@ pub go_on-requires-clause-kept : goal.go_on-requires-clause-kept
 go_on-requires-clause-kept c =
     let some = c.requires.stands in
     let done = c.listen_number.ensures in
-    let names = names_told c.args.script.now c.args.objects.now c.listen_number.new.heap c.args.caller.now.place.pid (zero_of c.listen_number.result) (λ plain. listen c.args.script.now plain c.args.caller.now.place.pid (to_z w64 (of_z w64 c.args.on.now.fd)))
-    (λ plain. listen_stays c.args.script.now plain c.args.caller.now.place.pid (to_z w64 (of_z w64 c.args.on.now.fd))) some (λ numbers plain have. done.answers numbers c.args.script.now plain have) in
+    let names = names_told c.args.script.now c.args.objects.now c.listen_number.new.heap c.args.caller.now.place.pid (zero_of c.listen_number.result) (λ plain. listen c.args.script.now plain c.args.caller.now.place.pid c.args.on.now.fd)
+    (λ plain. listen_stays c.args.script.now plain c.args.caller.now.place.pid c.args.on.now.fd) some (λ numbers plain have. done.answers numbers c.args.script.now plain have) in
     kept_then c.args.script.now c.args.objects.now c.listen_number.new.heap c.args.caller.now.place.pid c.args.caller.now.control some.1.kept c.requires.runs done.changes done.listed done.owners names
 
 pub go_on-requires-clause-runs : goal.go_on-requires-clause-runs
 go_on-requires-clause-runs c =
     let some = c.requires.stands in
     let done = c.listen_number.ensures in
-    let names = names_told c.args.script.now c.args.objects.now c.listen_number.new.heap c.args.caller.now.place.pid (zero_of c.listen_number.result) (λ plain. listen c.args.script.now plain c.args.caller.now.place.pid (to_z w64 (of_z w64 c.args.on.now.fd)))
-    (λ plain. listen_stays c.args.script.now plain c.args.caller.now.place.pid (to_z w64 (of_z w64 c.args.on.now.fd))) some (λ numbers plain have. done.answers numbers c.args.script.now plain have) in
+    let names = names_told c.args.script.now c.args.objects.now c.listen_number.new.heap c.args.caller.now.place.pid (zero_of c.listen_number.result) (λ plain. listen c.args.script.now plain c.args.caller.now.place.pid c.args.on.now.fd)
+    (λ plain. listen_stays c.args.script.now plain c.args.caller.now.place.pid c.args.on.now.fd) some (λ numbers plain have. done.answers numbers c.args.script.now plain have) in
     runs_then c.args.script.now c.args.objects.now c.listen_number.new.heap c.args.caller.now.place.pid c.args.caller.now.control some.1.kept c.requires.runs done.changes done.listed done.owners names
 
 pub returns-clause-takes : goal.returns-clause-takes
@@ -44,8 +44,8 @@ returns-clause-does c =
     let heap = c.listen_number.new.heap in
     let pid = c.args.caller.now.place.pid in
     let done = c.listen_number.ensures in
-    let names = names_told c.args.script.now c.args.objects.now c.listen_number.new.heap c.args.caller.now.place.pid (zero_of c.listen_number.result) (λ plain. listen c.args.script.now plain c.args.caller.now.place.pid (to_z w64 (of_z w64 c.args.on.now.fd)))
-    (λ plain. listen_stays c.args.script.now plain c.args.caller.now.place.pid (to_z w64 (of_z w64 c.args.on.now.fd))) some (λ numbers plain have. done.answers numbers c.args.script.now plain have) in
+    let names = names_told c.args.script.now c.args.objects.now c.listen_number.new.heap c.args.caller.now.place.pid (zero_of c.listen_number.result) (λ plain. listen c.args.script.now plain c.args.caller.now.place.pid c.args.on.now.fd)
+    (λ plain. listen_stays c.args.script.now plain c.args.caller.now.place.pid c.args.on.now.fd) some (λ numbers plain have. done.answers numbers c.args.script.now plain have) in
     let said = c.zero-reply.result in
     let which = call.Listen c.args.on.now.fd in
     performs script old heap pid c.args.caller.now.control some.1.kept c.requires.runs done.changes done.listed done.owners names
@@ -54,5 +54,4 @@ returns-clause-does c =
     (λ plain. listen_stays script plain pid c.args.on.now.fd) c.go_on.ensures.told c.go_on.ensures.goes (no_frames which (λ frames pid value. refl) pid said)
     (λ numbers plain have.
     subst (Answers numbers heap old.procs script plain pid (listen script plain pid c.args.on.now.fd)) (sym c.zero-reply.ensures)
-    (subst (λ z. Answers numbers heap old.procs script plain pid (listen script plain pid z) (zero_of c.listen_number.result)) refl
-    (done.answers numbers script plain have)))
+    (done.answers numbers script plain have))

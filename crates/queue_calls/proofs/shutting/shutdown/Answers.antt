@@ -21,16 +21,16 @@ pub go_on-requires-clause-kept : goal.go_on-requires-clause-kept
 go_on-requires-clause-kept c =
     let some = c.requires.stands in
     let done = c.shut_number.ensures in
-    let names = names_told c.args.script.now c.args.objects.now c.shut_number.new.heap c.args.caller.now.place.pid (zero_of c.shut_number.result) (λ plain. shutdown c.args.script.now plain c.args.caller.now.place.pid (to_z w64 (of_z w64 c.args.on.now.fd)) (to_z w64 (of_z w64 c.args.how)))
-    (λ plain. shutdown_stays c.args.script.now plain c.args.caller.now.place.pid (to_z w64 (of_z w64 c.args.on.now.fd)) (to_z w64 (of_z w64 c.args.how))) some (λ numbers plain have. done.answers numbers c.args.script.now plain have) in
+    let names = names_told c.args.script.now c.args.objects.now c.shut_number.new.heap c.args.caller.now.place.pid (zero_of c.shut_number.result) (λ plain. shutdown c.args.script.now plain c.args.caller.now.place.pid c.args.on.now.fd (to_z w64 (of_z w64 c.args.how)))
+    (λ plain. shutdown_stays c.args.script.now plain c.args.caller.now.place.pid c.args.on.now.fd (to_z w64 (of_z w64 c.args.how))) some (λ numbers plain have. done.answers numbers c.args.script.now plain have) in
     kept_then c.args.script.now c.args.objects.now c.shut_number.new.heap c.args.caller.now.place.pid c.args.caller.now.control some.1.kept c.requires.runs done.changes done.listed done.owners names
 
 pub go_on-requires-clause-runs : goal.go_on-requires-clause-runs
 go_on-requires-clause-runs c =
     let some = c.requires.stands in
     let done = c.shut_number.ensures in
-    let names = names_told c.args.script.now c.args.objects.now c.shut_number.new.heap c.args.caller.now.place.pid (zero_of c.shut_number.result) (λ plain. shutdown c.args.script.now plain c.args.caller.now.place.pid (to_z w64 (of_z w64 c.args.on.now.fd)) (to_z w64 (of_z w64 c.args.how)))
-    (λ plain. shutdown_stays c.args.script.now plain c.args.caller.now.place.pid (to_z w64 (of_z w64 c.args.on.now.fd)) (to_z w64 (of_z w64 c.args.how))) some (λ numbers plain have. done.answers numbers c.args.script.now plain have) in
+    let names = names_told c.args.script.now c.args.objects.now c.shut_number.new.heap c.args.caller.now.place.pid (zero_of c.shut_number.result) (λ plain. shutdown c.args.script.now plain c.args.caller.now.place.pid c.args.on.now.fd (to_z w64 (of_z w64 c.args.how)))
+    (λ plain. shutdown_stays c.args.script.now plain c.args.caller.now.place.pid c.args.on.now.fd (to_z w64 (of_z w64 c.args.how))) some (λ numbers plain have. done.answers numbers c.args.script.now plain have) in
     runs_then c.args.script.now c.args.objects.now c.shut_number.new.heap c.args.caller.now.place.pid c.args.caller.now.control some.1.kept c.requires.runs done.changes done.listed done.owners names
 
 pub returns-clause-takes : goal.returns-clause-takes
@@ -44,8 +44,8 @@ returns-clause-does c =
     let heap = c.shut_number.new.heap in
     let pid = c.args.caller.now.place.pid in
     let done = c.shut_number.ensures in
-    let names = names_told c.args.script.now c.args.objects.now c.shut_number.new.heap c.args.caller.now.place.pid (zero_of c.shut_number.result) (λ plain. shutdown c.args.script.now plain c.args.caller.now.place.pid (to_z w64 (of_z w64 c.args.on.now.fd)) (to_z w64 (of_z w64 c.args.how)))
-    (λ plain. shutdown_stays c.args.script.now plain c.args.caller.now.place.pid (to_z w64 (of_z w64 c.args.on.now.fd)) (to_z w64 (of_z w64 c.args.how))) some (λ numbers plain have. done.answers numbers c.args.script.now plain have) in
+    let names = names_told c.args.script.now c.args.objects.now c.shut_number.new.heap c.args.caller.now.place.pid (zero_of c.shut_number.result) (λ plain. shutdown c.args.script.now plain c.args.caller.now.place.pid c.args.on.now.fd (to_z w64 (of_z w64 c.args.how)))
+    (λ plain. shutdown_stays c.args.script.now plain c.args.caller.now.place.pid c.args.on.now.fd (to_z w64 (of_z w64 c.args.how))) some (λ numbers plain have. done.answers numbers c.args.script.now plain have) in
     let said = c.zero-reply.result in
     let which = call.Shutdown c.args.on.now.fd c.args.how in
     performs script old heap pid c.args.caller.now.control some.1.kept c.requires.runs done.changes done.listed done.owners names
@@ -54,6 +54,5 @@ returns-clause-does c =
     (λ plain. shutdown_stays script plain pid c.args.on.now.fd c.args.how) c.go_on.ensures.told c.go_on.ensures.goes (no_frames which (λ frames pid value. refl) pid said)
     (λ numbers plain have.
     subst (Answers numbers heap old.procs script plain pid (shutdown script plain pid c.args.on.now.fd c.args.how)) (sym c.zero-reply.ensures)
-    (subst (λ z. Answers numbers heap old.procs script plain pid (shutdown script plain pid z c.args.how) (zero_of c.shut_number.result)) refl
-    (subst (λ z. Answers numbers heap old.procs script plain pid (shutdown script plain pid (to_z w64 (of_z w64 c.args.on.now.fd)) z) (zero_of c.shut_number.result)) (to_z-of_z w64 c.args.how c.ranges.how)
-    (done.answers numbers script plain have))))
+    (subst (λ z. Answers numbers heap old.procs script plain pid (shutdown script plain pid c.args.on.now.fd z) (zero_of c.shut_number.result)) (to_z-of_z w64 c.args.how c.ranges.how)
+    (done.answers numbers script plain have)))

@@ -30,21 +30,21 @@ pub write-told-requires-clause-alive : goal.write-told-requires-clause-alive
 write-told-requires-clause-alive c = runs_alive c.args.objects.now c.args.caller.now.place.pid c.args.caller.now.control c.requires.runs
 
 pub write-told-requires-clause-off : goal.write-told-requires-clause-off
-write-told-requires-clause-off c = subst (IsOffNodes c.args.objects.now.heap c.args.objects.now.procs c.args.caller.now.place.pid) (sym refl) c.requires.off
+write-told-requires-clause-off c = c.requires.off
 
 pub do_part-requires-clause-kept : goal.do_part-requires-clause-kept
 do_part-requires-clause-kept c =
     let some = c.requires.stands in
     let names = names_written c.args.script.now c.args.objects.now c.write-told.new.heap c.args.caller.now.place.pid _ _ _ c.args.done c.write-told.result
     (c.write-told.ensures.leads c.args.script.now) c.requires.stands
-    (subst (IsOffNodes c.args.objects.now.heap c.args.objects.now.procs c.args.caller.now.place.pid) (sym refl) c.requires.off) in
+    c.requires.off in
     (c.args.script.now, kept_mid c.args.script.now c.args.objects.now c.write-told.new.heap c.write-told.ensures.kept (leaves_more c.args.objects.now.heap c.write-told.new.heap c.write-told.ensures.beside) names some.1.kept)
 
 pub do_part-requires-clause-runs : goal.do_part-requires-clause-runs
 do_part-requires-clause-runs c =
     let names = names_written c.args.script.now c.args.objects.now c.write-told.new.heap c.args.caller.now.place.pid _ _ _ c.args.done c.write-told.result
     (c.write-told.ensures.leads c.args.script.now) c.requires.stands
-    (subst (IsOffNodes c.args.objects.now.heap c.args.objects.now.procs c.args.caller.now.place.pid) (sym refl) c.requires.off) in
+    c.requires.off in
     runs_mid c.args.script.now c.args.objects.now c.write-told.new.heap c.write-told.ensures.kept (leaves_more c.args.objects.now.heap c.write-told.new.heap c.write-told.ensures.beside) names
     c.args.caller.now.place.pid c.args.caller.now.control c.requires.runs
 
@@ -74,14 +74,14 @@ go_on_done-requires-clause-kept c =
     let some = c.requires.stands in
     let names = names_written c.args.script.now c.args.objects.now c.write-told.new.heap c.args.caller.now.place.pid _ _ _ c.args.done c.write-told.result
     (c.write-told.ensures.leads c.args.script.now) c.requires.stands
-    (subst (IsOffNodes c.args.objects.now.heap c.args.objects.now.procs c.args.caller.now.place.pid) (sym refl) c.requires.off) in
+    c.requires.off in
     kept_mid c.args.script.now c.args.objects.now c.write-told.new.heap c.write-told.ensures.kept (leaves_more c.args.objects.now.heap c.write-told.new.heap c.write-told.ensures.beside) names some.1.kept
 
 pub go_on_done-requires-clause-runs : goal.go_on_done-requires-clause-runs
 go_on_done-requires-clause-runs c =
     let names = names_written c.args.script.now c.args.objects.now c.write-told.new.heap c.args.caller.now.place.pid _ _ _ c.args.done c.write-told.result
     (c.write-told.ensures.leads c.args.script.now) c.requires.stands
-    (subst (IsOffNodes c.args.objects.now.heap c.args.objects.now.procs c.args.caller.now.place.pid) (sym refl) c.requires.off) in
+    c.requires.off in
     runs_mid c.args.script.now c.args.objects.now c.write-told.new.heap c.write-told.ensures.kept (leaves_more c.args.objects.now.heap c.write-told.new.heap c.write-told.ensures.beside) names
     c.args.caller.now.place.pid c.args.caller.now.control c.requires.runs
 
@@ -90,7 +90,7 @@ returns-in-Part-clause-kept c =
     let some = c.requires.stands in
     let names = names_written c.args.script.now c.args.objects.now c.write-told.new.heap c.args.caller.now.place.pid _ _ _ c.args.done c.write-told.result
     (c.write-told.ensures.leads c.args.script.now) c.requires.stands
-    (subst (IsOffNodes c.args.objects.now.heap c.args.objects.now.procs c.args.caller.now.place.pid) (sym refl) c.requires.off) in
+    c.requires.off in
     c.do_part.ensures.kept c.args.script.now
     (kept_mid c.args.script.now c.args.objects.now c.write-told.new.heap c.write-told.ensures.kept (leaves_more c.args.objects.now.heap c.write-told.new.heap c.write-told.ensures.beside) names some.1.kept)
 
@@ -129,7 +129,7 @@ returns-in-Part-clause-does c =
     let new = c.do_part.new.objects in
     let names = names_written c.args.script.now c.args.objects.now c.write-told.new.heap c.args.caller.now.place.pid _ _ _ c.args.done c.write-told.result
     (c.write-told.ensures.leads c.args.script.now) c.requires.stands
-    (subst (IsOffNodes c.args.objects.now.heap c.args.objects.now.procs c.args.caller.now.place.pid) (sym refl) c.requires.off) in
+    c.requires.off in
     subst (λ t. Performs script old pid (call.Write c.args.on.now.fd c.args.addr c.args.n c.args.done) (λ plain. write script plain pid c.args.on.now.fd c.args.addr c.args.n c.args.done) t new)
     (c.in-Part.is ∙ sym c.do_part.ensures.told)
     (leads script old new c.write-told.new.heap pid c.args.on.now.fd c.args.addr c.args.n _ _ _ c.args.done c.write-told.result
@@ -146,7 +146,7 @@ returns-in_default-clause-does c =
     let new = c.go_on_done.new.objects in
     let names = names_written c.args.script.now c.args.objects.now c.write-told.new.heap c.args.caller.now.place.pid _ _ _ c.args.done c.write-told.result
     (c.write-told.ensures.leads c.args.script.now) c.requires.stands
-    (subst (IsOffNodes c.args.objects.now.heap c.args.objects.now.procs c.args.caller.now.place.pid) (sym refl) c.requires.off) in
+    c.requires.off in
     subst (λ t. Performs script old pid (call.Write c.args.on.now.fd c.args.addr c.args.n c.args.done) (λ plain. write script plain pid c.args.on.now.fd c.args.addr c.args.n c.args.done) t new)
     (sym c.go_on_done.ensures.told)
     (leads script old new c.write-told.new.heap pid c.args.on.now.fd c.args.addr c.args.n _ _ _ c.args.done c.write-told.result

@@ -17,5 +17,5 @@ returns-in-Some-clause-pairs g c =
     let w = c.in-Some.ensures.warmest in
     let distinct = subst (λ l. IsDistinct g.K.PartialEq.eq (keys_of l)) w.is c.in-Some.ensures.valid.distinct in
     let stays : touched test c.args.self.now.pairs ≡ c.args.self.now.pairs =
-        ap (touched test) w.is ∙ last_touched g.met.K.Eq.laws g.met.K.Key.same w.front c.args.key c.in-Some.slot distinct ∙ sym w.is in
+    ap (touched test) w.is ∙ last_touched g.met.K.Eq.laws g.met.K.Key.same w.front c.args.key c.in-Some.slot distinct ∙ sym w.is in
     ap (λ l. order l c.args.self.now.capacity) (sym stays)
