@@ -20,7 +20,7 @@ pub mod Telling
 pub mod Minding
 pub mod Asking
 pub mod Channels
-pub mod Touching
+pub mod Meeting
 pub mod Resting
 pub mod BytesCached
 pub mod SettledBlocks

@@ -15,7 +15,8 @@ use Rattle.kheap_slabs.specs.declared.objects.Target.TheVariants as held
 use Rattle.open_laws.specs.Described.{target_in}
 use Rattle.open_laws.specs.Owned.{HasItsOwners, IsThereFor}
 use Rattle.open_laws.specs.Placed.{Numbers}
-use Rattle.posix_defs.specs.Files.Descriptions.{Target}
+use Rattle.posix_defs.specs.Calls.Opened.{Opened}
+use Rattle.posix_defs.specs.Files.Descriptions.{Target, OnNode, OnPipe, OnSocket}
 use Rattle.posix_defs.specs.Files.State.{Files}
 use Rattle.posix_defs.specs.Plain.{Plain, call_of}
 use Rattle.proc_numbers.specs.declared.lookups.Found.{Found}
@@ -37,12 +38,19 @@ pub target_found : (h : Heap) (kept : TableView) (pid : ℕ) (on : Named) (fd : 
     → target_at files pid fd ≡ option_map (λ (found : Found). target_in numbers found.desc.target) on.found
 target_found h kept pid on fd numbers files opened same have =
     ap (target_at files pid) (sym same)
-    ∙ ap (option_map (λ (it : _). it.is.target)) (opened_is h kept pid on opened numbers files have)
+    ∙ ap (option_map (λ (it : Opened). it.is.target)) (opened_is h kept pid on opened numbers files have)
     ∙ mapped on.found
   where
-    mapped : (o : Option Found) → option_map (λ (it : _). it.is.target) (option_map (opened_in numbers) o) ≡ option_map (λ (found : Found). target_in numbers found.desc.target) o
+    mapped : (o : Option Found) → option_map (λ (it : Opened). it.is.target) (option_map (opened_in numbers) o) ≡ option_map (λ (found : Found). target_in numbers found.desc.target) o
     mapped None = refl
     mapped (Some found) = refl
+
+-- nothing meets what isn't open
+pub meets_nothing : (target : Option Target) → meet target None ≡ false
+meets_nothing None = refl
+meets_nothing (Some (OnNode number)) = refl
+meets_nothing (Some (OnPipe place)) = refl
+meets_nothing (Some (OnSocket place)) = refl
 
 module _ (numbers : Numbers) (h : Heap) (kept : TableView) (files : Files) (have : HaveOpen numbers h kept files) (owners : HasItsOwners h []) where
   pipe_there : (key : ℕ) → IsOpenOn h (held.Pipe key) → InUse h.pipes key
@@ -68,6 +76,12 @@ module _ (numbers : Numbers) (h : Heap) (kept : TableView) (files : Files) (have
   apart_by_keys (held.Pipe key) (held.Sock sock) one other e = refl
   apart_by_keys (held.Sock key) (held.Inode number) one other e = refl
   apart_by_keys (held.Sock key) (held.Pipe pipe) one other e = refl
+
+-- the same number of the same process
+pub meets_alike : (files : Files) (target : Option Target) (at who : ℕ) (fd number : ℤ) → at ≡ who → fd ≡ number → meet target (target_at files at fd) ≡ false
+    → meet target (target_at files who number) ≡ false
+meets_alike files target at who fd number same_pid same_fd apart =
+    ap (λ n. meet target (target_at files n number)) (sym same_pid) ∙ ap (λ n. meet target (target_at files at n)) (sym same_fd) ∙ apart
 
 -- ---- entries of poll
 
