@@ -17,13 +17,13 @@ IsToldSo script plain pid (Some blocks) = would_block script plain pid ≡ block
 
 pub told_so : (script : Script) (plain : Plain) (told : List Sleeper) (pid : ℕ) → AllByRecursion (IsTrulyTold script plain) told → IsToldSo script plain pid (told_of told pid)
 told_so script plain [] pid all = tt
-told_so script plain (sleeper ∷ told) pid all = go (sleeper.pid == pid) refl
+told_so script plain (sleeper ∷ told) pid all = go (sleeper.pid == pid) refl (told_so script plain told pid all.1)
   where
-    go : (same : Bool) → (sleeper.pid == pid) ≡ same → IsToldSo script plain pid (if same then Some sleeper.blocks else told_of told pid)
-    go true is =
+    go : (same : Bool) → (sleeper.pid == pid) ≡ same → IsToldSo script plain pid (told_of told pid) → IsToldSo script plain pid (if same then Some sleeper.blocks else told_of told pid)
+    go true is later =
         let it : IsTrulyTold script plain sleeper = all.0 in
         ap (would_block script plain) (sym (eqb-true sleeper.pid pid is)) ∙ it.blocks
-    go false is = told_so script plain told pid all.1
+    go false is later = later
 
 abbrev IsFalse : Bool → Type 0
 IsFalse true = ⊥
