@@ -1,14 +1,15 @@
 -- The loops that ask sleepers again, from the last to the first.
 use Rattle.std.proofs.Common.{◌≡◌, ◌≢◌, ◌==◌, ℕ, zero, suc, ◌+◌, ◌-◌, ◌<◌, ◌≤◌, ℤ, Bool, true, false, if◌then◌else◌, Option, None, Some, eqb-true, List, [], ◌∷◌, drop, length, slice_set, slice_index_or, remove, refl, ap, sym, ◌∙◌, subst, arith, length-set}
-use Rattle.std.specs.List.{AllByRecursion}
+use Rattle.std.specs.List.{AllByRecursion, refill}
 use Rattle.kabi_types.specs.declared.scripts.Script.{Script}
+use Rattle.posix_defs.specs.Machine.{would_block}
 use Rattle.posix_defs.specs.World.{World}
 use Rattle.posix_defs.specs.Process.{is_alive}
 use Rattle.store_objects.specs.declared.objects.Objects.{Objects}
 use Rattle.store_objects.specs.Standing.{StandsFor}
 use Rattle.call_run.specs.declared.sleepers.Sleeper.{Sleeper}
-use Rattle.call_run.specs.Sleepers.{AreFewer, AreNear, AreRising, AreTrulyTold, IsLookedAt, IsNear, IsTrulyTold, any_sleeper, is_asked, is_gone, is_known, is_learned, is_near, told_of}
-use Rattle.call_run.proofs.Telling.{each_other, rising_removed, rising_set, told_removed, told_set, told_there}
+use Rattle.call_run.specs.Sleepers.{AreFewer, AreNear, AreRising, AreTrulyTold, IsLookedAt, IsNear, IsTrulyTold, NamesMore, NamesOne, any_sleeper, is_asked, is_gone, is_known, is_learned, is_near, told_of}
+use Rattle.call_run.proofs.Telling.{each_other, names_set, read_any, rising_removed, rising_set, set_all, told_removed, told_set, told_there}
 
 -- ---- all are asked
 
@@ -43,6 +44,32 @@ looked_within script objects place old new within is_gone = removed old place wi
     removed [] at inside = absurd (omega arith)
     removed (t ∷ ts) zero inside = omega arith
     removed (t ∷ ts) (suc at) inside = let later : at ≤ length (remove ts at) = removed ts at (omega arith) in omega arith
+
+-- one who lives was asked
+abbrev pub blank : Sleeper
+blank = record { pid = 0; blocks = false; apart = [] }
+
+module _ (told read : List Sleeper) (place : ℕ) (new : Sleeper) (reads : read ≡ told) (within : place < length told) where
+  its_pid : new.pid ≡ (slice_index_or read place blank).pid → new.pid ≡ (slice_index_or told place any_sleeper).pid
+  its_pid same =
+      same ∙ ap (λ (list : List Sleeper). (slice_index_or list place blank).pid) reads ∙ ap (λ (s : Sleeper). s.pid) (read_any told place blank any_sleeper within)
+
+  pub asked_looked : (script : Script) (objects : Objects) → new.pid ≡ (slice_index_or read place blank).pid
+      → ((world : World) → StandsFor script objects world
+      → (is_alive world.plain.table (slice_index_or read place blank).pid ≡ true) × (would_block script world.plain (slice_index_or read place blank).pid ≡ new.blocks))
+      → IsLookedAt script objects told place (refill (length told) told (slice_set read place new))
+  asked_looked script objects same truly =
+      subst (IsLookedAt script objects told place) (sym (set_all told read place new reads))
+      (is_asked new (its_pid same) (λ world stands.
+      let it = truly world stands in
+      record { alive = ap (is_alive world.plain.table) same ∙ it.0; blocks = ap (would_block script world.plain) same ∙ it.1 }))
+
+  pub asked_named : (named more : List ℕ) → AreRising 0 told → new.pid ≡ (slice_index_or read place blank).pid → NamesOne named (slice_index_or read place blank) new more
+      → NamesMore told named (refill (length told) told (slice_set read place new)) more
+  asked_named named more rising same one =
+      subst (λ ts. NamesMore told named ts more) (sym (set_all told read place new reads))
+      (names_set told place blank new named more rising within (same ∙ ap (λ (list : List Sleeper). (slice_index_or list place blank).pid) reads)
+      (subst (λ (list : List Sleeper). NamesOne named (slice_index_or list place blank) new more) reads one))
 
 -- ---- those who are near are asked
 

@@ -52,8 +52,8 @@ module _ {which : Call} where
 -- ---- the number is handed on as it was found
 
 module _ {which : Call} {n : ℤ} (names : (fd : ℤ) → number_of which ≡ Some fd → n ≡ fd) where
-  pub numbered : {a : ℤ} → number_of which ≡ Some a → number_of which ≡ Some n
-  numbered {a} has = has ∙ ap Some (sym (names a has))
+  pub numbered : {that : Call} {a : ℤ} → which ≡ that → number_of that ≡ Some a → number_of which ≡ Some n
+  numbered {a} is has = ap number_of is ∙ has ∙ ap Some (sym (names a (ap number_of is ∙ has)))
 
   pub named_one : (of : ℤ → Call) {a : ℤ} → which ≡ of a → number_of (of a) ≡ Some a → which ≡ of n
   named_one of {a} is has = is ∙ ap of (sym (names a (ap number_of is ∙ has)))

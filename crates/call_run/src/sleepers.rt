@@ -329,12 +329,12 @@ fn ask_each(
 )
     requires stands { (world : World) × StandsFor script.now objects.now world }
     requires rising { AreRising 0 told.old.items }
-    requires room { array_vec_len stirred.old + array_vec_len told.old ≤ 128 }
+    requires room { array_vec_len stirred.old ≤ 64 }
     ensures rising { AreRising 0 told.new.items }
     ensures truly { AreTrulyTold script.now objects.now told.new.items }
     ensures fewer { AreFewer told.old.items told.new.items }
     ensures named { NamesMore told.old.items stirred.old.items told.new.items stirred.new.items }
-    ensures room { array_vec_len stirred.new ≤ array_vec_len stirred.old + array_vec_len told.old }
+    ensures room { array_vec_len stirred.new ≤ array_vec_len stirred.old + 64 }
 {
     let mut place = told.len();
     while place > 0 {

@@ -1,7 +1,6 @@
 -- A process that is there.
-use Rattle.std.proofs.Common.{◌≡◌, ℕ, IsSome, Option, None, Some, refl, ap, ◌∙◌}
+use Rattle.std.proofs.Common.{◌≡◌, ℕ, IsSome, Option, None, Some, refl, ap}
 use Rattle.kheap_slabs.specs.Objects.{object}
-use Rattle.kheap_slabs.specs.declared.objects.Desc.{Desc}
 use Rattle.kheap_slabs.specs.declared.objects.Proc.{Proc}
 use Rattle.kheap_slabs.specs.Heap.{Heap}
 use Rattle.proc_table.specs.Procs.{numbers_in}

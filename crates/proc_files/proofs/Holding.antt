@@ -32,8 +32,10 @@ use Rattle.proc_numbers.proofs.NumberNames.{desc_named_by, opened_nothing, opene
 use Rattle.proc_table.proofs.PlaceLemmas.{some_same}
 use Rattle.proc_numbers.specs.Found.{opened_in}
 use Rattle.proc_numbers.specs.declared.lookups.Found.{Found}
+use Rattle.proc_numbers.specs.declared.lookups.Named.{Named}
 use Rattle.proc_numbers.proofs.NamedOpen.{described_so}
-use Rattle.proc_numbers.specs.Found.{IsOnNode}
+use Rattle.proc_numbers.specs.Found.{IsOnNode, IsOpened}
+use Rattle.proc_numbers.proofs.OpenedBy.{opened_is}
 use Rattle.proc_files.specs.Holding.{CachesStay, HoldFiles, HoldSome, IsHeldIn}
 use Rattle.proc_files.specs.Holders.{AreOpenNodes, holders, IsOpenNode, times}
 use Rattle.proc_files.proofs.Moved.{have_moved, with_it}
@@ -111,10 +113,10 @@ held_in h kept fs some key desc is = by_target desc.target refl
     by_target (target.Pipe pipe) on = tt
     by_target (target.Sock sock) on = tt
 
--- what a number names, where it is looked up as this one
-pub as_found : (numbers : Numbers) (files : Files) (pid : ℕ) (as_fd fd : ℤ) (result o : Option Found) → as_fd ≡ fd → opened_at files pid as_fd ≡ option_map (opened_in numbers) result → result ≡ o
-    → opened_at files pid fd ≡ option_map (opened_in numbers) o
-as_found numbers files pid as_fd fd result o same found is = ap (opened_at files pid) (sym same) ∙ found ∙ ap (option_map (opened_in numbers)) is
+-- what a call's number names in the machine is what was found, or nothing
+pub as_found : (h : Heap) (kept : TableView) (pid : ℕ) (on : Named) → IsOpened h kept pid on → (numbers : Numbers) (files : Files) → HaveOpen numbers h kept files → (o : Option Found) → on.found ≡ o
+    → opened_at files pid on.fd ≡ option_map (opened_in numbers) o
+as_found h kept pid on opened numbers files have o is = opened_is h kept pid on opened numbers files have ∙ ap (option_map (opened_in numbers)) is
 
 -- what isn't open on a node has none
 pub off_node : (numbers : Numbers) (files : Files) (pid : ℕ) (fd : ℤ) (it : Found) → opened_at files pid fd ≡ Some (opened_in numbers it) → is_on_node files (opened_at files pid fd) ≡ false

@@ -51,20 +51,24 @@ fn tells_what_is_outstanding<L: RunName>(
     let picked = state.pick_next();
     let (beside, alone) = helps_twice(&mut state, word, own, other);
     drop(state);
-    let given = picked
-        == Picked::Run {
+    let given = matches!(
+        picked,
+        Picked::Run {
             pid: 1,
             call: Call::Fork,
-        };
-    let waits = beside
-        == (
+        }
+    );
+    let waits = matches!(
+        beside,
+        (
             Relief::Outstanding {
                 charged: 7816,
                 live: 640,
             },
             Item::Live(640),
-        );
-    Ok(given && waits && alone == (Relief::Fits(1), Item::Quiet))
+        )
+    );
+    Ok(given && waits && matches!(alone, (Relief::Fits(1), Item::Quiet)))
 }
 
 /// Reserves where no other thread steps and there is room.

@@ -28,22 +28,26 @@ fn run_by<R: Threads + Wait + Sync, D: Door + Sync>(
 
 /// Whether the process was told that its pid is 1.
 fn is_asked(entry: &Entry) -> bool {
-    *entry
-        == Entry::Done {
+    matches!(
+        entry,
+        Entry::Done {
             pid: 1,
             kind: CallKind::Getpid,
             reply: Reply::Val(1),
         }
+    )
 }
 
 /// Whether the process ended with status 0.
 fn is_ended(entry: &Entry) -> bool {
-    *entry
-        == Entry::Ended {
+    matches!(
+        entry,
+        Entry::Ended {
             pid: 1,
             kind: CallKind::Exit,
             status: 0,
         }
+    )
 }
 
 /// Whether a run was closed with the process's two entries, as one that has ended: 128 bytes are live, the root's node, and 2176 stay

@@ -15,7 +15,7 @@ use Rattle.call_run.proofs.BytesCached.{cached_that, queue_cached}
 use Rattle.call_run.proofs.Dispatch.{done_is, named_four, named_one, named_three, named_two, numbered, performs_that, reaches_that, serves_that, spelt_one, spelt_two}
 use Rattle.call_run.proofs.Naming.{has_file_need, has_left, has_need, may_fetch, paths_of_it, pays, right_that, room_kept, walks_connecting, walks_one, walks_opening, walks_two}
 use Rattle.call_run.proofs.OnFiles.{written_anew}
-use Rattle.call_run.specs.Families.{IsOffFiles, IsOnFile, is_moving, number_of}
+use Rattle.call_run.specs.Families.{IsOffFiles, IsOnFile, is_moving}
 use Rattle.call_run.proofs.calls.run_right.Goals as goal
 
 -- ---- what its number names
@@ -356,7 +356,7 @@ read-requires-clause-needed c =
 
 pub read-requires-clause-on : goal.read-requires-clause-on
 read-requires-clause-on c =
-    subst (IsOnFile c.args.objects.now.heap c.args.objects.now.procs c.args.caller.now.place.pid) (named_three c.named_by-named.ensures.number call.Read c.in-Read.is refl (search (rules, to_z-of_z)) (search (rules, to_z-of_z))) (c.target_of-target.ensures.on _ _ _ c.named_by-named.ensures.opened (numbered c.named_by-named.ensures.number (ap number_of c.in-Read.is)) c.in-File.is)
+    subst (IsOnFile c.args.objects.now.heap c.args.objects.now.procs c.args.caller.now.place.pid) (named_three c.named_by-named.ensures.number call.Read c.in-Read.is refl (search (rules, to_z-of_z)) (search (rules, to_z-of_z))) (c.target_of-target.ensures.on _ _ _ c.named_by-named.ensures.opened (numbered c.named_by-named.ensures.number c.in-Read.is refl) c.in-File.is)
 
 pub returns-in-File-clause-uses : goal.returns-in-File-clause-uses
 returns-in-File-clause-uses c = uses_paid _ _ _ _ _ _ c.read.ensures.paid (c.purse_for-paid.ensures.within c.args.call.now c.requires.needed)
@@ -385,7 +385,7 @@ read-requires-in-Queue-clause-left c =
 
 pub read-requires-in-Queue-clause-off : goal.read-requires-in-Queue-clause-off
 read-requires-in-Queue-clause-off c =
-    subst (IsOffFiles c.args.objects.now.heap c.args.objects.now.procs c.args.caller.now.place.pid) (named_three c.named_by-named.ensures.number call.Read c.in-Read.is refl (search (rules, to_z-of_z)) (search (rules, to_z-of_z))) (c.target_of-target.ensures.off _ _ _ c.named_by-named.ensures.opened (numbered c.named_by-named.ensures.number (ap number_of c.in-Read.is)) c.in-Queue.is)
+    subst (IsOffFiles c.args.objects.now.heap c.args.objects.now.procs c.args.caller.now.place.pid) (named_three c.named_by-named.ensures.number call.Read c.in-Read.is refl (search (rules, to_z-of_z)) (search (rules, to_z-of_z))) (c.target_of-target.ensures.off _ _ _ c.named_by-named.ensures.opened (numbered c.named_by-named.ensures.number c.in-Read.is refl) c.in-Queue.is)
 
 pub read-requires-in-Queue-clause-stands : goal.read-requires-in-Queue-clause-stands
 read-requires-in-Queue-clause-stands c = (c.requires.stands.0, c.requires.stands.1)
@@ -399,34 +399,34 @@ returns-in-Queue-clause-does c =
 
 pub returns-in-Queue-clause-cached : goal.returns-in-Queue-clause-cached
 returns-in-Queue-clause-cached c =
-    queue_cached c.args.objects.now c.read-in-Queue.new.objects c.args.caller.now.place.pid c.args.call.now c.in-Read.fd c.in-Read.addr c.in-Read.n c.read-in-Queue.result c.in-Read.is (c.target_of-target.ensures.off _ _ _ c.named_by-named.ensures.opened (numbered c.named_by-named.ensures.number (ap number_of c.in-Read.is)) c.in-Queue.is)
+    queue_cached c.args.objects.now c.read-in-Queue.new.objects c.args.caller.now.place.pid c.args.call.now c.in-Read.fd c.in-Read.addr c.in-Read.n c.read-in-Queue.result c.in-Read.is (c.target_of-target.ensures.off _ _ _ c.named_by-named.ensures.opened (numbered c.named_by-named.ensures.number c.in-Read.is refl) c.in-Queue.is)
 
 -- ---- Write to a file
 
 pub write-requires-clause-right : goal.write-requires-clause-right
 write-requires-clause-right c =
-    right_that c.requires.right (named_three c.named_by-named.ensures.number (λ x y z. call.Write x y z 0) (written_anew c.in-Write.is (c.target_of-target.ensures.fresh _ _ _ _ c.named_by-named.ensures.opened (numbered c.named_by-named.ensures.number (ap number_of c.in-Write.is)) c.in-File-target.is c.requires.half.1 c.requires.half.2)) refl (search (rules, to_z-of_z)) (search (rules, to_z-of_z)))
+    right_that c.requires.right (named_three c.named_by-named.ensures.number (λ x y z. call.Write x y z 0) (written_anew c.in-Write.is (c.target_of-target.ensures.fresh _ _ _ _ c.named_by-named.ensures.opened (numbered c.named_by-named.ensures.number c.in-Write.is refl) c.in-File-target.is c.requires.half.1 c.requires.half.2)) refl (search (rules, to_z-of_z)) (search (rules, to_z-of_z)))
 
 pub write-requires-clause-may : goal.write-requires-clause-may
 write-requires-clause-may c =
     may_fetch c.purse_for-paid.ensures.value c.in-File-target.is c.requires.needed c.requires.right
-    (named_three c.named_by-named.ensures.number (λ x y z. call.Write x y z 0) (written_anew c.in-Write.is (c.target_of-target.ensures.fresh _ _ _ _ c.named_by-named.ensures.opened (numbered c.named_by-named.ensures.number (ap number_of c.in-Write.is)) c.in-File-target.is c.requires.half.1 c.requires.half.2)) refl (search (rules, to_z-of_z)) (search (rules, to_z-of_z))) refl c.requires.room
+    (named_three c.named_by-named.ensures.number (λ x y z. call.Write x y z 0) (written_anew c.in-Write.is (c.target_of-target.ensures.fresh _ _ _ _ c.named_by-named.ensures.opened (numbered c.named_by-named.ensures.number c.in-Write.is refl) c.in-File-target.is c.requires.half.1 c.requires.half.2)) refl (search (rules, to_z-of_z)) (search (rules, to_z-of_z))) refl c.requires.room
 
 pub write-requires-clause-needed : goal.write-requires-clause-needed
 write-requires-clause-needed c =
     has_file_need c.purse_for-paid.ensures.value c.in-File-target.is c.requires.needed c.requires.right
-    (named_three c.named_by-named.ensures.number (λ x y z. call.Write x y z 0) (written_anew c.in-Write.is (c.target_of-target.ensures.fresh _ _ _ _ c.named_by-named.ensures.opened (numbered c.named_by-named.ensures.number (ap number_of c.in-Write.is)) c.in-File-target.is c.requires.half.1 c.requires.half.2)) refl (search (rules, to_z-of_z)) (search (rules, to_z-of_z)))
+    (named_three c.named_by-named.ensures.number (λ x y z. call.Write x y z 0) (written_anew c.in-Write.is (c.target_of-target.ensures.fresh _ _ _ _ c.named_by-named.ensures.opened (numbered c.named_by-named.ensures.number c.in-Write.is refl) c.in-File-target.is c.requires.half.1 c.requires.half.2)) refl (search (rules, to_z-of_z)) (search (rules, to_z-of_z)))
 
 pub write-requires-clause-on : goal.write-requires-clause-on
 write-requires-clause-on c =
-    subst (IsOnFile c.args.objects.now.heap c.args.objects.now.procs c.args.caller.now.place.pid) (named_three c.named_by-named.ensures.number (λ x y z. call.Write x y z 0) (written_anew c.in-Write.is (c.target_of-target.ensures.fresh _ _ _ _ c.named_by-named.ensures.opened (numbered c.named_by-named.ensures.number (ap number_of c.in-Write.is)) c.in-File-target.is c.requires.half.1 c.requires.half.2)) refl (search (rules, to_z-of_z)) (search (rules, to_z-of_z))) (c.target_of-target.ensures.on _ _ _ c.named_by-named.ensures.opened (numbered c.named_by-named.ensures.number (ap number_of c.in-Write.is)) c.in-File-target.is)
+    subst (IsOnFile c.args.objects.now.heap c.args.objects.now.procs c.args.caller.now.place.pid) (named_three c.named_by-named.ensures.number (λ x y z. call.Write x y z 0) (written_anew c.in-Write.is (c.target_of-target.ensures.fresh _ _ _ _ c.named_by-named.ensures.opened (numbered c.named_by-named.ensures.number c.in-Write.is refl) c.in-File-target.is c.requires.half.1 c.requires.half.2)) refl (search (rules, to_z-of_z)) (search (rules, to_z-of_z))) (c.target_of-target.ensures.on _ _ _ c.named_by-named.ensures.opened (numbered c.named_by-named.ensures.number c.in-Write.is refl) c.in-File-target.is)
 
 pub returns-in-File-target-clause-uses : goal.returns-in-File-target-clause-uses
 returns-in-File-target-clause-uses c = uses_paid _ _ _ _ _ _ c.write.ensures.paid (c.purse_for-paid.ensures.within c.args.call.now c.requires.needed)
 
 pub returns-in-File-target-clause-does : goal.returns-in-File-target-clause-does
 returns-in-File-target-clause-does c =
-    serves_that (named_three c.named_by-named.ensures.number (λ x y z. call.Write x y z 0) (written_anew c.in-Write.is (c.target_of-target.ensures.fresh _ _ _ _ c.named_by-named.ensures.opened (numbered c.named_by-named.ensures.number (ap number_of c.in-Write.is)) c.in-File-target.is c.requires.half.1 c.requires.half.2)) refl (search (rules, to_z-of_z)) (search (rules, to_z-of_z))) c.write.ensures.does
+    serves_that (named_three c.named_by-named.ensures.number (λ x y z. call.Write x y z 0) (written_anew c.in-Write.is (c.target_of-target.ensures.fresh _ _ _ _ c.named_by-named.ensures.opened (numbered c.named_by-named.ensures.number c.in-Write.is refl) c.in-File-target.is c.requires.half.1 c.requires.half.2)) refl (search (rules, to_z-of_z)) (search (rules, to_z-of_z))) c.write.ensures.does
 
 pub returns-in-File-target-clause-cached : goal.returns-in-File-target-clause-cached
 returns-in-File-target-clause-cached c = cached_that _ _ _ _ c.in-Write.is tt
@@ -449,7 +449,7 @@ write-requires-in-Queue-target-clause-left c =
 
 pub write-requires-in-Queue-target-clause-off : goal.write-requires-in-Queue-target-clause-off
 write-requires-in-Queue-target-clause-off c =
-    subst (IsOffFiles c.args.objects.now.heap c.args.objects.now.procs c.args.caller.now.place.pid) (named_three c.named_by-named.ensures.number (λ x y z. call.Write x y z c.in-Write.done) c.in-Write.is refl (search (rules, to_z-of_z)) (search (rules, to_z-of_z))) (c.target_of-target.ensures.off _ _ _ c.named_by-named.ensures.opened (numbered c.named_by-named.ensures.number (ap number_of c.in-Write.is)) c.in-Queue-target.is)
+    subst (IsOffFiles c.args.objects.now.heap c.args.objects.now.procs c.args.caller.now.place.pid) (named_three c.named_by-named.ensures.number (λ x y z. call.Write x y z c.in-Write.done) c.in-Write.is refl (search (rules, to_z-of_z)) (search (rules, to_z-of_z))) (c.target_of-target.ensures.off _ _ _ c.named_by-named.ensures.opened (numbered c.named_by-named.ensures.number c.in-Write.is refl) c.in-Queue-target.is)
 
 pub write-requires-in-Queue-target-clause-stands : goal.write-requires-in-Queue-target-clause-stands
 write-requires-in-Queue-target-clause-stands c = (c.requires.stands.0, c.requires.stands.1)

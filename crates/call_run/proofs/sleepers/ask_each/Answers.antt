@@ -28,7 +28,7 @@ look_at-requires-clause-rising c = c.loop-place.invariant.rising
 pub look_at-requires-clause-room : goal.look_at-requires-clause-room
 look_at-requires-clause-room c =
     let some : 0 < c.loop-place.place = c.loop-place-test.true in
-    let room : length c.loop-place.stirred.items + c.loop-place.place ≤ length c.args.stirred.now.items + length c.args.told.now.items = c.loop-place.invariant.room in
+    let room : length c.loop-place.stirred.items + c.loop-place.place ≤ length c.args.stirred.now.items + 64 = c.loop-place.invariant.room in
     omega (arith, c.requires.room)
 
 pub loop-place-preserved : goal.loop-place-preserved
@@ -47,7 +47,7 @@ loop-place-preserved c =
           looked_fewer c.args.script.now c.args.objects.now _ _ _ within c.loop-place.invariant.rising c.look_at.ensures.looked who (c.loop-place.invariant.fewer who none);
       named = names_then _ _ _ _ _ _ c.loop-place.invariant.named c.look_at.ensures.named;
       room =
-          let room : length c.loop-place.stirred.items + c.loop-place.place ≤ length c.args.stirred.now.items + length c.args.told.now.items = c.loop-place.invariant.room in
+          let room : length c.loop-place.stirred.items + c.loop-place.place ≤ length c.args.stirred.now.items + 64 = c.loop-place.invariant.room in
           omega (arith, c.look_at.ensures.room);
     }
 

@@ -10,7 +10,7 @@ invariant-loop-place l = record {
   truly : AreTrulyTold l.script l.objects (drop l.place l.told.items);
   fewer : AreFewer l.fn.told.items l.told.items;
   named : NamesMore l.fn.told.items l.fn.stirred.items l.told.items l.stirred.items;
-  room : length l.stirred.items + l.place ≤ length l.fn.stirred.items + length l.fn.told.items;
+  room : length l.stirred.items + l.place ≤ length l.fn.stirred.items + 64;
 }
 
 abbrev pub decreases-loop-place : goal.decreases-loop-place

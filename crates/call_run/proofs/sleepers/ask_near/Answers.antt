@@ -38,10 +38,54 @@ look_near-requires-clause-room c =
     omega (arith, c.requires.room)
 
 pub loop-place-preserved-then-look_near : goal.loop-place-preserved-then-look_near
-loop-place-preserved-then-look_near c = ?
+loop-place-preserved-then-look_near c =
+    let script = c.args.script.now in
+    let objects = c.args.objects.now in
+    let fd = to_z w64 (of_z w64 c.args.fd) in
+    let more : 0 < c.loop-place.place = c.loop-place-test.true in
+    let before : c.loop-place.place ≤ length c.loop-place.told = c.loop-place.invariant.within in
+    let within : c.loop-place.place - 1 < length c.loop-place.told = omega arith in
+    let next : suc (c.loop-place.place - 1) ≡ c.loop-place.place = omega arith in
+    let sleeper = c.look_near.new.sleeper in
+    let same = near_pid script objects c.args.pid fd c.args.channel _ sleeper c.look_near.result c.look_near.ensures.near in
+    let asked = subst (λ n. AreNearFrom script objects c.args.pid fd c.args.channel n c.args.told.now c.loop-place.told c.loop-place.near) (sym next) c.loop-place.invariant.asked in
+    let room : length c.loop-place.stirred.items + c.loop-place.place ≤ length c.args.stirred.now.items + length c.args.told.now = c.loop-place.invariant.room in
+    record {
+      within = let many = length-set c.loop-place.told (c.loop-place.place - 1) sleeper in omega (arith, many);
+      rising = rising_set c.loop-place.told 0 (c.loop-place.place - 1) _ sleeper c.loop-place.invariant.rising within same;
+      asked =
+          near_step script objects c.args.pid fd c.args.channel (c.loop-place.place - 1) c.args.told.now c.loop-place.told _ sleeper c.look_near.result c.loop-place.near true within
+          (λ _. refl) (λ _. refl) c.look_near.ensures.near asked;
+      named =
+          names_then c.args.told.now c.loop-place.told _ c.args.stirred.now.items c.loop-place.stirred.items c.look_near.new.stirred.items c.loop-place.invariant.named
+          (names_set c.loop-place.told (c.loop-place.place - 1) _ sleeper c.loop-place.stirred.items c.look_near.new.stirred.items c.loop-place.invariant.rising within same c.look_near.ensures.named);
+      room = omega (arith, c.look_near.ensures.room);
+    }
 
-pub loop-place-preserved-else-look_near : goal.loop-place-preserved-else-look_near
-loop-place-preserved-else-look_near c = ?
+pub loop-place-preserved : goal.loop-place-preserved
+loop-place-preserved c =
+    let script = c.args.script.now in
+    let objects = c.args.objects.now in
+    let fd = to_z w64 (of_z w64 c.args.fd) in
+    let more : 0 < c.loop-place.place = c.loop-place-test.true in
+    let before : c.loop-place.place ≤ length c.loop-place.told = c.loop-place.invariant.within in
+    let within : c.loop-place.place - 1 < length c.loop-place.told = omega arith in
+    let next : suc (c.loop-place.place - 1) ≡ c.loop-place.place = omega arith in
+    let sleeper = c.look_near.new.sleeper in
+    let same = near_pid script objects c.args.pid fd c.args.channel _ sleeper c.look_near.result c.look_near.ensures.near in
+    let asked = subst (λ n. AreNearFrom script objects c.args.pid fd c.args.channel n c.args.told.now c.loop-place.told c.loop-place.near) (sym next) c.loop-place.invariant.asked in
+    let room : length c.loop-place.stirred.items + c.loop-place.place ≤ length c.args.stirred.now.items + length c.args.told.now = c.loop-place.invariant.room in
+    record {
+      within = let many = length-set c.loop-place.told (c.loop-place.place - 1) sleeper in omega (arith, many);
+      rising = rising_set c.loop-place.told 0 (c.loop-place.place - 1) _ sleeper c.loop-place.invariant.rising within same;
+      asked =
+          near_step script objects c.args.pid fd c.args.channel (c.loop-place.place - 1) c.args.told.now c.loop-place.told _ sleeper c.look_near.result c.loop-place.near c.loop-place.near within
+          (λ e. e) (λ e. absurd (either (sym e ∙ c.if-look_near.false))) c.look_near.ensures.near asked;
+      named =
+          names_then c.args.told.now c.loop-place.told _ c.args.stirred.now.items c.loop-place.stirred.items c.look_near.new.stirred.items c.loop-place.invariant.named
+          (names_set c.loop-place.told (c.loop-place.place - 1) _ sleeper c.loop-place.stirred.items c.look_near.new.stirred.items c.loop-place.invariant.rising within same c.look_near.ensures.named);
+      room = omega (arith, c.look_near.ensures.room);
+    }
 
 pub returns-clause-near : goal.returns-clause-near
 returns-clause-near c =

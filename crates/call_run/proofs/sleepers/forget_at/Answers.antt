@@ -1,4 +1,4 @@
-use Rattle.std.proofs.Common.{◌≡◌, ap, sym, subst, ◌∙◌}
+use Rattle.std.proofs.Common.{ap, sym, subst, ◌∙◌}
 use Rattle.call_run.specs.declared.sleepers.Sleeper.{Sleeper}
 use Rattle.call_run.specs.Sleepers.{NamesMore}
 use Rattle.call_run.proofs.Telling.{named_more, names_gone}

@@ -1,4 +1,4 @@
-use Rattle.std.proofs.Common.{◌≡◌, ◌<◌, ◌≤◌, ◌-◌, length, arith}
+use Rattle.std.proofs.Common.{◌<◌, ◌≤◌, ◌-◌, length, arith}
 use Rattle.call_run.specs.Sleepers.{place_in}
 use Rattle.call_run.proofs.Telling.{few_in, more_in, near_in}
 use Rattle.call_run.proofs.sleepers.place_of.Goals as goal

@@ -16,25 +16,24 @@ use Rattle.proc_files.proofs.Ranges.{as_mapped, as_range, no_count, right_placed
 use Rattle.proc_files.proofs.ReadAnswers.{pread_closed, pread_denied, pread_directory, pread_goes, pread_nothing, pread_refused, pread_unmapped}
 use Rattle.kabi_types.specs.declared.calls.Call.TheVariants as call
 use Rattle.proc_files.proofs.Saves.{keeps_read, saves_read, saves_used}
-use Rattle.proc_numbers.specs.Found.{IsNamed}
 use Rattle.kheap_slabs.specs.declared.objects.Desc.{Desc}
-use Rattle.proc_numbers.proofs.OpenedBy.{is_named, is_there, opened_is}
+use Rattle.proc_numbers.proofs.OpenedBy.{is_named, is_there}
 use Rattle.proc_files.proofs.reading.pread_file.Goals as goal
 
 pub returns-in_default-clause-leads : goal.returns-in_default-clause-leads
 returns-in_default-clause-leads c = λ script numbers others plain account stands hold.
     leads_nowhere script numbers others c.args.heap.now c.args.procs.now c.args.tree.now plain account c.args.place.pid (call.Pread c.args.on.now.fd c.args.addr c.args.n c.args.at) c.requires.kept stands hold _ (Fail EBADF)
-    (pread_closed script numbers plain c.args.place.pid c.args.on.now.fd c.args.addr c.args.n c.args.at (as_found numbers plain.files c.args.place.pid _ c.args.on.now.fd _ None refl (opened_is c.args.heap.now c.args.procs.now c.args.place.pid c.args.on.now c.requires.opened numbers plain.files hold.opened) c.in_default.is)) refl
+    (pread_closed script numbers plain c.args.place.pid c.args.on.now.fd c.args.addr c.args.n c.args.at (as_found c.args.heap.now c.args.procs.now c.args.place.pid c.args.on.now c.requires.opened numbers plain.files hold.opened None c.in_default.is)) refl
 
 pub returns-then-not-is_readable-clause-leads : goal.returns-then-not-is_readable-clause-leads
 returns-then-not-is_readable-clause-leads c = λ script numbers others plain account stands hold.
     leads_nowhere script numbers others c.args.heap.now c.args.procs.now c.args.tree.now plain account c.args.place.pid (call.Pread c.args.on.now.fd c.args.addr c.args.n c.args.at) c.requires.kept stands hold _ (Fail EBADF)
-    (pread_denied script numbers plain c.args.place.pid c.args.on.now.fd c.args.addr c.args.n c.in-Some.found (as_found numbers plain.files c.args.place.pid _ c.args.on.now.fd _ (Some c.in-Some.found) refl (opened_is c.args.heap.now c.args.procs.now c.args.place.pid c.args.on.now c.requires.opened numbers plain.files hold.opened) c.in-Some.is) c.args.at (sym c.is_readable.ensures ∙ c.if-not-is_readable.true)) refl
+    (pread_denied script numbers plain c.args.place.pid c.args.on.now.fd c.args.addr c.args.n c.in-Some.found (as_found c.args.heap.now c.args.procs.now c.args.place.pid c.args.on.now c.requires.opened numbers plain.files hold.opened (Some c.in-Some.found) c.in-Some.is) c.args.at (sym c.is_readable.ensures ∙ c.if-not-is_readable.true)) refl
 
 pub returns-in_default-target-clause-leads : goal.returns-in_default-target-clause-leads
 returns-in_default-target-clause-leads c = λ script numbers others plain account stands hold.
     leads_nowhere script numbers others c.args.heap.now c.args.procs.now c.args.tree.now plain account c.args.place.pid (call.Pread c.args.on.now.fd c.args.addr c.args.n c.args.at) c.requires.kept stands hold _ (Fail ESPIPE)
-    (pread_refused script numbers plain c.args.place.pid c.args.on.now.fd c.args.addr c.args.n c.in-Some.found (as_found numbers plain.files c.args.place.pid _ c.args.on.now.fd _ (Some c.in-Some.found) refl (opened_is c.args.heap.now c.args.procs.now c.args.place.pid c.args.on.now c.requires.opened numbers plain.files hold.opened) c.in-Some.is) c.args.at (sym c.is_readable.ensures ∙ c.if-not-is_readable.false) (no_node c.in-Some.found.desc.target c.in_default-target.not-Inode)) refl
+    (pread_refused script numbers plain c.args.place.pid c.args.on.now.fd c.args.addr c.args.n c.in-Some.found (as_found c.args.heap.now c.args.procs.now c.args.place.pid c.args.on.now c.requires.opened numbers plain.files hold.opened (Some c.in-Some.found) c.in-Some.is) c.args.at (sym c.is_readable.ensures ∙ c.if-not-is_readable.false) (no_node c.in-Some.found.desc.target c.in_default-target.not-Inode)) refl
 
 pub stat_node-info-requires : goal.stat_node-info-requires
 stat_node-info-requires c =
@@ -43,11 +42,11 @@ stat_node-info-requires c =
 pub returns-then-is_directory-clause-leads : goal.returns-then-is_directory-clause-leads
 returns-then-is_directory-clause-leads c = λ script numbers others plain account stands hold.
     leads_nowhere script numbers others c.args.heap.now c.args.procs.now c.stat_node-info.new.self plain account c.args.place.pid (call.Pread c.args.on.now.fd c.args.addr c.args.n c.args.at) c.requires.kept stands (hold_on numbers others c.args.heap.now c.args.procs.now c.args.tree.now c.stat_node-info.new.self plain.files c.stat_node-info.ensures.stands hold) _ (Fail EISDIR)
-    (pread_directory script numbers plain c.args.place.pid c.args.on.now.fd c.args.addr c.args.n c.in-Some.found (as_found numbers plain.files c.args.place.pid _ c.args.on.now.fd _ (Some c.in-Some.found) refl (opened_is c.args.heap.now c.args.procs.now c.args.place.pid c.args.on.now c.requires.opened numbers plain.files hold.opened) c.in-Some.is) c.in-Inode.node c.in-Inode.is c.args.at (sym c.is_readable.ensures ∙ c.if-not-is_readable.false) (sym (c.is_directory.ensures plain.files.tree c.in-Inode.node (c.stat_node-info.ensures.value plain.files.tree (holders others plain.files) hold.tree)) ∙ c.if-is_directory.true)) refl
+    (pread_directory script numbers plain c.args.place.pid c.args.on.now.fd c.args.addr c.args.n c.in-Some.found (as_found c.args.heap.now c.args.procs.now c.args.place.pid c.args.on.now c.requires.opened numbers plain.files hold.opened (Some c.in-Some.found) c.in-Some.is) c.in-Inode.node c.in-Inode.is c.args.at (sym c.is_readable.ensures ∙ c.if-not-is_readable.false) (sym (c.is_directory.ensures plain.files.tree c.in-Inode.node (c.stat_node-info.ensures.value plain.files.tree (holders others plain.files) hold.tree)) ∙ c.if-is_directory.true)) refl
 
 pub returns-then-is_directory-clause-stays : goal.returns-then-is_directory-clause-stays
 returns-then-is_directory-clause-stays c = λ numbers files have off.
-    absurd (on_node numbers files c.args.place.pid c.args.on.now.fd c.in-Some.found c.in-Inode.node (as_found numbers files c.args.place.pid _ c.args.on.now.fd _ (Some c.in-Some.found) refl (opened_is c.args.heap.now c.args.procs.now c.args.place.pid c.args.on.now c.requires.opened numbers files have) c.in-Some.is) c.in-Inode.is off)
+    absurd (on_node numbers files c.args.place.pid c.args.on.now.fd c.in-Some.found c.in-Inode.node (as_found c.args.heap.now c.args.procs.now c.args.place.pid c.args.on.now c.requires.opened numbers files have (Some c.in-Some.found) c.in-Some.is) c.in-Inode.is off)
 
 pub returns-then-is_directory-clause-reads : goal.returns-then-is_directory-clause-reads
 returns-then-is_directory-clause-reads c = used_reads c.args.tree.now c.stat_node-info.new.self c.stat_node-info.ensures.used
@@ -66,11 +65,11 @@ range_of-requires-clause-few c =
 pub returns-in_default-range_of-clause-leads : goal.returns-in_default-range_of-clause-leads
 returns-in_default-range_of-clause-leads c = λ script numbers others plain account stands hold.
     leads_nowhere script numbers others c.args.heap.now c.args.procs.now c.stat_node-info.new.self plain account c.args.place.pid (call.Pread c.args.on.now.fd c.args.addr c.args.n c.args.at) c.requires.kept stands (hold_on numbers others c.args.heap.now c.args.procs.now c.args.tree.now c.stat_node-info.new.self plain.files c.stat_node-info.ensures.stands hold) _ (Fail EFAULT)
-    (pread_unmapped script numbers plain c.args.place.pid c.args.on.now.fd c.args.addr c.args.n c.in-Some.found (as_found numbers plain.files c.args.place.pid _ c.args.on.now.fd _ (Some c.in-Some.found) refl (opened_is c.args.heap.now c.args.procs.now c.args.place.pid c.args.on.now c.requires.opened numbers plain.files hold.opened) c.in-Some.is) c.in-Inode.node c.in-Inode.is c.args.at (sym c.is_readable.ensures ∙ c.if-not-is_readable.false) (sym (c.is_directory.ensures plain.files.tree c.in-Inode.node (c.stat_node-info.ensures.value plain.files.tree (holders others plain.files) hold.tree)) ∙ c.if-is_directory.false) (as_mapped c.args.heap.now c.args.procs.now plain.table c.args.place.pid _ c.args.addr _ c.args.n _ false (to_z-of_z w64 c.args.addr c.ranges.addr) (to_z-of_z w64 c.args.n c.ranges.n) c.range_of.ensures.tells stands.table (ap is_some c.in_default-range_of.is))) refl
+    (pread_unmapped script numbers plain c.args.place.pid c.args.on.now.fd c.args.addr c.args.n c.in-Some.found (as_found c.args.heap.now c.args.procs.now c.args.place.pid c.args.on.now c.requires.opened numbers plain.files hold.opened (Some c.in-Some.found) c.in-Some.is) c.in-Inode.node c.in-Inode.is c.args.at (sym c.is_readable.ensures ∙ c.if-not-is_readable.false) (sym (c.is_directory.ensures plain.files.tree c.in-Inode.node (c.stat_node-info.ensures.value plain.files.tree (holders others plain.files) hold.tree)) ∙ c.if-is_directory.false) (as_mapped c.args.heap.now c.args.procs.now plain.table c.args.place.pid _ c.args.addr _ c.args.n _ false (to_z-of_z w64 c.args.addr c.ranges.addr) (to_z-of_z w64 c.args.n c.ranges.n) c.range_of.ensures.tells stands.table (ap is_some c.in_default-range_of.is))) refl
 
 pub returns-in_default-range_of-clause-stays : goal.returns-in_default-range_of-clause-stays
 returns-in_default-range_of-clause-stays c = λ numbers files have off.
-    absurd (on_node numbers files c.args.place.pid c.args.on.now.fd c.in-Some.found c.in-Inode.node (as_found numbers files c.args.place.pid _ c.args.on.now.fd _ (Some c.in-Some.found) refl (opened_is c.args.heap.now c.args.procs.now c.args.place.pid c.args.on.now c.requires.opened numbers files have) c.in-Some.is) c.in-Inode.is off)
+    absurd (on_node numbers files c.args.place.pid c.args.on.now.fd c.in-Some.found c.in-Inode.node (as_found c.args.heap.now c.args.procs.now c.args.place.pid c.args.on.now c.requires.opened numbers files have (Some c.in-Some.found) c.in-Some.is) c.in-Inode.is off)
 
 pub returns-in_default-range_of-clause-reads : goal.returns-in_default-range_of-clause-reads
 returns-in_default-range_of-clause-reads c = used_reads c.args.tree.now c.stat_node-info.new.self c.stat_node-info.ensures.used
@@ -79,11 +78,11 @@ pub returns-then-is_empty-clause-leads : goal.returns-then-is_empty-clause-leads
 returns-then-is_empty-clause-leads c = λ script numbers others plain account stands hold.
     let range = (as_range c.args.heap.now c.args.procs.now c.args.place.pid _ c.args.addr _ c.args.n _ _ _ (to_z-of_z w64 c.args.addr c.ranges.addr) (to_z-of_z w64 c.args.n c.ranges.n) c.in-Some-range_of.ensures.range) in
     leads_nowhere script numbers others c.args.heap.now c.args.procs.now c.stat_node-info.new.self plain account c.args.place.pid (call.Pread c.args.on.now.fd c.args.addr c.args.n c.args.at) c.requires.kept stands (hold_on numbers others c.args.heap.now c.args.procs.now c.args.tree.now c.stat_node-info.new.self plain.files c.stat_node-info.ensures.stands hold) _ (Val (pos 0))
-    (pread_nothing script numbers plain c.args.place.pid c.args.on.now.fd c.args.addr c.args.n c.in-Some.found (as_found numbers plain.files c.args.place.pid _ c.args.on.now.fd _ (Some c.in-Some.found) refl (opened_is c.args.heap.now c.args.procs.now c.args.place.pid c.args.on.now c.requires.opened numbers plain.files hold.opened) c.in-Some.is) c.in-Inode.node c.in-Inode.is c.args.at (sym c.is_readable.ensures ∙ c.if-not-is_readable.false) (sym (c.is_directory.ensures plain.files.tree c.in-Inode.node (c.stat_node-info.ensures.value plain.files.tree (holders others plain.files) hold.tree)) ∙ c.if-is_directory.false) (as_mapped c.args.heap.now c.args.procs.now plain.table c.args.place.pid _ c.args.addr _ c.args.n _ true (to_z-of_z w64 c.args.addr c.ranges.addr) (to_z-of_z w64 c.args.n c.ranges.n) c.range_of.ensures.tells stands.table (ap is_some c.in-Some-range_of.is)) (sym range.counted ∙ no_count _ (sym c.is_empty.ensures ∙ c.if-is_empty.true))) refl
+    (pread_nothing script numbers plain c.args.place.pid c.args.on.now.fd c.args.addr c.args.n c.in-Some.found (as_found c.args.heap.now c.args.procs.now c.args.place.pid c.args.on.now c.requires.opened numbers plain.files hold.opened (Some c.in-Some.found) c.in-Some.is) c.in-Inode.node c.in-Inode.is c.args.at (sym c.is_readable.ensures ∙ c.if-not-is_readable.false) (sym (c.is_directory.ensures plain.files.tree c.in-Inode.node (c.stat_node-info.ensures.value plain.files.tree (holders others plain.files) hold.tree)) ∙ c.if-is_directory.false) (as_mapped c.args.heap.now c.args.procs.now plain.table c.args.place.pid _ c.args.addr _ c.args.n _ true (to_z-of_z w64 c.args.addr c.ranges.addr) (to_z-of_z w64 c.args.n c.ranges.n) c.range_of.ensures.tells stands.table (ap is_some c.in-Some-range_of.is)) (sym range.counted ∙ no_count _ (sym c.is_empty.ensures ∙ c.if-is_empty.true))) refl
 
 pub returns-then-is_empty-clause-stays : goal.returns-then-is_empty-clause-stays
 returns-then-is_empty-clause-stays c = λ numbers files have off.
-    absurd (on_node numbers files c.args.place.pid c.args.on.now.fd c.in-Some.found c.in-Inode.node (as_found numbers files c.args.place.pid _ c.args.on.now.fd _ (Some c.in-Some.found) refl (opened_is c.args.heap.now c.args.procs.now c.args.place.pid c.args.on.now c.requires.opened numbers files have) c.in-Some.is) c.in-Inode.is off)
+    absurd (on_node numbers files c.args.place.pid c.args.on.now.fd c.in-Some.found c.in-Inode.node (as_found c.args.heap.now c.args.procs.now c.args.place.pid c.args.on.now c.requires.opened numbers files have (Some c.in-Some.found) c.in-Some.is) c.in-Inode.is off)
 
 pub returns-then-is_empty-clause-reads : goal.returns-then-is_empty-clause-reads
 returns-then-is_empty-clause-reads c = used_reads c.args.tree.now c.stat_node-info.new.self c.stat_node-info.ensures.used
@@ -123,7 +122,7 @@ returns-clause-leads c = λ script numbers others plain account stands hold.
     let at : c.count_of.result ≡ count_of c.args.at = subst (λ z. c.count_of.result ≡ count_of z) (to_z-of_z w64 c.args.at c.ranges.at) c.count_of.ensures in
     leads_put c.args.heap.now c.args.purse.now c.read_into.new.heap c.read_into.new.purse c.stat_node-info.new.self c.read_into.new.tree c.in-Some-range_of.range.space c.in-Some-range_of.range.start (read_node plain.files.tree c.in-Inode.node c.count_of.result c.in-Some-range_of.range.count) (c.read_into.ensures.reads plain.files.tree (holders others plain.files) held.tree) c.args.procs.now c.args.place.pid c.requires.kept range.space numbers others plain account stands held c.args.addr (range.begins (some_count _ (sym c.is_empty.ensures ∙ c.if-is_empty.false)).1)
     script (call.Pread c.args.on.now.fd c.args.addr c.args.n c.args.at) _ c.read_into.result (c.read_into.ensures.count plain.files.tree (holders others plain.files) held.tree) refl
-    (pread_goes script numbers plain c.args.place.pid c.args.on.now.fd c.args.addr c.args.n c.in-Some.found (as_found numbers plain.files c.args.place.pid _ c.args.on.now.fd _ (Some c.in-Some.found) refl (opened_is c.args.heap.now c.args.procs.now c.args.place.pid c.args.on.now c.requires.opened numbers plain.files hold.opened) c.in-Some.is) c.in-Inode.node c.in-Inode.is c.args.at (sym c.is_readable.ensures ∙ c.if-not-is_readable.false) (sym (c.is_directory.ensures plain.files.tree c.in-Inode.node (c.stat_node-info.ensures.value plain.files.tree (holders others plain.files) hold.tree)) ∙ c.if-is_directory.false) (as_mapped c.args.heap.now c.args.procs.now plain.table c.args.place.pid _ c.args.addr _ c.args.n _ true (to_z-of_z w64 c.args.addr c.ranges.addr) (to_z-of_z w64 c.args.n c.ranges.n) c.range_of.ensures.tells stands.table (ap is_some c.in-Some-range_of.is)) (λ none. (some_count _ (sym c.is_empty.ensures ∙ c.if-is_empty.false)).0 (range.counted ∙ none))
+    (pread_goes script numbers plain c.args.place.pid c.args.on.now.fd c.args.addr c.args.n c.in-Some.found (as_found c.args.heap.now c.args.procs.now c.args.place.pid c.args.on.now c.requires.opened numbers plain.files hold.opened (Some c.in-Some.found) c.in-Some.is) c.in-Inode.node c.in-Inode.is c.args.at (sym c.is_readable.ensures ∙ c.if-not-is_readable.false) (sym (c.is_directory.ensures plain.files.tree c.in-Inode.node (c.stat_node-info.ensures.value plain.files.tree (holders others plain.files) hold.tree)) ∙ c.if-is_directory.false) (as_mapped c.args.heap.now c.args.procs.now plain.table c.args.place.pid _ c.args.addr _ c.args.n _ true (to_z-of_z w64 c.args.addr c.ranges.addr) (to_z-of_z w64 c.args.n c.ranges.n) c.range_of.ensures.tells stands.table (ap is_some c.in-Some-range_of.is)) (λ none. (some_count _ (sym c.is_empty.ensures ∙ c.if-is_empty.false)).0 (range.counted ∙ none))
     ∙ ap (λ m. put script plain c.args.place.pid c.args.addr (read_node plain.files.tree c.in-Inode.node (count_of c.args.at) m)) (sym range.counted)
     ∙ ap (λ k. put script plain c.args.place.pid c.args.addr (read_node plain.files.tree c.in-Inode.node k c.in-Some-range_of.range.count)) (sym at))
 
@@ -147,7 +146,7 @@ returns-clause-reads c =
 
 pub returns-clause-stays : goal.returns-clause-stays
 returns-clause-stays c = λ numbers files have off.
-    absurd (on_node numbers files c.args.place.pid c.args.on.now.fd c.in-Some.found c.in-Inode.node (as_found numbers files c.args.place.pid _ c.args.on.now.fd _ (Some c.in-Some.found) refl (opened_is c.args.heap.now c.args.procs.now c.args.place.pid c.args.on.now c.requires.opened numbers files have) c.in-Some.is) c.in-Inode.is off)
+    absurd (on_node numbers files c.args.place.pid c.args.on.now.fd c.in-Some.found c.in-Inode.node (as_found c.args.heap.now c.args.procs.now c.args.place.pid c.args.on.now c.requires.opened numbers files have (Some c.in-Some.found) c.in-Some.is) c.in-Inode.is off)
 
 pub returns-in_default-clause-saved : goal.returns-in_default-clause-saved
 returns-in_default-clause-saved c = λ held desc number inode named there on has cached. refl

@@ -10,7 +10,7 @@ use Rattle.posix_defs.specs.Calls.Opened.{moved_to}
 use Rattle.posix_defs.specs.Calls.Reading.{list_directory, put}
 use Rattle.posix_defs.specs.Needs.{pages_touched}
 use Rattle.posix_defs.specs.PathCalls.{list_node}
-use Rattle.proc_numbers.specs.Found.{IsNamed, opened_in}
+use Rattle.proc_numbers.specs.Found.{opened_in}
 use Rattle.proc_numbers.proofs.RightBytes.{touched_at}
 use Rattle.proc_files.specs.Holders.{holders}
 use Rattle.proc_files.proofs.Holding.{as_found, held_some, hold_on, no_node, on_node, open_node}
@@ -23,18 +23,18 @@ use Rattle.proc_files.proofs.Ranges.{as_mapped, as_range, least_listed, right_li
 use Rattle.proc_files.proofs.ReadAnswers.{readdir_closed, readdir_file, readdir_goes, readdir_refused, readdir_unmapped}
 use Rattle.kabi_types.specs.declared.calls.Call.TheVariants as call
 use Rattle.proc_files.proofs.Saves.{keeps_read, saves_read, saves_used}
-use Rattle.proc_numbers.proofs.OpenedBy.{is_named, is_there, opened_is}
+use Rattle.proc_numbers.proofs.OpenedBy.{is_named, is_there}
 use Rattle.proc_files.proofs.reading.read_entries.Goals as goal
 
 pub returns-in_default-clause-leads : goal.returns-in_default-clause-leads
 returns-in_default-clause-leads c = λ script numbers others plain account stands hold.
     leads_nowhere script numbers others c.args.heap.now c.args.procs.now c.args.tree.now plain account c.args.place.pid (call.Readdir c.args.on.now.fd c.args.addr c.args.n) c.requires.kept stands hold _ (Fail EBADF)
-    (readdir_closed script numbers plain c.args.place.pid c.args.on.now.fd c.args.addr c.args.n (as_found numbers plain.files c.args.place.pid _ c.args.on.now.fd _ None refl (opened_is c.args.heap.now c.args.procs.now c.args.place.pid c.args.on.now c.requires.opened numbers plain.files hold.opened) c.in_default.is)) refl
+    (readdir_closed script numbers plain c.args.place.pid c.args.on.now.fd c.args.addr c.args.n (as_found c.args.heap.now c.args.procs.now c.args.place.pid c.args.on.now c.requires.opened numbers plain.files hold.opened None c.in_default.is)) refl
 
 pub returns-in_default-target-clause-leads : goal.returns-in_default-target-clause-leads
 returns-in_default-target-clause-leads c = λ script numbers others plain account stands hold.
     leads_nowhere script numbers others c.args.heap.now c.args.procs.now c.args.tree.now plain account c.args.place.pid (call.Readdir c.args.on.now.fd c.args.addr c.args.n) c.requires.kept stands hold _ (Fail ENOTDIR)
-    (readdir_refused script numbers plain c.args.place.pid c.args.on.now.fd c.args.addr c.args.n c.in-Some.found (as_found numbers plain.files c.args.place.pid _ c.args.on.now.fd _ (Some c.in-Some.found) refl (opened_is c.args.heap.now c.args.procs.now c.args.place.pid c.args.on.now c.requires.opened numbers plain.files hold.opened) c.in-Some.is) (no_node c.in-Some.found.desc.target c.in_default-target.not-Inode)) refl
+    (readdir_refused script numbers plain c.args.place.pid c.args.on.now.fd c.args.addr c.args.n c.in-Some.found (as_found c.args.heap.now c.args.procs.now c.args.place.pid c.args.on.now c.requires.opened numbers plain.files hold.opened (Some c.in-Some.found) c.in-Some.is) (no_node c.in-Some.found.desc.target c.in_default-target.not-Inode)) refl
 
 pub stat_node-info-requires : goal.stat_node-info-requires
 stat_node-info-requires c =
@@ -43,11 +43,11 @@ stat_node-info-requires c =
 pub returns-then-not-is_directory-clause-leads : goal.returns-then-not-is_directory-clause-leads
 returns-then-not-is_directory-clause-leads c = λ script numbers others plain account stands hold.
     leads_nowhere script numbers others c.args.heap.now c.args.procs.now c.stat_node-info.new.self plain account c.args.place.pid (call.Readdir c.args.on.now.fd c.args.addr c.args.n) c.requires.kept stands (hold_on numbers others c.args.heap.now c.args.procs.now c.args.tree.now c.stat_node-info.new.self plain.files c.stat_node-info.ensures.stands hold) _ (Fail ENOTDIR)
-    (readdir_file script numbers plain c.args.place.pid c.args.on.now.fd c.args.addr c.args.n c.in-Some.found (as_found numbers plain.files c.args.place.pid _ c.args.on.now.fd _ (Some c.in-Some.found) refl (opened_is c.args.heap.now c.args.procs.now c.args.place.pid c.args.on.now c.requires.opened numbers plain.files hold.opened) c.in-Some.is) c.in-Inode.node c.in-Inode.is (sym (c.is_directory.ensures plain.files.tree c.in-Inode.node (c.stat_node-info.ensures.value plain.files.tree (holders others plain.files) hold.tree)) ∙ c.if-not-is_directory.true)) refl
+    (readdir_file script numbers plain c.args.place.pid c.args.on.now.fd c.args.addr c.args.n c.in-Some.found (as_found c.args.heap.now c.args.procs.now c.args.place.pid c.args.on.now c.requires.opened numbers plain.files hold.opened (Some c.in-Some.found) c.in-Some.is) c.in-Inode.node c.in-Inode.is (sym (c.is_directory.ensures plain.files.tree c.in-Inode.node (c.stat_node-info.ensures.value plain.files.tree (holders others plain.files) hold.tree)) ∙ c.if-not-is_directory.true)) refl
 
 pub returns-then-not-is_directory-clause-stays : goal.returns-then-not-is_directory-clause-stays
 returns-then-not-is_directory-clause-stays c = λ numbers files have off.
-    absurd (on_node numbers files c.args.place.pid c.args.on.now.fd c.in-Some.found c.in-Inode.node (as_found numbers files c.args.place.pid _ c.args.on.now.fd _ (Some c.in-Some.found) refl (opened_is c.args.heap.now c.args.procs.now c.args.place.pid c.args.on.now c.requires.opened numbers files have) c.in-Some.is) c.in-Inode.is off)
+    absurd (on_node numbers files c.args.place.pid c.args.on.now.fd c.in-Some.found c.in-Inode.node (as_found c.args.heap.now c.args.procs.now c.args.place.pid c.args.on.now c.requires.opened numbers files have (Some c.in-Some.found) c.in-Some.is) c.in-Inode.is off)
 
 pub returns-then-not-is_directory-clause-reads : goal.returns-then-not-is_directory-clause-reads
 returns-then-not-is_directory-clause-reads c = used_reads c.args.tree.now c.stat_node-info.new.self c.stat_node-info.ensures.used
@@ -66,11 +66,11 @@ range_of-requires-clause-few c =
 pub returns-in_default-range_of-clause-leads : goal.returns-in_default-range_of-clause-leads
 returns-in_default-range_of-clause-leads c = λ script numbers others plain account stands hold.
     leads_nowhere script numbers others c.args.heap.now c.args.procs.now c.stat_node-info.new.self plain account c.args.place.pid (call.Readdir c.args.on.now.fd c.args.addr c.args.n) c.requires.kept stands (hold_on numbers others c.args.heap.now c.args.procs.now c.args.tree.now c.stat_node-info.new.self plain.files c.stat_node-info.ensures.stands hold) _ (Fail EFAULT)
-    (readdir_unmapped script numbers plain c.args.place.pid c.args.on.now.fd c.args.addr c.args.n c.in-Some.found (as_found numbers plain.files c.args.place.pid _ c.args.on.now.fd _ (Some c.in-Some.found) refl (opened_is c.args.heap.now c.args.procs.now c.args.place.pid c.args.on.now c.requires.opened numbers plain.files hold.opened) c.in-Some.is) c.in-Inode.node c.in-Inode.is (sym (c.is_directory.ensures plain.files.tree c.in-Inode.node (c.stat_node-info.ensures.value plain.files.tree (holders others plain.files) hold.tree)) ∙ c.if-not-is_directory.false) (as_mapped c.args.heap.now c.args.procs.now plain.table c.args.place.pid _ c.args.addr _ c.args.n _ false (to_z-of_z w64 c.args.addr c.ranges.addr) (to_z-of_z w64 c.args.n c.ranges.n) c.range_of.ensures.tells stands.table (ap is_some c.in_default-range_of.is))) refl
+    (readdir_unmapped script numbers plain c.args.place.pid c.args.on.now.fd c.args.addr c.args.n c.in-Some.found (as_found c.args.heap.now c.args.procs.now c.args.place.pid c.args.on.now c.requires.opened numbers plain.files hold.opened (Some c.in-Some.found) c.in-Some.is) c.in-Inode.node c.in-Inode.is (sym (c.is_directory.ensures plain.files.tree c.in-Inode.node (c.stat_node-info.ensures.value plain.files.tree (holders others plain.files) hold.tree)) ∙ c.if-not-is_directory.false) (as_mapped c.args.heap.now c.args.procs.now plain.table c.args.place.pid _ c.args.addr _ c.args.n _ false (to_z-of_z w64 c.args.addr c.ranges.addr) (to_z-of_z w64 c.args.n c.ranges.n) c.range_of.ensures.tells stands.table (ap is_some c.in_default-range_of.is))) refl
 
 pub returns-in_default-range_of-clause-stays : goal.returns-in_default-range_of-clause-stays
 returns-in_default-range_of-clause-stays c = λ numbers files have off.
-    absurd (on_node numbers files c.args.place.pid c.args.on.now.fd c.in-Some.found c.in-Inode.node (as_found numbers files c.args.place.pid _ c.args.on.now.fd _ (Some c.in-Some.found) refl (opened_is c.args.heap.now c.args.procs.now c.args.place.pid c.args.on.now c.requires.opened numbers files have) c.in-Some.is) c.in-Inode.is off)
+    absurd (on_node numbers files c.args.place.pid c.args.on.now.fd c.in-Some.found c.in-Inode.node (as_found c.args.heap.now c.args.procs.now c.args.place.pid c.args.on.now c.requires.opened numbers files have (Some c.in-Some.found) c.in-Some.is) c.in-Inode.is off)
 
 pub returns-in_default-range_of-clause-reads : goal.returns-in_default-range_of-clause-reads
 returns-in_default-range_of-clause-reads c = used_reads c.args.tree.now c.stat_node-info.new.self c.stat_node-info.ensures.used
@@ -129,7 +129,7 @@ returns-clause-leads c = λ script numbers others plain account stands hold.
     leads_moved c.args.heap.now c.args.purse.now c.list_into-count.new.heap c.list_into-count.new.purse c.stat_node-info.new.self c.list_into-count.new.tree c.in-Some-range_of.range.space c.in-Some-range_of.range.start (list_node plain.files.tree c.in-Inode.node c.offset_of-at.result c.in-Some-range_of.range.count) (c.list_into-count.ensures.reads plain.files.tree (holders others plain.files) held.tree) c.args.procs.now c.args.place.pid c.requires.kept range.space numbers others plain account stands held c.args.addr (range.begins (let least = least_listed c.args.addr c.args.n c.requires.right in let same = range.counted in omega (arith, least, same)))
     script (call.Readdir c.args.on.now.fd c.args.addr c.args.n) _ c.list_into-count.result (c.list_into-count.ensures.count plain.files.tree (holders others plain.files) held.tree) refl c.move_to.new.heap c.in-Some.found.key c.in-Inode.node c.in-Some.found.desc _ (is_there c.args.heap.now c.args.procs.now c.args.place.pid c.args.on.now c.requires.opened c.in-Some.found c.in-Some.is) c.in-Inode.is c.move_to.ensures.moved
     (λ directory. subst (λ k. (c.offset_of-at.result + k) % 32 ≡ 0) (sym (c.from.ensures ∙ (c.list_into-count.ensures.count plain.files.tree (holders others plain.files) held.tree))) (list_between plain.files.tree c.in-Inode.node c.offset_of-at.result c.in-Some-range_of.range.count hold.tree.is_tree directory (subst (λ o. o % 32 ≡ 0) (sym c.offset_of-at.ensures) ((open_node numbers others c.args.heap.now c.args.procs.now c.args.tree.now plain.files hold c.in-Some.found.key c.in-Inode.node c.in-Some.found.desc (is_there c.args.heap.now c.args.procs.now c.args.place.pid c.args.on.now c.requires.opened c.in-Some.found c.in-Some.is) c.in-Inode.is).between directory))))
-    (readdir_goes script numbers plain c.args.place.pid c.args.on.now.fd c.args.addr c.args.n c.in-Some.found (as_found numbers plain.files c.args.place.pid _ c.args.on.now.fd _ (Some c.in-Some.found) refl (opened_is c.args.heap.now c.args.procs.now c.args.place.pid c.args.on.now c.requires.opened numbers plain.files hold.opened) c.in-Some.is) c.in-Inode.node c.in-Inode.is (sym (c.is_directory.ensures plain.files.tree c.in-Inode.node (c.stat_node-info.ensures.value plain.files.tree (holders others plain.files) hold.tree)) ∙ c.if-not-is_directory.false) (as_mapped c.args.heap.now c.args.procs.now plain.table c.args.place.pid _ c.args.addr _ c.args.n _ true (to_z-of_z w64 c.args.addr c.ranges.addr) (to_z-of_z w64 c.args.n c.ranges.n) c.range_of.ensures.tells stands.table (ap is_some c.in-Some-range_of.is))
+    (readdir_goes script numbers plain c.args.place.pid c.args.on.now.fd c.args.addr c.args.n c.in-Some.found (as_found c.args.heap.now c.args.procs.now c.args.place.pid c.args.on.now c.requires.opened numbers plain.files hold.opened (Some c.in-Some.found) c.in-Some.is) c.in-Inode.node c.in-Inode.is (sym (c.is_directory.ensures plain.files.tree c.in-Inode.node (c.stat_node-info.ensures.value plain.files.tree (holders others plain.files) hold.tree)) ∙ c.if-not-is_directory.false) (as_mapped c.args.heap.now c.args.procs.now plain.table c.args.place.pid _ c.args.addr _ c.args.n _ true (to_z-of_z w64 c.args.addr c.ranges.addr) (to_z-of_z w64 c.args.n c.ranges.n) c.range_of.ensures.tells stands.table (ap is_some c.in-Some-range_of.is))
     ∙ ap (λ m. list_directory script plain c.args.place.pid (opened_in numbers c.in-Some.found) c.in-Inode.node c.args.addr m) (sym range.counted)
     ∙ ap (λ o. put script (moved_to plain (opened_in numbers c.in-Some.found) (o + length (list_node plain.files.tree c.in-Inode.node o c.in-Some-range_of.range.count))) c.args.place.pid c.args.addr (list_node plain.files.tree c.in-Inode.node o c.in-Some-range_of.range.count)) (sym c.offset_of-at.ensures)
     ∙ ap (λ k. put script (moved_to plain (opened_in numbers c.in-Some.found) (c.offset_of-at.result + k)) c.args.place.pid c.args.addr (list_node plain.files.tree c.in-Inode.node c.offset_of-at.result c.in-Some-range_of.range.count)) (sym (c.from.ensures ∙ (c.list_into-count.ensures.count plain.files.tree (holders others plain.files) held.tree))))
@@ -161,7 +161,7 @@ returns-clause-reads c =
 
 pub returns-clause-stays : goal.returns-clause-stays
 returns-clause-stays c = λ numbers files have off.
-    absurd (on_node numbers files c.args.place.pid c.args.on.now.fd c.in-Some.found c.in-Inode.node (as_found numbers files c.args.place.pid _ c.args.on.now.fd _ (Some c.in-Some.found) refl (opened_is c.args.heap.now c.args.procs.now c.args.place.pid c.args.on.now c.requires.opened numbers files have) c.in-Some.is) c.in-Inode.is off)
+    absurd (on_node numbers files c.args.place.pid c.args.on.now.fd c.in-Some.found c.in-Inode.node (as_found c.args.heap.now c.args.procs.now c.args.place.pid c.args.on.now c.requires.opened numbers files have (Some c.in-Some.found) c.in-Some.is) c.in-Inode.is off)
 
 pub returns-in_default-clause-saved : goal.returns-in_default-clause-saved
 returns-in_default-clause-saved c = λ held desc number inode named there on has cached. refl

@@ -1,7 +1,6 @@
-use Rattle.std.proofs.Common.{◌≡◌, ◌∙◌, [], ap, None, Some, refl, subst, of_z, to_z, w64}
+use Rattle.std.proofs.Common.{◌≡◌, ◌∙◌, [], ap, subst, of_z, to_z, w64}
 use Rattle.std.specs.Option.{option_map}
 use Rattle.std.proofs.lemmas.Int.{to_z-of_z}
-use Rattle.posix_defs.specs.Calls.Opened.{opened_at}
 use Rattle.proc_numbers.specs.Found.{opened_in}
 use Rattle.proc_files.specs.Seeking.{sought}
 use Rattle.proc_files.proofs.Holding.{held_some, hold_on, no_node, on_node}

@@ -1,4 +1,4 @@
-use Rattle.std.proofs.Common.{◌≡◌, ◌∙◌, [], None, Some, refl, sym, subst, w64}
+use Rattle.std.proofs.Common.{◌≡◌, ◌∙◌, [], None, Some, sym, subst, w64}
 use Rattle.std.proofs.lemmas.Int.{to_z-of_z}
 use Rattle.kabi_types.specs.Arguments.{count_of}
 use Rattle.memfs_ops.specs.Changing.{ChangedTo}
@@ -9,14 +9,14 @@ use Rattle.proc_files.proofs.Holding.{as_found, held_some, hold_on, no_node, on_
 use Rattle.proc_files.proofs.OpenFiles.{holds_file, used_pays}
 use Rattle.proc_files.proofs.WriteAnswers.{ftruncate_closed, ftruncate_denied, ftruncate_directory, ftruncate_goes, ftruncate_refused}
 use Rattle.proc_files.proofs.WriteLeads.{truncated, truncated_some}
-use Rattle.proc_numbers.proofs.OpenedBy.{is_there, opened_is}
+use Rattle.proc_numbers.proofs.OpenedBy.{is_there}
 use Rattle.proc_files.proofs.sizing.size_number.Goals as goal
 
 pub returns-in_default-clause-answers : goal.returns-in_default-clause-answers
 returns-in_default-clause-answers c = λ numbers others script plain hold. record {
   files = plain.files;
   replies = ftruncate_closed script numbers plain c.args.place.pid c.args.on.now.fd c.args.size
-      (as_found numbers plain.files c.args.place.pid _ c.args.on.now.fd _ None refl (opened_is c.args.heap.now c.args.procs.now c.args.place.pid c.args.on.now c.requires.opened numbers plain.files hold.opened) c.in_default.is);
+      (as_found c.args.heap.now c.args.procs.now c.args.place.pid c.args.on.now c.requires.opened numbers plain.files hold.opened None c.in_default.is);
   holds = hold;
 }
 
@@ -24,7 +24,7 @@ pub returns-in_default-target-clause-answers : goal.returns-in_default-target-cl
 returns-in_default-target-clause-answers c = λ numbers others script plain hold. record {
   files = plain.files;
   replies = ftruncate_refused script numbers plain c.args.place.pid c.args.on.now.fd c.args.size c.in-Some.found
-      (as_found numbers plain.files c.args.place.pid _ c.args.on.now.fd _ (Some c.in-Some.found) refl (opened_is c.args.heap.now c.args.procs.now c.args.place.pid c.args.on.now c.requires.opened numbers plain.files hold.opened) c.in-Some.is)
+      (as_found c.args.heap.now c.args.procs.now c.args.place.pid c.args.on.now c.requires.opened numbers plain.files hold.opened (Some c.in-Some.found) c.in-Some.is)
       (no_node c.in-Some.found.desc.target c.in_default-target.not-Inode);
   holds = hold;
 }
@@ -37,7 +37,7 @@ pub returns-then-is_directory-clause-answers : goal.returns-then-is_directory-cl
 returns-then-is_directory-clause-answers c = λ numbers others script plain hold. record {
   files = plain.files;
   replies = ftruncate_directory script numbers plain c.args.place.pid c.args.on.now.fd c.args.size c.in-Some.found
-      (as_found numbers plain.files c.args.place.pid _ c.args.on.now.fd _ (Some c.in-Some.found) refl (opened_is c.args.heap.now c.args.procs.now c.args.place.pid c.args.on.now c.requires.opened numbers plain.files hold.opened) c.in-Some.is)
+      (as_found c.args.heap.now c.args.procs.now c.args.place.pid c.args.on.now c.requires.opened numbers plain.files hold.opened (Some c.in-Some.found) c.in-Some.is)
       c.in-Inode.node c.in-Inode.is
       (sym (c.is_directory.ensures plain.files.tree c.in-Inode.node (c.stat_node-info.ensures.value plain.files.tree (holders others plain.files) hold.tree)) ∙ c.if-is_directory.true);
   holds = hold_on numbers others c.args.heap.now c.args.procs.now c.args.tree.now c.stat_node-info.new.self plain.files c.stat_node-info.ensures.stands hold;
@@ -46,13 +46,13 @@ returns-then-is_directory-clause-answers c = λ numbers others script plain hold
 pub returns-then-is_directory-clause-stays : goal.returns-then-is_directory-clause-stays
 returns-then-is_directory-clause-stays c = λ numbers files have off.
     absurd (on_node numbers files c.args.place.pid c.args.on.now.fd c.in-Some.found c.in-Inode.node
-    (as_found numbers files c.args.place.pid _ c.args.on.now.fd _ (Some c.in-Some.found) refl (opened_is c.args.heap.now c.args.procs.now c.args.place.pid c.args.on.now c.requires.opened numbers files have) c.in-Some.is) c.in-Inode.is off)
+    (as_found c.args.heap.now c.args.procs.now c.args.place.pid c.args.on.now c.requires.opened numbers files have (Some c.in-Some.found) c.in-Some.is) c.in-Inode.is off)
 
 pub returns-then-not-is_writable-clause-answers : goal.returns-then-not-is_writable-clause-answers
 returns-then-not-is_writable-clause-answers c = λ numbers others script plain hold. record {
   files = plain.files;
   replies = ftruncate_denied script numbers plain c.args.place.pid c.args.on.now.fd c.args.size c.in-Some.found
-      (as_found numbers plain.files c.args.place.pid _ c.args.on.now.fd _ (Some c.in-Some.found) refl (opened_is c.args.heap.now c.args.procs.now c.args.place.pid c.args.on.now c.requires.opened numbers plain.files hold.opened) c.in-Some.is)
+      (as_found c.args.heap.now c.args.procs.now c.args.place.pid c.args.on.now c.requires.opened numbers plain.files hold.opened (Some c.in-Some.found) c.in-Some.is)
       c.in-Inode.node c.in-Inode.is
       (sym (c.is_directory.ensures plain.files.tree c.in-Inode.node (c.stat_node-info.ensures.value plain.files.tree (holders others plain.files) hold.tree)) ∙ c.if-is_directory.false)
       (sym c.is_writable.ensures ∙ c.if-not-is_writable.true);
@@ -62,7 +62,7 @@ returns-then-not-is_writable-clause-answers c = λ numbers others script plain h
 pub returns-then-not-is_writable-clause-stays : goal.returns-then-not-is_writable-clause-stays
 returns-then-not-is_writable-clause-stays c = λ numbers files have off.
     absurd (on_node numbers files c.args.place.pid c.args.on.now.fd c.in-Some.found c.in-Inode.node
-    (as_found numbers files c.args.place.pid _ c.args.on.now.fd _ (Some c.in-Some.found) refl (opened_is c.args.heap.now c.args.procs.now c.args.place.pid c.args.on.now c.requires.opened numbers files have) c.in-Some.is) c.in-Inode.is off)
+    (as_found c.args.heap.now c.args.procs.now c.args.place.pid c.args.on.now c.requires.opened numbers files have (Some c.in-Some.found) c.in-Some.is) c.in-Inode.is off)
 
 pub size_node-requires-clause-stands : goal.size_node-requires-clause-stands
 size_node-requires-clause-stands c =
@@ -80,7 +80,7 @@ returns-clause-answers c = λ numbers others script plain hold.
     (subst (λ n. ChangedTo c.size_node.new.heap c.size_node.new.self plain.files.tree (resize plain.files.tree c.in-Inode.node n) (holders others plain.files) c.size_node.result) size
     (c.size_node.ensures.answer plain.files.tree (holders others plain.files) held.tree))
     (ftruncate_goes script numbers plain c.args.place.pid c.args.on.now.fd c.args.size c.in-Some.found
-    (as_found numbers plain.files c.args.place.pid _ c.args.on.now.fd _ (Some c.in-Some.found) refl (opened_is c.args.heap.now c.args.procs.now c.args.place.pid c.args.on.now c.requires.opened numbers plain.files hold.opened) c.in-Some.is)
+    (as_found c.args.heap.now c.args.procs.now c.args.place.pid c.args.on.now c.requires.opened numbers plain.files hold.opened (Some c.in-Some.found) c.in-Some.is)
     c.in-Inode.node c.in-Inode.is
     (sym (c.is_directory.ensures plain.files.tree c.in-Inode.node (c.stat_node-info.ensures.value plain.files.tree (holders others plain.files) hold.tree)) ∙ c.if-is_directory.false)
     (sym c.is_writable.ensures ∙ c.if-not-is_writable.false))
@@ -103,4 +103,4 @@ returns-clause-pays c =
 pub returns-clause-stays : goal.returns-clause-stays
 returns-clause-stays c = λ numbers files have off.
     absurd (on_node numbers files c.args.place.pid c.args.on.now.fd c.in-Some.found c.in-Inode.node
-    (as_found numbers files c.args.place.pid _ c.args.on.now.fd _ (Some c.in-Some.found) refl (opened_is c.args.heap.now c.args.procs.now c.args.place.pid c.args.on.now c.requires.opened numbers files have) c.in-Some.is) c.in-Inode.is off)
+    (as_found c.args.heap.now c.args.procs.now c.args.place.pid c.args.on.now c.requires.opened numbers files have (Some c.in-Some.found) c.in-Some.is) c.in-Inode.is off)

@@ -1,8 +1,7 @@
-use Rattle.std.proofs.Common.{◌≡◌, ◌∙◌, ap, None, Some, refl, subst}
+use Rattle.std.proofs.Common.{◌∙◌, ap}
 use Rattle.std.specs.Option.{option_map}
 use Rattle.kabi_types.specs.declared.replies.Reply.TheVariants.{Stat}
 use Rattle.posix_defs.specs.Answer.{replied}
-use Rattle.posix_defs.specs.Calls.Opened.{opened_at}
 use Rattle.proc_numbers.specs.Found.{opened_in}
 use Rattle.proc_files.proofs.Holding.{held_in, hold_on, off_node, some_on}
 use Rattle.proc_files.proofs.SeekAnswers.{fstat_bad, fstat_is}

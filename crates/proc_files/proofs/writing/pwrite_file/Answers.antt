@@ -16,23 +16,23 @@ use Rattle.proc_files.proofs.WriteAnswers.{pwrite_closed, pwrite_denied, pwrite_
 use Rattle.proc_files.proofs.WriteLeads.{pwrites}
 use Rattle.posix_defs.specs.TreeChanges.{write as tree_write}
 use Rattle.kabi_types.specs.declared.calls.Call.TheVariants as call
-use Rattle.proc_numbers.proofs.OpenedBy.{is_there, opened_is}
+use Rattle.proc_numbers.proofs.OpenedBy.{is_there}
 use Rattle.proc_files.proofs.writing.pwrite_file.Goals as goal
 
 pub returns-in_default-clause-leads : goal.returns-in_default-clause-leads
 returns-in_default-clause-leads c = λ script numbers others plain account stands hold.
     leads_nowhere script numbers others c.args.heap.now c.args.procs.now c.args.tree.now plain account c.args.place.pid (call.Pwrite c.args.on.now.fd c.args.addr c.args.n c.args.at) c.requires.kept stands hold _ (Fail EBADF)
-    (pwrite_closed script numbers plain c.args.place.pid c.args.on.now.fd c.args.addr c.args.n c.args.at (as_found numbers plain.files c.args.place.pid _ c.args.on.now.fd _ None refl (opened_is c.args.heap.now c.args.procs.now c.args.place.pid c.args.on.now c.requires.opened numbers plain.files hold.opened) c.in_default.is)) refl
+    (pwrite_closed script numbers plain c.args.place.pid c.args.on.now.fd c.args.addr c.args.n c.args.at (as_found c.args.heap.now c.args.procs.now c.args.place.pid c.args.on.now c.requires.opened numbers plain.files hold.opened None c.in_default.is)) refl
 
 pub returns-then-not-is_writable-clause-leads : goal.returns-then-not-is_writable-clause-leads
 returns-then-not-is_writable-clause-leads c = λ script numbers others plain account stands hold.
     leads_nowhere script numbers others c.args.heap.now c.args.procs.now c.args.tree.now plain account c.args.place.pid (call.Pwrite c.args.on.now.fd c.args.addr c.args.n c.args.at) c.requires.kept stands hold _ (Fail EBADF)
-    (pwrite_denied script numbers plain c.args.place.pid c.args.on.now.fd c.args.addr c.args.n c.in-Some.found (as_found numbers plain.files c.args.place.pid _ c.args.on.now.fd _ (Some c.in-Some.found) refl (opened_is c.args.heap.now c.args.procs.now c.args.place.pid c.args.on.now c.requires.opened numbers plain.files hold.opened) c.in-Some.is) c.args.at (sym c.is_writable.ensures ∙ c.if-not-is_writable.true)) refl
+    (pwrite_denied script numbers plain c.args.place.pid c.args.on.now.fd c.args.addr c.args.n c.in-Some.found (as_found c.args.heap.now c.args.procs.now c.args.place.pid c.args.on.now c.requires.opened numbers plain.files hold.opened (Some c.in-Some.found) c.in-Some.is) c.args.at (sym c.is_writable.ensures ∙ c.if-not-is_writable.true)) refl
 
 pub returns-in_default-target-clause-leads : goal.returns-in_default-target-clause-leads
 returns-in_default-target-clause-leads c = λ script numbers others plain account stands hold.
     leads_nowhere script numbers others c.args.heap.now c.args.procs.now c.args.tree.now plain account c.args.place.pid (call.Pwrite c.args.on.now.fd c.args.addr c.args.n c.args.at) c.requires.kept stands hold _ (Fail ESPIPE)
-    (pwrite_refused script numbers plain c.args.place.pid c.args.on.now.fd c.args.addr c.args.n c.in-Some.found (as_found numbers plain.files c.args.place.pid _ c.args.on.now.fd _ (Some c.in-Some.found) refl (opened_is c.args.heap.now c.args.procs.now c.args.place.pid c.args.on.now c.requires.opened numbers plain.files hold.opened) c.in-Some.is) c.args.at (sym c.is_writable.ensures ∙ c.if-not-is_writable.false) (no_node c.in-Some.found.desc.target c.in_default-target.not-Inode)) refl
+    (pwrite_refused script numbers plain c.args.place.pid c.args.on.now.fd c.args.addr c.args.n c.in-Some.found (as_found c.args.heap.now c.args.procs.now c.args.place.pid c.args.on.now c.requires.opened numbers plain.files hold.opened (Some c.in-Some.found) c.in-Some.is) c.args.at (sym c.is_writable.ensures ∙ c.if-not-is_writable.false) (no_node c.in-Some.found.desc.target c.in_default-target.not-Inode)) refl
 
 pub stat_node-info-requires : goal.stat_node-info-requires
 stat_node-info-requires c =
@@ -41,11 +41,11 @@ stat_node-info-requires c =
 pub returns-then-is_directory-clause-leads : goal.returns-then-is_directory-clause-leads
 returns-then-is_directory-clause-leads c = λ script numbers others plain account stands hold.
     leads_nowhere script numbers others c.args.heap.now c.args.procs.now c.stat_node-info.new.self plain account c.args.place.pid (call.Pwrite c.args.on.now.fd c.args.addr c.args.n c.args.at) c.requires.kept stands (hold_on numbers others c.args.heap.now c.args.procs.now c.args.tree.now c.stat_node-info.new.self plain.files c.stat_node-info.ensures.stands hold) _ (Fail EISDIR)
-    (pwrite_directory script numbers plain c.args.place.pid c.args.on.now.fd c.args.addr c.args.n c.in-Some.found (as_found numbers plain.files c.args.place.pid _ c.args.on.now.fd _ (Some c.in-Some.found) refl (opened_is c.args.heap.now c.args.procs.now c.args.place.pid c.args.on.now c.requires.opened numbers plain.files hold.opened) c.in-Some.is) c.in-Inode.node c.in-Inode.is c.args.at (sym c.is_writable.ensures ∙ c.if-not-is_writable.false) (sym (c.is_directory.ensures plain.files.tree c.in-Inode.node (c.stat_node-info.ensures.value plain.files.tree (holders others plain.files) hold.tree)) ∙ c.if-is_directory.true)) refl
+    (pwrite_directory script numbers plain c.args.place.pid c.args.on.now.fd c.args.addr c.args.n c.in-Some.found (as_found c.args.heap.now c.args.procs.now c.args.place.pid c.args.on.now c.requires.opened numbers plain.files hold.opened (Some c.in-Some.found) c.in-Some.is) c.in-Inode.node c.in-Inode.is c.args.at (sym c.is_writable.ensures ∙ c.if-not-is_writable.false) (sym (c.is_directory.ensures plain.files.tree c.in-Inode.node (c.stat_node-info.ensures.value plain.files.tree (holders others plain.files) hold.tree)) ∙ c.if-is_directory.true)) refl
 
 pub returns-then-is_directory-clause-stays : goal.returns-then-is_directory-clause-stays
 returns-then-is_directory-clause-stays c = λ numbers files have off.
-    absurd (on_node numbers files c.args.place.pid c.args.on.now.fd c.in-Some.found c.in-Inode.node (as_found numbers files c.args.place.pid _ c.args.on.now.fd _ (Some c.in-Some.found) refl (opened_is c.args.heap.now c.args.procs.now c.args.place.pid c.args.on.now c.requires.opened numbers files have) c.in-Some.is) c.in-Inode.is off)
+    absurd (on_node numbers files c.args.place.pid c.args.on.now.fd c.in-Some.found c.in-Inode.node (as_found c.args.heap.now c.args.procs.now c.args.place.pid c.args.on.now c.requires.opened numbers files have (Some c.in-Some.found) c.in-Some.is) c.in-Inode.is off)
 
 pub returns-then-is_directory-clause-reads : goal.returns-then-is_directory-clause-reads
 returns-then-is_directory-clause-reads c = used_reads c.args.tree.now c.stat_node-info.new.self c.stat_node-info.ensures.used
@@ -64,24 +64,24 @@ range_of-requires-clause-few c =
 pub returns-in_default-range_of-clause-leads : goal.returns-in_default-range_of-clause-leads
 returns-in_default-range_of-clause-leads c = λ script numbers others plain account stands hold.
     leads_nowhere script numbers others c.args.heap.now c.args.procs.now c.stat_node-info.new.self plain account c.args.place.pid (call.Pwrite c.args.on.now.fd c.args.addr c.args.n c.args.at) c.requires.kept stands (hold_on numbers others c.args.heap.now c.args.procs.now c.args.tree.now c.stat_node-info.new.self plain.files c.stat_node-info.ensures.stands hold) _ (Fail EFAULT)
-    (pwrite_unmapped script numbers plain c.args.place.pid c.args.on.now.fd c.args.addr c.args.n c.in-Some.found (as_found numbers plain.files c.args.place.pid _ c.args.on.now.fd _ (Some c.in-Some.found) refl (opened_is c.args.heap.now c.args.procs.now c.args.place.pid c.args.on.now c.requires.opened numbers plain.files hold.opened) c.in-Some.is) c.in-Inode.node c.in-Inode.is c.args.at (sym c.is_writable.ensures ∙ c.if-not-is_writable.false) (sym (c.is_directory.ensures plain.files.tree c.in-Inode.node (c.stat_node-info.ensures.value plain.files.tree (holders others plain.files) hold.tree)) ∙ c.if-is_directory.false) (as_mapped c.args.heap.now c.args.procs.now plain.table c.args.place.pid _ c.args.addr _ c.args.n _ false (to_z-of_z w64 c.args.addr c.ranges.addr) (to_z-of_z w64 c.args.n c.ranges.n) c.range_of.ensures.tells stands.table (ap is_some c.in_default-range_of.is))) refl
+    (pwrite_unmapped script numbers plain c.args.place.pid c.args.on.now.fd c.args.addr c.args.n c.in-Some.found (as_found c.args.heap.now c.args.procs.now c.args.place.pid c.args.on.now c.requires.opened numbers plain.files hold.opened (Some c.in-Some.found) c.in-Some.is) c.in-Inode.node c.in-Inode.is c.args.at (sym c.is_writable.ensures ∙ c.if-not-is_writable.false) (sym (c.is_directory.ensures plain.files.tree c.in-Inode.node (c.stat_node-info.ensures.value plain.files.tree (holders others plain.files) hold.tree)) ∙ c.if-is_directory.false) (as_mapped c.args.heap.now c.args.procs.now plain.table c.args.place.pid _ c.args.addr _ c.args.n _ false (to_z-of_z w64 c.args.addr c.ranges.addr) (to_z-of_z w64 c.args.n c.ranges.n) c.range_of.ensures.tells stands.table (ap is_some c.in_default-range_of.is))) refl
 
 pub returns-then-is_empty-clause-leads : goal.returns-then-is_empty-clause-leads
 returns-then-is_empty-clause-leads c = λ script numbers others plain account stands hold.
     let range = (as_range c.args.heap.now c.args.procs.now c.args.place.pid _ c.args.addr _ c.args.n _ _ _ (to_z-of_z w64 c.args.addr c.ranges.addr) (to_z-of_z w64 c.args.n c.ranges.n) c.in-Some-range_of.ensures.range) in
     leads_nowhere script numbers others c.args.heap.now c.args.procs.now c.stat_node-info.new.self plain account c.args.place.pid (call.Pwrite c.args.on.now.fd c.args.addr c.args.n c.args.at) c.requires.kept stands (hold_on numbers others c.args.heap.now c.args.procs.now c.args.tree.now c.stat_node-info.new.self plain.files c.stat_node-info.ensures.stands hold) _ (Val (pos 0))
-    (pwrite_nothing script numbers plain c.args.place.pid c.args.on.now.fd c.args.addr c.args.n c.in-Some.found (as_found numbers plain.files c.args.place.pid _ c.args.on.now.fd _ (Some c.in-Some.found) refl (opened_is c.args.heap.now c.args.procs.now c.args.place.pid c.args.on.now c.requires.opened numbers plain.files hold.opened) c.in-Some.is) c.in-Inode.node c.in-Inode.is c.args.at (sym c.is_writable.ensures ∙ c.if-not-is_writable.false) (sym (c.is_directory.ensures plain.files.tree c.in-Inode.node (c.stat_node-info.ensures.value plain.files.tree (holders others plain.files) hold.tree)) ∙ c.if-is_directory.false) (as_mapped c.args.heap.now c.args.procs.now plain.table c.args.place.pid _ c.args.addr _ c.args.n _ true (to_z-of_z w64 c.args.addr c.ranges.addr) (to_z-of_z w64 c.args.n c.ranges.n) c.range_of.ensures.tells stands.table (ap is_some c.in-Some-range_of.is)) (sym range.counted ∙ no_count _ (sym c.is_empty.ensures ∙ c.if-is_empty.true))) refl
+    (pwrite_nothing script numbers plain c.args.place.pid c.args.on.now.fd c.args.addr c.args.n c.in-Some.found (as_found c.args.heap.now c.args.procs.now c.args.place.pid c.args.on.now c.requires.opened numbers plain.files hold.opened (Some c.in-Some.found) c.in-Some.is) c.in-Inode.node c.in-Inode.is c.args.at (sym c.is_writable.ensures ∙ c.if-not-is_writable.false) (sym (c.is_directory.ensures plain.files.tree c.in-Inode.node (c.stat_node-info.ensures.value plain.files.tree (holders others plain.files) hold.tree)) ∙ c.if-is_directory.false) (as_mapped c.args.heap.now c.args.procs.now plain.table c.args.place.pid _ c.args.addr _ c.args.n _ true (to_z-of_z w64 c.args.addr c.ranges.addr) (to_z-of_z w64 c.args.n c.ranges.n) c.range_of.ensures.tells stands.table (ap is_some c.in-Some-range_of.is)) (sym range.counted ∙ no_count _ (sym c.is_empty.ensures ∙ c.if-is_empty.true))) refl
 
 pub returns-in_default-range_of-clause-stays : goal.returns-in_default-range_of-clause-stays
 returns-in_default-range_of-clause-stays c = λ numbers files have off.
-    absurd (on_node numbers files c.args.place.pid c.args.on.now.fd c.in-Some.found c.in-Inode.node (as_found numbers files c.args.place.pid _ c.args.on.now.fd _ (Some c.in-Some.found) refl (opened_is c.args.heap.now c.args.procs.now c.args.place.pid c.args.on.now c.requires.opened numbers files have) c.in-Some.is) c.in-Inode.is off)
+    absurd (on_node numbers files c.args.place.pid c.args.on.now.fd c.in-Some.found c.in-Inode.node (as_found c.args.heap.now c.args.procs.now c.args.place.pid c.args.on.now c.requires.opened numbers files have (Some c.in-Some.found) c.in-Some.is) c.in-Inode.is off)
 
 pub returns-in_default-range_of-clause-reads : goal.returns-in_default-range_of-clause-reads
 returns-in_default-range_of-clause-reads c = used_reads c.args.tree.now c.stat_node-info.new.self c.stat_node-info.ensures.used
 
 pub returns-then-is_empty-clause-stays : goal.returns-then-is_empty-clause-stays
 returns-then-is_empty-clause-stays c = λ numbers files have off.
-    absurd (on_node numbers files c.args.place.pid c.args.on.now.fd c.in-Some.found c.in-Inode.node (as_found numbers files c.args.place.pid _ c.args.on.now.fd _ (Some c.in-Some.found) refl (opened_is c.args.heap.now c.args.procs.now c.args.place.pid c.args.on.now c.requires.opened numbers files have) c.in-Some.is) c.in-Inode.is off)
+    absurd (on_node numbers files c.args.place.pid c.args.on.now.fd c.in-Some.found c.in-Inode.node (as_found c.args.heap.now c.args.procs.now c.args.place.pid c.args.on.now c.requires.opened numbers files have (Some c.in-Some.found) c.in-Some.is) c.in-Inode.is off)
 
 pub returns-then-is_empty-clause-reads : goal.returns-then-is_empty-clause-reads
 returns-then-is_empty-clause-reads c = used_reads c.args.tree.now c.stat_node-info.new.self c.stat_node-info.ensures.used
@@ -118,7 +118,7 @@ returns-clause-leads c = λ script numbers others plain account stands hold.
     pwrites script numbers others c.args.heap.now c.write_from.new.heap c.args.procs.now c.stat_node-info.new.self c.write_from.new.tree plain account c.args.place.pid (call.Pwrite c.args.on.now.fd c.args.addr c.args.n c.args.at) c.requires.kept stands held c.write_from.ensures.pays.only _ c.in-Inode.node c.count_of.result (loaded (memory_of plain.table c.args.place.pid) c.in-Some-range_of.range.start c.in-Some-range_of.range.count)
     c.write_from.result (c.write_from.ensures.answer plain.files.tree (holders others plain.files) (memory_of plain.table c.args.place.pid) held.tree
     (memory_here c.args.heap.now c.args.procs.now plain.table c.args.place.pid c.in-Some-range_of.range.space range.space stands.table))
-    (pwrite_goes script numbers plain c.args.place.pid c.args.on.now.fd c.args.addr c.args.n c.in-Some.found (as_found numbers plain.files c.args.place.pid _ c.args.on.now.fd _ (Some c.in-Some.found) refl (opened_is c.args.heap.now c.args.procs.now c.args.place.pid c.args.on.now c.requires.opened numbers plain.files hold.opened) c.in-Some.is) c.in-Inode.node c.in-Inode.is c.args.at (sym c.is_writable.ensures ∙ c.if-not-is_writable.false) (sym (c.is_directory.ensures plain.files.tree c.in-Inode.node (c.stat_node-info.ensures.value plain.files.tree (holders others plain.files) hold.tree)) ∙ c.if-is_directory.false) (as_mapped c.args.heap.now c.args.procs.now plain.table c.args.place.pid _ c.args.addr _ c.args.n _ true (to_z-of_z w64 c.args.addr c.ranges.addr) (to_z-of_z w64 c.args.n c.ranges.n) c.range_of.ensures.tells stands.table (ap is_some c.in-Some-range_of.is)) (λ none. (some_count _ (sym c.is_empty.ensures ∙ c.if-is_empty.false)).0 (range.counted ∙ none))
+    (pwrite_goes script numbers plain c.args.place.pid c.args.on.now.fd c.args.addr c.args.n c.in-Some.found (as_found c.args.heap.now c.args.procs.now c.args.place.pid c.args.on.now c.requires.opened numbers plain.files hold.opened (Some c.in-Some.found) c.in-Some.is) c.in-Inode.node c.in-Inode.is c.args.at (sym c.is_writable.ensures ∙ c.if-not-is_writable.false) (sym (c.is_directory.ensures plain.files.tree c.in-Inode.node (c.stat_node-info.ensures.value plain.files.tree (holders others plain.files) hold.tree)) ∙ c.if-is_directory.false) (as_mapped c.args.heap.now c.args.procs.now plain.table c.args.place.pid _ c.args.addr _ c.args.n _ true (to_z-of_z w64 c.args.addr c.ranges.addr) (to_z-of_z w64 c.args.n c.ranges.n) c.range_of.ensures.tells stands.table (ap is_some c.in-Some-range_of.is)) (λ none. (some_count _ (sym c.is_empty.ensures ∙ c.if-is_empty.false)).0 (range.counted ∙ none))
     ∙ ap (λ b. wrote_at script plain c.args.place.pid (tree_write plain.files.tree c.in-Inode.node (count_of c.args.at) b)) (bytes_same (memory_of plain.table c.args.place.pid) c.in-Some-range_of.range.start c.in-Some-range_of.range.count (count_of c.args.addr) (count_of c.args.n) (range.begins (some_count _ (sym c.is_empty.ensures ∙ c.if-is_empty.false)).1) range.counted)
     ∙ ap (λ a. wrote_at script plain c.args.place.pid (tree_write plain.files.tree c.in-Inode.node a (loaded (memory_of plain.table c.args.place.pid) c.in-Some-range_of.range.start c.in-Some-range_of.range.count))) (sym at)) (λ count. refl)
 
@@ -139,4 +139,4 @@ returns-clause-reads c =
 
 pub returns-clause-stays : goal.returns-clause-stays
 returns-clause-stays c = λ numbers files have off.
-    absurd (on_node numbers files c.args.place.pid c.args.on.now.fd c.in-Some.found c.in-Inode.node (as_found numbers files c.args.place.pid _ c.args.on.now.fd _ (Some c.in-Some.found) refl (opened_is c.args.heap.now c.args.procs.now c.args.place.pid c.args.on.now c.requires.opened numbers files have) c.in-Some.is) c.in-Inode.is off)
+    absurd (on_node numbers files c.args.place.pid c.args.on.now.fd c.in-Some.found c.in-Inode.node (as_found c.args.heap.now c.args.procs.now c.args.place.pid c.args.on.now c.requires.opened numbers files have (Some c.in-Some.found) c.in-Some.is) c.in-Inode.is off)

@@ -25,24 +25,24 @@ use Rattle.proc_files.proofs.WriteAnswers.{write_closed, write_denied, write_goe
 use Rattle.proc_files.proofs.WriteLeads.{unmoved_beside, write_below, writes_nothing, writes_some, written_beside}
 use Rattle.posix_defs.specs.TreeChanges.{write as tree_write}
 use Rattle.kabi_types.specs.declared.calls.Call.TheVariants as call
-use Rattle.proc_numbers.proofs.OpenedBy.{is_there, opened_is}
+use Rattle.proc_numbers.proofs.OpenedBy.{is_there}
 use Rattle.proc_files.proofs.writing.write_file.Goals as goal
 
 pub returns-in_default-clause-leads : goal.returns-in_default-clause-leads
 returns-in_default-clause-leads c = λ script numbers others plain account stands hold.
     leads_nowhere script numbers others c.args.heap.now c.args.procs.now c.args.tree.now plain account c.args.place.pid (call.Write c.args.on.now.fd c.args.addr c.args.n 0) c.requires.kept stands hold _ (Fail EBADF)
-    (write_closed script numbers plain c.args.place.pid c.args.on.now.fd c.args.addr c.args.n (as_found numbers plain.files c.args.place.pid _ c.args.on.now.fd _ None refl (opened_is c.args.heap.now c.args.procs.now c.args.place.pid c.args.on.now c.requires.opened numbers plain.files hold.opened) c.in_default.is)) refl
+    (write_closed script numbers plain c.args.place.pid c.args.on.now.fd c.args.addr c.args.n (as_found c.args.heap.now c.args.procs.now c.args.place.pid c.args.on.now c.requires.opened numbers plain.files hold.opened None c.in_default.is)) refl
 
 pub returns-then-not-is_writable-clause-leads : goal.returns-then-not-is_writable-clause-leads
 returns-then-not-is_writable-clause-leads c = λ script numbers others plain account stands hold.
     leads_nowhere script numbers others c.args.heap.now c.args.procs.now c.args.tree.now plain account c.args.place.pid (call.Write c.args.on.now.fd c.args.addr c.args.n 0) c.requires.kept stands hold _ (Fail EBADF)
-    (write_denied script numbers plain c.args.place.pid c.args.on.now.fd c.args.addr c.args.n c.in-Some.found (as_found numbers plain.files c.args.place.pid _ c.args.on.now.fd _ (Some c.in-Some.found) refl (opened_is c.args.heap.now c.args.procs.now c.args.place.pid c.args.on.now c.requires.opened numbers plain.files hold.opened) c.in-Some.is) (sym c.is_writable.ensures ∙ c.if-not-is_writable.true)) refl
+    (write_denied script numbers plain c.args.place.pid c.args.on.now.fd c.args.addr c.args.n c.in-Some.found (as_found c.args.heap.now c.args.procs.now c.args.place.pid c.args.on.now c.requires.opened numbers plain.files hold.opened (Some c.in-Some.found) c.in-Some.is) (sym c.is_writable.ensures ∙ c.if-not-is_writable.true)) refl
 
 pub unreachable-requires : goal.unreachable-requires
 unreachable-requires c =
     only_node c.args.heap.now c.args.procs.now c.args.place.pid c.args.on.now.fd c.in-Some.found c.requires.kept.listed c.requires.kept.owners (ap is_some c.requires.there)
     c.requires.hold c.requires.on (is_there c.args.heap.now c.args.procs.now c.args.place.pid c.args.on.now c.requires.opened c.in-Some.found c.in-Some.is)
-    (λ numbers files have. (as_found numbers files c.args.place.pid _ c.args.on.now.fd _ (Some c.in-Some.found) refl (opened_is c.args.heap.now c.args.procs.now c.args.place.pid c.args.on.now c.requires.opened numbers files have) c.in-Some.is)) c.in_default-target.not-Inode
+    (λ numbers files have. (as_found c.args.heap.now c.args.procs.now c.args.place.pid c.args.on.now c.requires.opened numbers files have (Some c.in-Some.found) c.in-Some.is)) c.in_default-target.not-Inode
 
 pub place_of_write-at-requires : goal.place_of_write-at-requires
 place_of_write-at-requires c =
@@ -62,13 +62,13 @@ range_of-requires-clause-few c =
 pub returns-in_default-range_of-clause-leads : goal.returns-in_default-range_of-clause-leads
 returns-in_default-range_of-clause-leads c = λ script numbers others plain account stands hold.
     leads_nowhere script numbers others c.args.heap.now c.args.procs.now c.args.tree.now plain account c.args.place.pid (call.Write c.args.on.now.fd c.args.addr c.args.n 0) c.requires.kept stands hold _ (Fail EFAULT)
-    (write_unmapped script numbers plain c.args.place.pid c.args.on.now.fd c.args.addr c.args.n c.in-Some.found (as_found numbers plain.files c.args.place.pid _ c.args.on.now.fd _ (Some c.in-Some.found) refl (opened_is c.args.heap.now c.args.procs.now c.args.place.pid c.args.on.now c.requires.opened numbers plain.files hold.opened) c.in-Some.is) c.in-Inode.node c.in-Inode.is (sym c.is_writable.ensures ∙ c.if-not-is_writable.false) (as_mapped c.args.heap.now c.args.procs.now plain.table c.args.place.pid _ c.args.addr _ c.args.n _ false (to_z-of_z w64 c.args.addr c.ranges.addr) (to_z-of_z w64 c.args.n c.ranges.n) c.range_of.ensures.tells stands.table (ap is_some c.in_default-range_of.is))) refl
+    (write_unmapped script numbers plain c.args.place.pid c.args.on.now.fd c.args.addr c.args.n c.in-Some.found (as_found c.args.heap.now c.args.procs.now c.args.place.pid c.args.on.now c.requires.opened numbers plain.files hold.opened (Some c.in-Some.found) c.in-Some.is) c.in-Inode.node c.in-Inode.is (sym c.is_writable.ensures ∙ c.if-not-is_writable.false) (as_mapped c.args.heap.now c.args.procs.now plain.table c.args.place.pid _ c.args.addr _ c.args.n _ false (to_z-of_z w64 c.args.addr c.ranges.addr) (to_z-of_z w64 c.args.n c.ranges.n) c.range_of.ensures.tells stands.table (ap is_some c.in_default-range_of.is))) refl
 
 pub returns-then-is_empty-clause-leads : goal.returns-then-is_empty-clause-leads
 returns-then-is_empty-clause-leads c = λ script numbers others plain account stands hold.
     let range = (as_range c.args.heap.now c.args.procs.now c.args.place.pid _ c.args.addr _ c.args.n _ _ _ (to_z-of_z w64 c.args.addr c.ranges.addr) (to_z-of_z w64 c.args.n c.ranges.n) c.in-Some-range_of.ensures.range) in
     leads_nowhere script numbers others c.args.heap.now c.args.procs.now c.args.tree.now plain account c.args.place.pid (call.Write c.args.on.now.fd c.args.addr c.args.n 0) c.requires.kept stands hold _ (Val (pos 0))
-    (write_nothing script numbers plain c.args.place.pid c.args.on.now.fd c.args.addr c.args.n c.in-Some.found (as_found numbers plain.files c.args.place.pid _ c.args.on.now.fd _ (Some c.in-Some.found) refl (opened_is c.args.heap.now c.args.procs.now c.args.place.pid c.args.on.now c.requires.opened numbers plain.files hold.opened) c.in-Some.is) c.in-Inode.node c.in-Inode.is (sym c.is_writable.ensures ∙ c.if-not-is_writable.false) (as_mapped c.args.heap.now c.args.procs.now plain.table c.args.place.pid _ c.args.addr _ c.args.n _ true (to_z-of_z w64 c.args.addr c.ranges.addr) (to_z-of_z w64 c.args.n c.ranges.n) c.range_of.ensures.tells stands.table (ap is_some c.in-Some-range_of.is)) (sym range.counted ∙ no_count _ (sym c.is_empty.ensures ∙ c.if-is_empty.true))) refl
+    (write_nothing script numbers plain c.args.place.pid c.args.on.now.fd c.args.addr c.args.n c.in-Some.found (as_found c.args.heap.now c.args.procs.now c.args.place.pid c.args.on.now c.requires.opened numbers plain.files hold.opened (Some c.in-Some.found) c.in-Some.is) c.in-Inode.node c.in-Inode.is (sym c.is_writable.ensures ∙ c.if-not-is_writable.false) (as_mapped c.args.heap.now c.args.procs.now plain.table c.args.place.pid _ c.args.addr _ c.args.n _ true (to_z-of_z w64 c.args.addr c.ranges.addr) (to_z-of_z w64 c.args.n c.ranges.n) c.range_of.ensures.tells stands.table (ap is_some c.in-Some-range_of.is)) (sym range.counted ∙ no_count _ (sym c.is_empty.ensures ∙ c.if-is_empty.true))) refl
 
 pub write_from-requires-clause-file : goal.write_from-requires-clause-file
 write_from-requires-clause-file c =
@@ -114,7 +114,7 @@ returns-in-Ok-clause-leads c = λ script numbers others plain account stands hol
     c.move_to.new.heap c.in-Some.found.key c.in-Some.found.desc c.in-Ok.count (is_there c.args.heap.now c.args.procs.now c.args.place.pid c.args.on.now c.requires.opened c.in-Some.found c.in-Some.is) c.in-Inode.is (writes_file plain.files.tree _ c.in-Inode.node (open_node numbers others c.args.heap.now c.args.procs.now c.args.tree.now plain.files hold c.in-Some.found.key c.in-Inode.node c.in-Some.found.desc (is_there c.args.heap.now c.args.procs.now c.args.place.pid c.args.on.now c.requires.opened c.in-Some.found c.in-Some.is) c.in-Inode.is) (sym c.is_writable.ensures ∙ c.if-not-is_writable.false)) (subst (λ k. MovesDesc c.write_from.new.heap c.move_to.new.heap c.in-Some.found.key c.in-Some.found.desc (c.place_of_write-at.result + k)) c.from.ensures c.move_to.ensures.moved)
     (subst (λ r. LedTo c.write_from.new.heap c.write_from.new.tree plain.files.tree (tree_write plain.files.tree c.in-Inode.node c.place_of_write-at.result (loaded (memory_of plain.table c.args.place.pid) c.in-Some-range_of.range.start c.in-Some-range_of.range.count)) (holders others plain.files) r) c.in-Ok.is (c.write_from.ensures.answer plain.files.tree (holders others plain.files) (memory_of plain.table c.args.place.pid) held.tree
     (memory_here c.args.heap.now c.args.procs.now plain.table c.args.place.pid c.in-Some-range_of.range.space range.space stands.table)))
-    (write_goes script numbers plain c.args.place.pid c.args.on.now.fd c.args.addr c.args.n c.in-Some.found (as_found numbers plain.files c.args.place.pid _ c.args.on.now.fd _ (Some c.in-Some.found) refl (opened_is c.args.heap.now c.args.procs.now c.args.place.pid c.args.on.now c.requires.opened numbers plain.files hold.opened) c.in-Some.is) c.in-Inode.node c.in-Inode.is (sym c.is_writable.ensures ∙ c.if-not-is_writable.false) (as_mapped c.args.heap.now c.args.procs.now plain.table c.args.place.pid _ c.args.addr _ c.args.n _ true (to_z-of_z w64 c.args.addr c.ranges.addr) (to_z-of_z w64 c.args.n c.ranges.n) c.range_of.ensures.tells stands.table (ap is_some c.in-Some-range_of.is)) (λ none. (some_count _ (sym c.is_empty.ensures ∙ c.if-is_empty.false)).0 (range.counted ∙ none))
+    (write_goes script numbers plain c.args.place.pid c.args.on.now.fd c.args.addr c.args.n c.in-Some.found (as_found c.args.heap.now c.args.procs.now c.args.place.pid c.args.on.now c.requires.opened numbers plain.files hold.opened (Some c.in-Some.found) c.in-Some.is) c.in-Inode.node c.in-Inode.is (sym c.is_writable.ensures ∙ c.if-not-is_writable.false) (as_mapped c.args.heap.now c.args.procs.now plain.table c.args.place.pid _ c.args.addr _ c.args.n _ true (to_z-of_z w64 c.args.addr c.ranges.addr) (to_z-of_z w64 c.args.n c.ranges.n) c.range_of.ensures.tells stands.table (ap is_some c.in-Some-range_of.is)) (λ none. (some_count _ (sym c.is_empty.ensures ∙ c.if-is_empty.false)).0 (range.counted ∙ none))
     ∙ ap (λ b. write_file script plain c.args.place.pid (opened_in numbers c.in-Some.found) c.in-Inode.node b) (bytes_same (memory_of plain.table c.args.place.pid) c.in-Some-range_of.range.start c.in-Some-range_of.range.count (count_of c.args.addr) (count_of c.args.n) (range.begins (some_count _ (sym c.is_empty.ensures ∙ c.if-is_empty.false)).1) range.counted)
     ∙ ap (λ a. wrote script plain c.args.place.pid (opened_in numbers c.in-Some.found) a (tree_write plain.files.tree c.in-Inode.node a (loaded (memory_of plain.table c.args.place.pid) c.in-Some-range_of.range.start c.in-Some-range_of.range.count))) (sym (c.place_of_write-at.ensures.place plain.files.tree (holders others plain.files) hold.tree))) refl
 
@@ -146,7 +146,7 @@ returns-in-Err-clause-leads c = λ script numbers others plain account stands ho
     (opened_in numbers c.in-Some.found) c.in-Err.errno
     (subst (λ r. LedTo c.write_from.new.heap c.write_from.new.tree plain.files.tree (tree_write plain.files.tree c.in-Inode.node c.place_of_write-at.result (loaded (memory_of plain.table c.args.place.pid) c.in-Some-range_of.range.start c.in-Some-range_of.range.count)) (holders others plain.files) r) c.in-Err.is (c.write_from.ensures.answer plain.files.tree (holders others plain.files) (memory_of plain.table c.args.place.pid) held.tree
     (memory_here c.args.heap.now c.args.procs.now plain.table c.args.place.pid c.in-Some-range_of.range.space range.space stands.table)))
-    (write_goes script numbers plain c.args.place.pid c.args.on.now.fd c.args.addr c.args.n c.in-Some.found (as_found numbers plain.files c.args.place.pid _ c.args.on.now.fd _ (Some c.in-Some.found) refl (opened_is c.args.heap.now c.args.procs.now c.args.place.pid c.args.on.now c.requires.opened numbers plain.files hold.opened) c.in-Some.is) c.in-Inode.node c.in-Inode.is (sym c.is_writable.ensures ∙ c.if-not-is_writable.false) (as_mapped c.args.heap.now c.args.procs.now plain.table c.args.place.pid _ c.args.addr _ c.args.n _ true (to_z-of_z w64 c.args.addr c.ranges.addr) (to_z-of_z w64 c.args.n c.ranges.n) c.range_of.ensures.tells stands.table (ap is_some c.in-Some-range_of.is)) (λ none. (some_count _ (sym c.is_empty.ensures ∙ c.if-is_empty.false)).0 (range.counted ∙ none))
+    (write_goes script numbers plain c.args.place.pid c.args.on.now.fd c.args.addr c.args.n c.in-Some.found (as_found c.args.heap.now c.args.procs.now c.args.place.pid c.args.on.now c.requires.opened numbers plain.files hold.opened (Some c.in-Some.found) c.in-Some.is) c.in-Inode.node c.in-Inode.is (sym c.is_writable.ensures ∙ c.if-not-is_writable.false) (as_mapped c.args.heap.now c.args.procs.now plain.table c.args.place.pid _ c.args.addr _ c.args.n _ true (to_z-of_z w64 c.args.addr c.ranges.addr) (to_z-of_z w64 c.args.n c.ranges.n) c.range_of.ensures.tells stands.table (ap is_some c.in-Some-range_of.is)) (λ none. (some_count _ (sym c.is_empty.ensures ∙ c.if-is_empty.false)).0 (range.counted ∙ none))
     ∙ ap (λ b. write_file script plain c.args.place.pid (opened_in numbers c.in-Some.found) c.in-Inode.node b) (bytes_same (memory_of plain.table c.args.place.pid) c.in-Some-range_of.range.start c.in-Some-range_of.range.count (count_of c.args.addr) (count_of c.args.n) (range.begins (some_count _ (sym c.is_empty.ensures ∙ c.if-is_empty.false)).1) range.counted)
     ∙ ap (λ a. wrote script plain c.args.place.pid (opened_in numbers c.in-Some.found) a (tree_write plain.files.tree c.in-Inode.node a (loaded (memory_of plain.table c.args.place.pid) c.in-Some-range_of.range.start c.in-Some-range_of.range.count))) (sym (c.place_of_write-at.ensures.place plain.files.tree (holders others plain.files) hold.tree)))
 
@@ -167,8 +167,8 @@ returns-in-Err-clause-reads c =
 
 pub returns-in-Ok-clause-stays : goal.returns-in-Ok-clause-stays
 returns-in-Ok-clause-stays c = λ numbers files have off.
-    absurd (on_node numbers files c.args.place.pid c.args.on.now.fd c.in-Some.found c.in-Inode.node (as_found numbers files c.args.place.pid _ c.args.on.now.fd _ (Some c.in-Some.found) refl (opened_is c.args.heap.now c.args.procs.now c.args.place.pid c.args.on.now c.requires.opened numbers files have) c.in-Some.is) c.in-Inode.is off)
+    absurd (on_node numbers files c.args.place.pid c.args.on.now.fd c.in-Some.found c.in-Inode.node (as_found c.args.heap.now c.args.procs.now c.args.place.pid c.args.on.now c.requires.opened numbers files have (Some c.in-Some.found) c.in-Some.is) c.in-Inode.is off)
 
 pub returns-in-Err-clause-stays : goal.returns-in-Err-clause-stays
 returns-in-Err-clause-stays c = λ numbers files have off.
-    absurd (on_node numbers files c.args.place.pid c.args.on.now.fd c.in-Some.found c.in-Inode.node (as_found numbers files c.args.place.pid _ c.args.on.now.fd _ (Some c.in-Some.found) refl (opened_is c.args.heap.now c.args.procs.now c.args.place.pid c.args.on.now c.requires.opened numbers files have) c.in-Some.is) c.in-Inode.is off)
+    absurd (on_node numbers files c.args.place.pid c.args.on.now.fd c.in-Some.found c.in-Inode.node (as_found c.args.heap.now c.args.procs.now c.args.place.pid c.args.on.now c.requires.opened numbers files have (Some c.in-Some.found) c.in-Some.is) c.in-Inode.is off)

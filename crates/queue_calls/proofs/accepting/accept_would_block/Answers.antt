@@ -6,10 +6,6 @@ use Rattle.store_objects.proofs.Keeping.{listed_in}
 use Rattle.store_objects.proofs.RunningProcs.{alive_runs}
 use Rattle.queue_calls.proofs.accepting.accept_would_block.Goals as goal
 
--- the number that was looked up is that of the call
-same : (c : goal.After-opened-on) → c.opened-on.result.fd ≡ c.args.fd
-same c = c.opened-on.ensures.number ∙ to_z-of_z w64 c.args.fd c.ranges.fd
-
 pub opened-on-requires-clause-listed : goal.opened-on-requires-clause-listed
 opened-on-requires-clause-listed c = let some = c.requires.stands in listed_in some.0 c.args.objects.now some.2.kept
 
@@ -24,5 +20,6 @@ accept_waits-requires-clause-owners c = let some = c.requires.stands in some.2.k
 
 pub returns : goal.returns
 returns c = λ script world stands.
-    subst (λ z. c.accept_waits.result ≡ blocks (accept script world.plain c.args.place.pid z)) (same c)
+    -- the number that was looked up is that of the call
+    subst (λ z. c.accept_waits.result ≡ blocks (accept script world.plain c.args.place.pid z)) (c.opened-on.ensures.number ∙ to_z-of_z w64 c.args.fd c.ranges.fd)
     (c.accept_waits.ensures stands.files.numbers script world.plain stands.files.opened)

@@ -11,10 +11,6 @@ use Rattle.queue_calls.proofs.Queueing.{is_kept, queues_stand}
 use Rattle.store_objects.proofs.Keeping.{listed_in}
 use Rattle.queue_calls.proofs.writing.write_would_block.Goals as goal
 
--- the number that was looked up is that of the call
-same : (c : goal.After-opened-on) → c.opened-on.result.fd ≡ c.args.fd
-same c = c.opened-on.ensures.number ∙ to_z-of_z w64 c.args.fd c.ranges.fd
-
 pub opened-on-requires-clause-listed : goal.opened-on-requires-clause-listed
 opened-on-requires-clause-listed c = let some = c.requires.stands in listed_in some.0 c.args.objects.now some.2.kept
 
@@ -34,7 +30,8 @@ pub returns : goal.returns
 returns c = λ script world stands.
     let pid = c.args.place.pid in
     let fd = to_z-of_z w64 c.args.fd c.ranges.fd in
-    let found = same c in
+    -- the number that was looked up is that of the call
+    let found = c.opened-on.ensures.number ∙ fd in
     let addr = to_z-of_z w64 c.args.addr c.ranges.addr in
     let n = to_z-of_z w64 c.args.n c.ranges.n in
     let right = of_three (λ x y z. c.may_move.result ≡ is_none (moved_fault 0 y z)) _ _ _ c.args.fd c.args.addr c.args.n fd addr n c.may_move.ensures in

@@ -7,7 +7,8 @@ use Rattle.call_run.proofs.sleepers.Sleepers.ask_all.Goals as goal
 pub ask_each-requires-clause-room : goal.ask_each-requires-clause-room
 ask_each-requires-clause-room c =
     let stirred : c.self.inside.stirred.items ≡ c.args.self.now.stirred = ap (λ (s : SleepersView). s.stirred) c.self.view_is ∙ c.forget_channels.ensures.stirred in
-    let h = c.self.ranges in ?
+    let many = ap length stirred in
+    omega (arith, c.requires.room)
 
 pub returns-clause-minded : goal.returns-clause-minded
 returns-clause-minded c = λ world stands.

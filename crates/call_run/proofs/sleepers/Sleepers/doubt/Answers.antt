@@ -8,6 +8,6 @@ pub returns-then-self-clause-channels : goal.returns-then-self-clause-channels
 returns-then-self-clause-channels c =
     let told : c.self.inside.told.items ≡ c.args.self.now.told = ap (λ (s : SleepersView). s.told) c.self.view_is in
     let channels : c.self.inside.channels ≡ c.args.self.now.channels = ap (λ (s : SleepersView). s.channels) c.self.view_is in
-    all_doubted c.args.self.now.told c.args.self.now.channels c.doubt_all.new.channels 
+    all_doubted c.args.self.now.told c.args.self.now.channels c.doubt_all.new.channels
     (some_told c.self.inside.told.items c.args.self.now.told c.is_empty.result told c.is_empty.ensures c.if-is_empty.false)
     (c.doubt_all.ensures ∙ ap (map doubted) channels)

@@ -1,4 +1,4 @@
-use Rattle.std.proofs.Common.{◌≡◌, ◌<◌, ◌≤◌, ◌∙◌, [], length, ap, sym, subst}
+use Rattle.std.proofs.Common.{◌<◌, ◌∙◌, length, ap, sym, subst}
 use Rattle.call_run.specs.Sleepers.{AreRising, without}
 use Rattle.call_run.specs.Stores.{SleepersView}
 use Rattle.call_run.proofs.Telling.{gone_at, rising_removed, untold_at, without_none}
@@ -24,7 +24,7 @@ pub returns-then-stands_at-clause-told : goal.returns-then-stands_at-clause-told
 returns-then-stands_at-clause-told c =
     c.forget_at.ensures.items
     ∙ gone_at c.self.inside.told.items c.as_slice.result.now c.as_slice-2.result.now c.args.pid c.place_of-place.result c.stands_at.result c.as_slice.ensures.value c.as_slice-2.ensures.value
-      c.self.invariant.rising c.place_of-place.ensures.place c.stands_at.ensures.stands c.if-stands_at.true
+    c.self.invariant.rising c.place_of-place.ensures.place c.stands_at.ensures.stands c.if-stands_at.true
     ∙ ap (λ (s : SleepersView). without s.told c.args.pid) c.self.view_is
 
 pub returns-else-stands_at-clause-told : goal.returns-else-stands_at-clause-told
@@ -32,6 +32,6 @@ returns-else-stands_at-clause-told c =
     sym
     (ap (λ (s : SleepersView). without s.told c.args.pid) (sym c.self.view_is)
     ∙ without_none c.self.inside.told.items c.args.pid
-      (untold_at c.self.inside.told.items c.as_slice.result.now c.as_slice-2.result.now c.args.pid c.place_of-place.result c.stands_at.result c.as_slice.ensures.value c.as_slice-2.ensures.value
-      c.self.invariant.rising c.place_of-place.ensures.place c.stands_at.ensures.stands c.if-stands_at.false)
+    (untold_at c.self.inside.told.items c.as_slice.result.now c.as_slice-2.result.now c.args.pid c.place_of-place.result c.stands_at.result c.as_slice.ensures.value c.as_slice-2.ensures.value
+    c.self.invariant.rising c.place_of-place.ensures.place c.stands_at.ensures.stands c.if-stands_at.false)
     ∙ ap (λ (s : SleepersView). s.told) c.self.view_is)

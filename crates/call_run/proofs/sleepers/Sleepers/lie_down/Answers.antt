@@ -1,6 +1,4 @@
-use Rattle.std.proofs.Common.{◌≡◌, ◌++◌, ◌∙◌, [], ◌∷◌, List, None, ap, sym, subst, inl}
-use Rattle.std.specs.Prelude.{insert}
-use Rattle.call_run.specs.declared.sleepers.Sleeper.{Sleeper}
+use Rattle.std.proofs.Common.{◌≡◌, ◌++◌, ◌∙◌, [], ◌∷◌, ap, sym, subst, inl}
 use Rattle.call_run.specs.Sleepers.{AreRising, NamesMore, lain, told_of, with_sleeper}
 use Rattle.call_run.specs.Stores.{SleepersView}
 use Rattle.call_run.proofs.Telling.{inserted_at, named_more, names_lain, rising_with}

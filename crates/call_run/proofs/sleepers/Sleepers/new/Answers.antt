@@ -1,4 +1,4 @@
-use Rattle.std.proofs.Common.{[], sym, subst}
+use Rattle.std.proofs.Common.{sym, subst}
 use Rattle.call_run.specs.Sleepers.{AreRising}
 use Rattle.call_run.proofs.Channels.{none_of_none}
 use Rattle.call_run.proofs.sleepers.Sleepers.new.Goals as goal

@@ -1,6 +1,6 @@
-use Rattle.std.proofs.Common.{◌≡◌, true, sym, subst, inl, inr}
+use Rattle.std.proofs.Common.{true, sym, subst, inl, inr}
 use Rattle.call_run.specs.Sleepers.{AreMinded}
-use Rattle.call_run.proofs.Minding.{alive_some, doubted_minded, lain_minded}
+use Rattle.call_run.proofs.Minding.{doubted_minded, lain_minded}
 use Rattle.call_run.proofs.sleepers.Sleepers.sleep_on.Goals as goal
 
 pub returns-then-is_none-clause-minded : goal.returns-then-is_none-clause-minded

@@ -1,7 +1,8 @@
-use Rattle.std.proofs.Common.{◌≡◌, ◌<◌, true, List, [], ◌∷◌, length, slice_set, refl, rules, sym, ap, subst, w64, ◌∙◌, arith}
+use Rattle.std.proofs.Common.{◌≡◌, ◌<◌, true, not, Option, Some, List, [], ◌∷◌, length, slice_set, refl, rules, sym, ap, subst, w64, ◌∙◌, arith}
 use Rattle.std.proofs.lemmas.Int.{to_z-of_z}
 use mir.Val.{of_z, to_z}
 use Rattle.posix_defs.specs.Process.{is_alive}
+use Rattle.call_run.specs.declared.sleepers.Channel.{Channel}
 use Rattle.call_run.specs.declared.sleepers.Sleeper.{Sleeper}
 use Rattle.call_run.specs.declared.sleepers.Stirs.TheVariants.{Through}
 use Rattle.call_run.specs.Sleepers.{AreMinded, IsPassed, NamesMore, channel_at}
@@ -54,10 +55,13 @@ returns-clause-minded c = λ old new call told behind stirs.
     let many : 0 < length c.args.self.now.told = omega (arith, counted, c.len.ensures.value) in
     let some = some_first c.args.self.now.told many in
     let same : c.begin.new.self.channels ≡ c.args.self.now.channels = ap (λ (s : SleepersView). s.channels) c.begin.ensures.same in
-    subst (AreMinded c.args.script.now new.plain c.ask_there.new.self.told) (sym (near.2 ∙ ap (λ channels. slice_set channels c.channel_of-place.result _) same))
+    let long : length c.args.self.now.channels ≡ 32 = (let counts : length c.self.inside.channels ≡ 32 = search rules in sym (ap (λ (s : SleepersView). length s.channels) c.self.view_is) ∙ counts) in
+    let opened : Option Channel = Some (record { pid = c.args.pid; fd = to_z w64 (of_z w64 c.args.fd); all_apart = not near.0 }) in
+    subst (AreMinded c.args.script.now new.plain c.ask_there.new.self.told) (sym (near.2 ∙ ap (λ channels. slice_set channels c.channel_of-place.result opened) same))
     (touched_near c.args.script.now c.args.objects.now old new c.args.pid call told c.args.self.now.told c.args.self.now.channels behind c.requires.up (to_z w64 (of_z w64 c.args.fd))
     (stirs ∙ ap Through (sym fd)) c.channel_of-place.result near.0
-    some.0 some.1 some.2 c.begin.new.self.told c.ask_there.new.self.told c.begin.ensures.told near.1 ?)
+    some.0 some.1 some.2 c.begin.new.self.told c.ask_there.new.self.told c.begin.ensures.told near.1
+    (subst (λ n. c.channel_of-place.result < n) (sym long) c.channel_of-place.ensures))
 
 pub returns-clause-up : goal.returns-clause-up
 returns-clause-up c =
