@@ -63,6 +63,15 @@ minded_alone script plain told channels none truly = record {
   known = λ place. subst (IsChannel script plain told) (sym (none place)) tt;
 }
 
+-- where nobody is told of, that is so of any world
+pub nobody_minded : (script : Script) (plain : Plain) (told : List Sleeper) (channels : List (Option Channel)) → told ≡ [] → AreMinded script plain told channels
+nobody_minded script plain told channels none =
+    subst (λ ts. AreMinded script plain ts channels) (sym none) (record { each = tt; apart = tt; known = λ place. any (channel_at channels place) })
+  where
+    any : (found : Option Channel) → IsChannel script plain [] found
+    any None = tt
+    any (Some channel) = tt
+
 -- ---- by pids
 
 -- where a channel has begun the pids are the same
