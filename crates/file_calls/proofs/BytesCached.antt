@@ -18,23 +18,21 @@ counted (Ok count) = refl
 counted (Err errno) = refl
 
 -- what was told of a read of the tree is told of its call
-pub bytes_cached : (old new : Objects) (fs : TreeView) (pid : ℕ) (as_fd fd : ℤ) (as_at at : Desc → ℕ) (moved : Result ℕ Errno) (said : Reply) (told : Turned)
-    → as_fd ≡ fd → as_at ≡ at → said ≡ value_of moved → told ≡ turned.Done said → new.tree ≡ fs
-    → SavesRead old.heap old.procs pid as_fd old.tree fs as_at (moved_by moved) → KeepsRead old.heap old.procs pid as_fd old.tree fs as_at (moved_by moved)
+pub bytes_cached : (old new : Objects) (fs : TreeView) (pid : ℕ) (fd : ℤ) (as_at at : Desc → ℕ) (moved : Result ℕ Errno) (said : Reply) (told : Turned)
+    → as_at ≡ at → said ≡ value_of moved → told ≡ turned.Done said → new.tree ≡ fs
+    → SavesRead old.heap old.procs pid fd old.tree fs as_at (moved_by moved) → KeepsRead old.heap old.procs pid fd old.tree fs as_at (moved_by moved)
     → AreBytesCached old pid fd at (told_count told) new
-bytes_cached old new fs pid as_fd fd as_at at moved said told same_fd same_at tells is tree saved last =
+bytes_cached old new fs pid fd as_at at moved said told same_at tells is tree saved last =
     let many : moved_by moved ≡ told_count told = sym (ap told_count is ∙ ap (λ r. told_count (turned.Done r)) tells ∙ counted moved) in
     record {
       saved =
           subst (λ n. SavesRead old.heap old.procs pid fd old.tree new.tree at n) many
           (subst (λ t. SavesRead old.heap old.procs pid fd old.tree t at (moved_by moved)) (sym tree)
-          (subst (λ place. SavesRead old.heap old.procs pid fd old.tree fs place (moved_by moved)) same_at
-          (subst (λ z. SavesRead old.heap old.procs pid z old.tree fs as_at (moved_by moved)) same_fd saved)));
+          (subst (λ place. SavesRead old.heap old.procs pid fd old.tree fs place (moved_by moved)) same_at saved));
       last =
           subst (λ n. KeepsRead old.heap old.procs pid fd old.tree new.tree at n) many
           (subst (λ t. KeepsRead old.heap old.procs pid fd old.tree t at (moved_by moved)) (sym tree)
-          (subst (λ place. KeepsRead old.heap old.procs pid fd old.tree fs place (moved_by moved)) same_at
-          (subst (λ z. KeepsRead old.heap old.procs pid z old.tree fs as_at (moved_by moved)) same_fd last)));
+          (subst (λ place. KeepsRead old.heap old.procs pid fd old.tree fs place (moved_by moved)) same_at last));
     }
 
 -- a call that tells of no bytes and leaves the tree

@@ -19,10 +19,6 @@ of_two P a b x y first second holds = subst (λ n. P n y) first (subst (P a) sec
 pub of_three : (P : ℤ → ℤ → ℤ → Type 0) (a b c x y z : ℤ) → a ≡ x → b ≡ y → c ≡ z → P a b c → P x y z
 of_three P a b c x y z first second third holds = subst (λ n. P n y z) first (subst (λ n. P a n z) second (subst (λ n. P a b n) third holds))
 
-pub of_four : (P : ℤ → ℤ → ℤ → ℤ → Type 0) (a b c d w x y z : ℤ) → a ≡ w → b ≡ x → c ≡ y → d ≡ z → P a b c d → P w x y z
-of_four P a b c d w x y z first second third fourth holds =
-    of_three (λ k m n. P k m n z) a b c w x y first second third (subst (λ n. P a b c n) fourth holds)
-
 -- so a purse of its need has as many pages as the bytes from an address on touch, by whatever names these are called
 pub pages_for : (had : ℕ) (addr n as_addr as_n : ℤ) (which : Call) → addr ≡ as_addr → n ≡ as_n → argument_fault which ≡ None → had ≡ (need_of which).page
     → (objects_of which).page ≡ pages_touched (count_of addr) (count_of n) → pages_touched (count_of as_addr) (count_of as_n) ≤ had

@@ -1,5 +1,4 @@
-use Rattle.std.proofs.Common.{◌≡◌, ℕ, ℤ, List, [], Option, Result, length, refl, subst, sym, w64}
-use Rattle.std.proofs.lemmas.Int.{to_z-of_z}
+use Rattle.std.proofs.Common.{◌≡◌, ℕ, ℤ, List, [], Option, Result, length, refl, subst, sym}
 use Rattle.kabi_types.specs.declared.calls.Call.TheVariants as call
 use Rattle.kabi_types.specs.declared.scripts.Script.{Script}
 use Rattle.kabi_types.specs.declared.errnos.Errno.{Errno}
@@ -23,11 +22,11 @@ use Rattle.store_objects.proofs.Replying.{no_frames}
 use Rattle.file_calls.proofs.CallingNames.{AnswersSo, HasNamed, alive_who_runs, anew, bind_cached, kept_named, runs_named, serves_named}
 use Rattle.file_calls.proofs.binding.bind.Goals as goal
 
-named : (script : Script) (old : Objects) (heap : Heap) (fs : TreeView) (names : List (Option ℕ)) (pid : ℕ) (fd as_fd : ℤ) (path : List ℕ) (is : Result (Unit {0}) Errno) (said : Reply) → as_fd ≡ fd → said ≡ zero_of is
+named : (script : Script) (old : Objects) (heap : Heap) (fs : TreeView) (names : List (Option ℕ)) (pid : ℕ) (fd : ℤ) (path : List ℕ) (is : Result (Unit {0}) Errno) (said : Reply) → said ≡ zero_of is
     → (world : World) × StandsFor script old world × IsSound world.plain → IsWellFormed old.heap → NamesChange old.heap heap → AreListed heap old.procs → HasItsOwners heap [] → QueuesStand old.heap heap
-    → length names ≡ length old.names → AnswersSo old heap fs names script pid (λ plain. bind script plain pid as_fd path) (zero_of is)
+    → length names ≡ length old.names → AnswersSo old heap fs names script pid (λ plain. bind script plain pid fd path) (zero_of is)
     → HasNamed script old heap fs names pid (λ plain. bind script plain pid fd path) said
-named script old heap fs names pid fd as_fd path is said same tells world well changes listed owners queues places answers = record {
+named script old heap fs names pid fd path is said tells world well changes listed owners queues places answers = record {
   world = world;
   well = well;
   changes = changes;
@@ -35,8 +34,7 @@ named script old heap fs names pid fd as_fd path is said same tells world well c
   owners = owners;
   queues = queues;
   places = places;
-  answers = subst (λ z. AnswersSo old heap fs names script pid (λ plain. bind script plain pid z path) said) same
-      (subst (AnswersSo old heap fs names script pid (λ plain. bind script plain pid as_fd path)) (sym tells) answers);
+  answers = subst (AnswersSo old heap fs names script pid (λ plain. bind script plain pid fd path)) (sym tells) answers;
 }
 
 pub bind_number-done-requires-clause-listed : goal.bind_number-done-requires-clause-listed
@@ -59,14 +57,14 @@ bind_number-done-requires-clause-path c =
 pub go_on-requires-clause-kept : goal.go_on-requires-clause-kept
 go_on-requires-clause-kept c =
     kept_named c.args.script.now c.args.objects.now c.bind_number-done.new.heap c.bind_number-done.new.tree c.bind_number-done.new.names c.args.caller.now.place.pid (λ plain. bind c.args.script.now plain c.args.caller.now.place.pid c.args.on.now.fd c.args.path.now) c.zero.result
-    (named c.args.script.now c.args.objects.now c.bind_number-done.new.heap c.bind_number-done.new.tree c.bind_number-done.new.names c.args.caller.now.place.pid c.args.on.now.fd _ c.args.path.now c.bind_number-done.result c.zero.result refl c.zero.ensures c.requires.stands
+    (named c.args.script.now c.args.objects.now c.bind_number-done.new.heap c.bind_number-done.new.tree c.bind_number-done.new.names c.args.caller.now.place.pid c.args.on.now.fd c.args.path.now c.bind_number-done.result c.zero.result c.zero.ensures c.requires.stands
     c.heap_is_well_formed.ensures c.bind_number-done.ensures.changes c.bind_number-done.ensures.listed c.bind_number-done.ensures.owners c.bind_number-done.ensures.queues c.bind_number-done.ensures.places
     (λ n o plain hold works. anew c.args.objects.now.heap n o c.args.objects.now c.bind_number-done.new.heap c.bind_number-done.new.tree c.bind_number-done.new.names c.args.script.now plain c.args.caller.now.place.pid _ _ (c.bind_number-done.ensures.answers n o c.args.script.now plain hold works)))
 
 pub go_on-requires-clause-runs : goal.go_on-requires-clause-runs
 go_on-requires-clause-runs c =
     runs_named c.args.script.now c.args.objects.now c.bind_number-done.new.heap c.bind_number-done.new.tree c.bind_number-done.new.names c.args.caller.now.place.pid (λ plain. bind c.args.script.now plain c.args.caller.now.place.pid c.args.on.now.fd c.args.path.now) c.zero.result
-    (named c.args.script.now c.args.objects.now c.bind_number-done.new.heap c.bind_number-done.new.tree c.bind_number-done.new.names c.args.caller.now.place.pid c.args.on.now.fd _ c.args.path.now c.bind_number-done.result c.zero.result refl c.zero.ensures c.requires.stands
+    (named c.args.script.now c.args.objects.now c.bind_number-done.new.heap c.bind_number-done.new.tree c.bind_number-done.new.names c.args.caller.now.place.pid c.args.on.now.fd c.args.path.now c.bind_number-done.result c.zero.result c.zero.ensures c.requires.stands
     c.heap_is_well_formed.ensures c.bind_number-done.ensures.changes c.bind_number-done.ensures.listed c.bind_number-done.ensures.owners c.bind_number-done.ensures.queues c.bind_number-done.ensures.places
     (λ n o plain hold works. anew c.args.objects.now.heap n o c.args.objects.now c.bind_number-done.new.heap c.bind_number-done.new.tree c.bind_number-done.new.names c.args.script.now plain c.args.caller.now.place.pid _ _ (c.bind_number-done.ensures.answers n o c.args.script.now plain hold works)))
     c.args.caller.now.control c.requires.runs
@@ -79,7 +77,7 @@ returns-clause-paid c =
 pub returns-clause-does : goal.returns-clause-does
 returns-clause-does c =
     serves_named c.args.script.now c.args.objects.now c.bind_number-done.new.heap c.bind_number-done.new.tree c.bind_number-done.new.names c.args.caller.now.place.pid (λ plain. bind c.args.script.now plain c.args.caller.now.place.pid c.args.on.now.fd c.args.path.now) c.zero.result
-    (named c.args.script.now c.args.objects.now c.bind_number-done.new.heap c.bind_number-done.new.tree c.bind_number-done.new.names c.args.caller.now.place.pid c.args.on.now.fd _ c.args.path.now c.bind_number-done.result c.zero.result refl c.zero.ensures c.requires.stands
+    (named c.args.script.now c.args.objects.now c.bind_number-done.new.heap c.bind_number-done.new.tree c.bind_number-done.new.names c.args.caller.now.place.pid c.args.on.now.fd c.args.path.now c.bind_number-done.result c.zero.result c.zero.ensures c.requires.stands
     c.heap_is_well_formed.ensures c.bind_number-done.ensures.changes c.bind_number-done.ensures.listed c.bind_number-done.ensures.owners c.bind_number-done.ensures.queues c.bind_number-done.ensures.places
     (λ n o plain hold works. anew c.args.objects.now.heap n o c.args.objects.now c.bind_number-done.new.heap c.bind_number-done.new.tree c.bind_number-done.new.names c.args.script.now plain c.args.caller.now.place.pid _ _ (c.bind_number-done.ensures.answers n o c.args.script.now plain hold works)))
     (call.Bind c.args.on.now.fd c.args.path.now) c.args.purse.now c.bind_number-done.new.purse c.go_on.result c.go_on.new.objects c.bind_number-done.ensures.paid c.requires.needed c.bind_number-done.ensures.reads c.go_on.ensures.told c.go_on.ensures.goes

@@ -1,12 +1,8 @@
-use Rattle.std.proofs.Common.{◌≡◌, None, refl, subst, sym, w64}
-use Rattle.std.proofs.lemmas.Int.{to_z-of_z}
+use Rattle.std.proofs.Common.{refl, subst, sym}
 use Rattle.kabi_types.specs.declared.calls.Call.TheVariants as call
 use Rattle.posix_defs.specs.Calls.OnDescriptors.{close}
-use Rattle.proc_numbers.specs.Having.{node_closed}
-use Rattle.proc_numbers.specs.Naming.{named_by}
 use Rattle.proc_files.specs.Holding.{HoldSome}
 use Rattle.proc_files.specs.NameAnswering.{AnswersNaming}
-use Rattle.proc_numbers.specs.Answering.{zero_of}
 use Rattle.store_objects.proofs.Replying.{no_frames}
 use Rattle.store_objects.proofs.Keeping.{listed_in}
 use Rattle.store_objects.proofs.Paying.{uses_nothing, uses_then}

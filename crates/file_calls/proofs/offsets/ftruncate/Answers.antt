@@ -20,15 +20,14 @@ use Rattle.store_objects.specs.Standing.{IsSound, StandsFor}
 use Rattle.store_objects.proofs.Keeping.{listed_in}
 use Rattle.store_objects.proofs.Within.{within_paid}
 use Rattle.file_calls.proofs.Calling.{AnswersSo, HasChanged, holds_some, kept_changed, leaves_others, mid_of, runs_changed, serves_changed}
-use Rattle.file_calls.proofs.Needed.{of_two}
 use Rattle.file_calls.proofs.offsets.ftruncate.Goals as goal
 
-changed : {X : Type 0} (script : Script) (old : Objects) (heap : Heap) (fs : TreeView) (pid : ℕ) (fd size as_fd as_size : ℤ) (is : Result X Errno) (said : Reply) → as_fd ≡ fd → as_size ≡ size
+changed : {X : Type 0} (script : Script) (old : Objects) (heap : Heap) (fs : TreeView) (pid : ℕ) (fd size as_size : ℤ) (is : Result X Errno) (said : Reply) → as_size ≡ size
     → said ≡ zero_of is → heap ≡ record old.heap { vnodes = heap.vnodes; names = heap.names; blocks = heap.blocks; high = heap.high } → (world : World) × StandsFor script old world × IsSound world.plain
-    → IsWellFormed old.heap → AreListed heap old.procs → HasItsOwners heap [] → argument_fault (call.Ftruncate fd size) ≡ None → StaysOffNodes old.heap old.procs pid as_fd old.tree fs
-    → AnswersSo script old heap fs pid (λ plain. ftruncate script plain pid as_fd as_size) (zero_of is)
+    → IsWellFormed old.heap → AreListed heap old.procs → HasItsOwners heap [] → argument_fault (call.Ftruncate fd size) ≡ None → StaysOffNodes old.heap old.procs pid fd old.tree fs
+    → AnswersSo script old heap fs pid (λ plain. ftruncate script plain pid fd as_size) (zero_of is)
     → HasChanged script old heap fs pid (call.Ftruncate fd size) fd (λ plain. ftruncate script plain pid fd size) said
-changed script old heap fs pid fd size as_fd as_size is said same_fd same_size tells beside world well listed owners right stays answers = record {
+changed script old heap fs pid fd size as_size is said same_size tells beside world well listed owners right stays answers = record {
   world = world;
   well = well;
   others = leaves_others old.heap heap (record old.heap { vnodes = heap.vnodes; names = heap.names; blocks = heap.blocks; high = heap.high }) beside refl refl refl refl;
@@ -37,9 +36,9 @@ changed script old heap fs pid fd size as_fd as_size is said same_fd same_size t
   listed = listed;
   owners = owners;
   names = record { right = right; paths = refl; numbers = refl; leaves = refl; walks = refl };
-  stays = subst (λ k. StaysOffNodes old.heap old.procs pid k old.tree fs) same_fd stays;
-  answers = of_two (λ fd1 size1. AnswersSo script old heap fs pid (λ plain. ftruncate script plain pid fd1 size1) said)
-      as_fd as_size fd size same_fd same_size (subst (AnswersSo script old heap fs pid (λ plain. ftruncate script plain pid as_fd as_size)) (sym tells) answers);
+  stays = stays;
+  answers = subst (λ size1. AnswersSo script old heap fs pid (λ plain. ftruncate script plain pid fd size1) said)
+      same_size (subst (AnswersSo script old heap fs pid (λ plain. ftruncate script plain pid fd as_size)) (sym tells) answers);
 }
 
 pub size_number-done-requires-clause-listed : goal.size_number-done-requires-clause-listed
@@ -54,15 +53,15 @@ size_number-done-requires-clause-hold c = holds_some c.args.script.now c.args.ob
 pub go_on-requires-clause-kept : goal.go_on-requires-clause-kept
 go_on-requires-clause-kept c =
     kept_changed c.args.script.now c.args.objects.now c.size_number-done.new.heap c.size_number-done.new.tree c.args.caller.now.place.pid (call.Ftruncate c.args.on.now.fd c.args.size) c.args.on.now.fd (λ plain. ftruncate c.args.script.now plain c.args.caller.now.place.pid c.args.on.now.fd c.args.size) c.zero.result
-    (changed c.args.script.now c.args.objects.now c.size_number-done.new.heap c.size_number-done.new.tree c.args.caller.now.place.pid c.args.on.now.fd c.args.size _ _ c.size_number-done.result c.zero.result
-    refl (to_z-of_z w64 c.args.size c.ranges.size) c.zero.ensures c.size_number-done.ensures.pays.only c.requires.stands
+    (changed c.args.script.now c.args.objects.now c.size_number-done.new.heap c.size_number-done.new.tree c.args.caller.now.place.pid c.args.on.now.fd c.args.size _ c.size_number-done.result c.zero.result
+    (to_z-of_z w64 c.args.size c.ranges.size) c.zero.ensures c.size_number-done.ensures.pays.only c.requires.stands
     c.heap_is_well_formed.ensures c.size_number-done.ensures.listed c.size_number-done.ensures.owners c.requires.right c.size_number-done.ensures.stays (λ numbers others plain. c.size_number-done.ensures.answers numbers others c.args.script.now plain))
 
 pub go_on-requires-clause-runs : goal.go_on-requires-clause-runs
 go_on-requires-clause-runs c =
     runs_changed c.args.script.now c.args.objects.now c.size_number-done.new.heap c.size_number-done.new.tree c.args.caller.now.place.pid (call.Ftruncate c.args.on.now.fd c.args.size) c.args.on.now.fd (λ plain. ftruncate c.args.script.now plain c.args.caller.now.place.pid c.args.on.now.fd c.args.size) c.zero.result
-    (changed c.args.script.now c.args.objects.now c.size_number-done.new.heap c.size_number-done.new.tree c.args.caller.now.place.pid c.args.on.now.fd c.args.size _ _ c.size_number-done.result c.zero.result
-    refl (to_z-of_z w64 c.args.size c.ranges.size) c.zero.ensures c.size_number-done.ensures.pays.only c.requires.stands
+    (changed c.args.script.now c.args.objects.now c.size_number-done.new.heap c.size_number-done.new.tree c.args.caller.now.place.pid c.args.on.now.fd c.args.size _ c.size_number-done.result c.zero.result
+    (to_z-of_z w64 c.args.size c.ranges.size) c.zero.ensures c.size_number-done.ensures.pays.only c.requires.stands
     c.heap_is_well_formed.ensures c.size_number-done.ensures.listed c.size_number-done.ensures.owners c.requires.right c.size_number-done.ensures.stays (λ numbers others plain. c.size_number-done.ensures.answers numbers others c.args.script.now plain))
     c.args.caller.now.control c.requires.runs
 
@@ -74,8 +73,8 @@ returns-clause-paid c =
 pub returns-clause-does : goal.returns-clause-does
 returns-clause-does c =
     serves_changed c.args.script.now c.args.objects.now c.size_number-done.new.heap c.size_number-done.new.tree c.args.caller.now.place.pid (call.Ftruncate c.args.on.now.fd c.args.size) c.args.on.now.fd (λ plain. ftruncate c.args.script.now plain c.args.caller.now.place.pid c.args.on.now.fd c.args.size) c.zero.result
-    (changed c.args.script.now c.args.objects.now c.size_number-done.new.heap c.size_number-done.new.tree c.args.caller.now.place.pid c.args.on.now.fd c.args.size _ _ c.size_number-done.result c.zero.result
-    refl (to_z-of_z w64 c.args.size c.ranges.size) c.zero.ensures c.size_number-done.ensures.pays.only c.requires.stands
+    (changed c.args.script.now c.args.objects.now c.size_number-done.new.heap c.size_number-done.new.tree c.args.caller.now.place.pid c.args.on.now.fd c.args.size _ c.size_number-done.result c.zero.result
+    (to_z-of_z w64 c.args.size c.ranges.size) c.zero.ensures c.size_number-done.ensures.pays.only c.requires.stands
     c.heap_is_well_formed.ensures c.size_number-done.ensures.listed c.size_number-done.ensures.owners c.requires.right c.size_number-done.ensures.stays (λ numbers others plain. c.size_number-done.ensures.answers numbers others c.args.script.now plain))
     c.go_on.result c.go_on.new.objects
     (within_paid c.args.objects.now (mid_of c.args.objects.now c.size_number-done.new.heap c.size_number-done.new.tree) c.args.purse.now c.size_number-done.new.purse (call.Ftruncate c.args.on.now.fd c.args.size) c.size_number-done.ensures.pays.paid

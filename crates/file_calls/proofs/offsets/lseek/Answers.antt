@@ -22,19 +22,19 @@ use Rattle.store_objects.proofs.StoreFiles.{holds_names}
 use Rattle.store_objects.proofs.Keeping.{listed_in}
 use Rattle.store_objects.proofs.Within.{within_nothing}
 use Rattle.file_calls.proofs.Calling.{AnswersSo, HasChanged, holds_some, kept_changed, leaves_others, mid_of, runs_changed, serves_changed}
-use Rattle.file_calls.proofs.Needed.{of_three}
+use Rattle.file_calls.proofs.Needed.{of_two}
 use Rattle.file_calls.proofs.Sought.{told_within}
 use Rattle.file_calls.proofs.offsets.lseek.Goals as goal
 
 reads_used : (was is : TreeView) → IsUsed was is → was.disk.reads ≤ is.disk.reads
 reads_used was is used = let same : is.disk.reads ≡ was.disk.reads = ap (λ (fs : TreeView). fs.disk.reads) used.same in omega arith
 
-changed : (script : Script) (old : Objects) (heap : Heap) (fs : TreeView) (pid : ℕ) (fd distance whence as_fd as_distance as_whence : ℤ) (is : Result ℕ Errno) (said : Reply) → as_fd ≡ fd → as_distance ≡ distance → as_whence ≡ whence
+changed : (script : Script) (old : Objects) (heap : Heap) (fs : TreeView) (pid : ℕ) (fd distance whence as_distance as_whence : ℤ) (is : Result ℕ Errno) (said : Reply) → as_distance ≡ distance → as_whence ≡ whence
     → said ≡ value_of is → heap ≡ record old.heap { descs = heap.descs } → (world : World) × StandsFor script old world × IsSound world.plain
-    → IsWellFormed old.heap → AreListed heap old.procs → HasItsOwners heap [] → argument_fault (call.Lseek fd distance whence) ≡ None → StaysOffNodes old.heap old.procs pid as_fd old.tree fs
-    → AnswersSo script old heap fs pid (λ plain. lseek script plain pid as_fd as_distance as_whence) (value_of is)
+    → IsWellFormed old.heap → AreListed heap old.procs → HasItsOwners heap [] → argument_fault (call.Lseek fd distance whence) ≡ None → StaysOffNodes old.heap old.procs pid fd old.tree fs
+    → AnswersSo script old heap fs pid (λ plain. lseek script plain pid fd as_distance as_whence) (value_of is)
     → HasChanged script old heap fs pid (call.Lseek fd distance whence) fd (λ plain. lseek script plain pid fd distance whence) said
-changed script old heap fs pid fd distance whence as_fd as_distance as_whence is said same_fd same_distance same_whence tells beside world well listed owners right stays answers = record {
+changed script old heap fs pid fd distance whence as_distance as_whence is said same_distance same_whence tells beside world well listed owners right stays answers = record {
   world = world;
   well = well;
   others = leaves_others old.heap heap (record old.heap { descs = heap.descs }) beside refl refl refl refl;
@@ -43,9 +43,9 @@ changed script old heap fs pid fd distance whence as_fd as_distance as_whence is
   listed = listed;
   owners = owners;
   names = record { right = right; paths = refl; numbers = refl; leaves = refl; walks = refl };
-  stays = subst (λ k. StaysOffNodes old.heap old.procs pid k old.tree fs) same_fd stays;
-  answers = of_three (λ fd1 distance1 whence1. AnswersSo script old heap fs pid (λ plain. lseek script plain pid fd1 distance1 whence1) said)
-      as_fd as_distance as_whence fd distance whence same_fd same_distance same_whence (subst (AnswersSo script old heap fs pid (λ plain. lseek script plain pid as_fd as_distance as_whence)) (sym tells) answers);
+  stays = stays;
+  answers = of_two (λ distance1 whence1. AnswersSo script old heap fs pid (λ plain. lseek script plain pid fd distance1 whence1) said)
+      as_distance as_whence distance whence same_distance same_whence (subst (AnswersSo script old heap fs pid (λ plain. lseek script plain pid fd as_distance as_whence)) (sym tells) answers);
 }
 
 pub seek_number-sought-requires-clause-listed : goal.seek_number-sought-requires-clause-listed
@@ -67,15 +67,15 @@ offset-requires c =
 pub go_on-requires-clause-kept : goal.go_on-requires-clause-kept
 go_on-requires-clause-kept c =
     kept_changed c.args.script.now c.args.objects.now c.seek_number-sought.new.heap c.seek_number-sought.new.tree c.args.caller.now.place.pid (call.Lseek c.args.on.now.fd c.args.distance c.args.whence) c.args.on.now.fd (λ plain. lseek c.args.script.now plain c.args.caller.now.place.pid c.args.on.now.fd c.args.distance c.args.whence) c.offset.result
-    (changed c.args.script.now c.args.objects.now c.seek_number-sought.new.heap c.seek_number-sought.new.tree c.args.caller.now.place.pid c.args.on.now.fd c.args.distance c.args.whence _ _ _ c.seek_number-sought.result c.offset.result
-    refl (to_z-of_z w64 c.args.distance c.ranges.distance) (to_z-of_z w64 c.args.whence c.ranges.whence) c.offset.ensures c.seek_number-sought.ensures.beside c.requires.stands
+    (changed c.args.script.now c.args.objects.now c.seek_number-sought.new.heap c.seek_number-sought.new.tree c.args.caller.now.place.pid c.args.on.now.fd c.args.distance c.args.whence _ _ c.seek_number-sought.result c.offset.result
+    (to_z-of_z w64 c.args.distance c.ranges.distance) (to_z-of_z w64 c.args.whence c.ranges.whence) c.offset.ensures c.seek_number-sought.ensures.beside c.requires.stands
     c.heap_is_well_formed.ensures c.seek_number-sought.ensures.listed c.seek_number-sought.ensures.owners c.requires.right c.seek_number-sought.ensures.stays (λ numbers others plain. c.seek_number-sought.ensures.answers numbers others c.args.script.now plain))
 
 pub go_on-requires-clause-runs : goal.go_on-requires-clause-runs
 go_on-requires-clause-runs c =
     runs_changed c.args.script.now c.args.objects.now c.seek_number-sought.new.heap c.seek_number-sought.new.tree c.args.caller.now.place.pid (call.Lseek c.args.on.now.fd c.args.distance c.args.whence) c.args.on.now.fd (λ plain. lseek c.args.script.now plain c.args.caller.now.place.pid c.args.on.now.fd c.args.distance c.args.whence) c.offset.result
-    (changed c.args.script.now c.args.objects.now c.seek_number-sought.new.heap c.seek_number-sought.new.tree c.args.caller.now.place.pid c.args.on.now.fd c.args.distance c.args.whence _ _ _ c.seek_number-sought.result c.offset.result
-    refl (to_z-of_z w64 c.args.distance c.ranges.distance) (to_z-of_z w64 c.args.whence c.ranges.whence) c.offset.ensures c.seek_number-sought.ensures.beside c.requires.stands
+    (changed c.args.script.now c.args.objects.now c.seek_number-sought.new.heap c.seek_number-sought.new.tree c.args.caller.now.place.pid c.args.on.now.fd c.args.distance c.args.whence _ _ c.seek_number-sought.result c.offset.result
+    (to_z-of_z w64 c.args.distance c.ranges.distance) (to_z-of_z w64 c.args.whence c.ranges.whence) c.offset.ensures c.seek_number-sought.ensures.beside c.requires.stands
     c.heap_is_well_formed.ensures c.seek_number-sought.ensures.listed c.seek_number-sought.ensures.owners c.requires.right c.seek_number-sought.ensures.stays (λ numbers others plain. c.seek_number-sought.ensures.answers numbers others c.args.script.now plain))
     c.args.caller.now.control c.requires.runs
 
@@ -85,8 +85,8 @@ returns-clause-takes c = TakesNothing-trans c.args.objects.now.heap c.seek_numbe
 pub returns-clause-does : goal.returns-clause-does
 returns-clause-does c =
     serves_changed c.args.script.now c.args.objects.now c.seek_number-sought.new.heap c.seek_number-sought.new.tree c.args.caller.now.place.pid (call.Lseek c.args.on.now.fd c.args.distance c.args.whence) c.args.on.now.fd (λ plain. lseek c.args.script.now plain c.args.caller.now.place.pid c.args.on.now.fd c.args.distance c.args.whence) c.offset.result
-    (changed c.args.script.now c.args.objects.now c.seek_number-sought.new.heap c.seek_number-sought.new.tree c.args.caller.now.place.pid c.args.on.now.fd c.args.distance c.args.whence _ _ _ c.seek_number-sought.result c.offset.result
-    refl (to_z-of_z w64 c.args.distance c.ranges.distance) (to_z-of_z w64 c.args.whence c.ranges.whence) c.offset.ensures c.seek_number-sought.ensures.beside c.requires.stands
+    (changed c.args.script.now c.args.objects.now c.seek_number-sought.new.heap c.seek_number-sought.new.tree c.args.caller.now.place.pid c.args.on.now.fd c.args.distance c.args.whence _ _ c.seek_number-sought.result c.offset.result
+    (to_z-of_z w64 c.args.distance c.ranges.distance) (to_z-of_z w64 c.args.whence c.ranges.whence) c.offset.ensures c.seek_number-sought.ensures.beside c.requires.stands
     c.heap_is_well_formed.ensures c.seek_number-sought.ensures.listed c.seek_number-sought.ensures.owners c.requires.right c.seek_number-sought.ensures.stays (λ numbers others plain. c.seek_number-sought.ensures.answers numbers others c.args.script.now plain))
     c.go_on.result c.go_on.new.objects
     (within_nothing c.args.objects.now (mid_of c.args.objects.now c.seek_number-sought.new.heap c.seek_number-sought.new.tree) (call.Lseek c.args.on.now.fd c.args.distance c.args.whence) c.seek_number-sought.ensures.takes (reads_used c.args.objects.now.tree c.seek_number-sought.new.tree c.seek_number-sought.ensures.used))

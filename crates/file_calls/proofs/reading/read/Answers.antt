@@ -19,24 +19,24 @@ use Rattle.store_objects.specs.Standing.{IsSound, StandsFor}
 use Rattle.store_objects.proofs.Within.{within_paid}
 use Rattle.file_calls.proofs.Calling.{HasMoved, Leads, alive_who_runs, holds_some, is_kept, kept_moved, leaves_others, mid_of, runs_moved, serves_moved}
 use Rattle.file_calls.proofs.Kin.{read_kin}
-use Rattle.file_calls.proofs.Needed.{of_three, pages_for}
+use Rattle.file_calls.proofs.Needed.{of_two, pages_for}
 use Rattle.file_calls.proofs.BytesCached.{bytes_cached}
 use Rattle.file_calls.proofs.reading.read.Goals as goal
 
-moved : (script : Script) (old : Objects) (heap : Heap) (fs : TreeView) (pid : ℕ) (fd addr n as_fd as_addr as_n : ℤ) (count : Result ℕ Errno) (said : Reply) → as_fd ≡ fd → as_addr ≡ addr → as_n ≡ n
+moved : (script : Script) (old : Objects) (heap : Heap) (fs : TreeView) (pid : ℕ) (fd addr n as_addr as_n : ℤ) (count : Result ℕ Errno) (said : Reply) → as_addr ≡ addr → as_n ≡ n
     → said ≡ value_of count → heap ≡ record old.heap { nodes = heap.nodes; pages = heap.pages; descs = heap.descs; blocks = heap.blocks; high = heap.high } → (world : World) × StandsFor script old world × IsSound world.plain
-    → IsWellFormed old.heap → IsKept heap old.procs → argument_fault (call.Read fd addr n) ≡ None → StaysOffNodes old.heap old.procs pid as_fd old.tree fs
-    → Leads script old heap fs pid (call.Read as_fd as_addr as_n) (λ plain. read script plain pid as_fd as_addr as_n) (value_of count)
+    → IsWellFormed old.heap → IsKept heap old.procs → argument_fault (call.Read fd addr n) ≡ None → StaysOffNodes old.heap old.procs pid fd old.tree fs
+    → Leads script old heap fs pid (call.Read fd as_addr as_n) (λ plain. read script plain pid fd as_addr as_n) (value_of count)
     → HasMoved script old heap fs pid (call.Read fd addr n) fd (λ plain. read script plain pid fd addr n) said
-moved script old heap fs pid fd addr n as_fd as_addr as_n count said same_fd same_addr same_n tells beside world well is right stays leads = record {
+moved script old heap fs pid fd addr n as_addr as_n count said same_addr same_n tells beside world well is right stays leads = record {
   world = world;
   well = well;
   others = leaves_others old.heap heap (record old.heap { nodes = heap.nodes; pages = heap.pages; descs = heap.descs; blocks = heap.blocks; high = heap.high }) beside refl refl refl refl;
   is = is;
   names = record { right = right; paths = refl; numbers = refl; leaves = refl; walks = refl };
-  stays = subst (λ k. StaysOffNodes old.heap old.procs pid k old.tree fs) same_fd stays;
-  leads = of_three (λ fd1 addr1 n1. Leads script old heap fs pid (call.Read fd1 addr1 n1) (λ plain. read script plain pid fd1 addr1 n1) said)
-      as_fd as_addr as_n fd addr n same_fd same_addr same_n (subst (Leads script old heap fs pid (call.Read as_fd as_addr as_n) (λ plain. read script plain pid as_fd as_addr as_n)) (sym tells) leads);
+  stays = stays;
+  leads = of_two (λ addr1 n1. Leads script old heap fs pid (call.Read fd addr1 n1) (λ plain. read script plain pid fd addr1 n1) said)
+      as_addr as_n addr n same_addr same_n (subst (Leads script old heap fs pid (call.Read fd as_addr as_n) (λ plain. read script plain pid fd as_addr as_n)) (sym tells) leads);
 }
 
 pub read_file-moved-requires-clause-kept : goal.read_file-moved-requires-clause-kept
@@ -56,15 +56,15 @@ read_file-moved-requires-clause-left c =
 pub go_on-requires-clause-kept : goal.go_on-requires-clause-kept
 go_on-requires-clause-kept c =
     kept_moved c.args.script.now c.args.objects.now c.read_file-moved.new.heap c.read_file-moved.new.tree c.args.caller.now.place.pid (call.Read c.args.on.now.fd c.args.addr c.args.n) c.args.on.now.fd (λ plain. read c.args.script.now plain c.args.caller.now.place.pid c.args.on.now.fd c.args.addr c.args.n) c.value.result
-    (moved c.args.script.now c.args.objects.now c.read_file-moved.new.heap c.read_file-moved.new.tree c.args.caller.now.place.pid c.args.on.now.fd c.args.addr c.args.n _ _ _ c.read_file-moved.result c.value.result
-    refl (to_z-of_z w64 c.args.addr c.ranges.addr) (to_z-of_z w64 c.args.n c.ranges.n) c.value.ensures c.read_file-moved.ensures.beside c.requires.stands
+    (moved c.args.script.now c.args.objects.now c.read_file-moved.new.heap c.read_file-moved.new.tree c.args.caller.now.place.pid c.args.on.now.fd c.args.addr c.args.n _ _ c.read_file-moved.result c.value.result
+    (to_z-of_z w64 c.args.addr c.ranges.addr) (to_z-of_z w64 c.args.n c.ranges.n) c.value.ensures c.read_file-moved.ensures.beside c.requires.stands
     c.heap_is_well_formed.ensures c.read_file-moved.ensures.kept c.requires.right c.read_file-moved.ensures.stays (c.read_file-moved.ensures.leads c.args.script.now))
 
 pub go_on-requires-clause-runs : goal.go_on-requires-clause-runs
 go_on-requires-clause-runs c =
     runs_moved c.args.script.now c.args.objects.now c.read_file-moved.new.heap c.read_file-moved.new.tree c.args.caller.now.place.pid (call.Read c.args.on.now.fd c.args.addr c.args.n) c.args.on.now.fd (λ plain. read c.args.script.now plain c.args.caller.now.place.pid c.args.on.now.fd c.args.addr c.args.n) c.value.result
-    (moved c.args.script.now c.args.objects.now c.read_file-moved.new.heap c.read_file-moved.new.tree c.args.caller.now.place.pid c.args.on.now.fd c.args.addr c.args.n _ _ _ c.read_file-moved.result c.value.result
-    refl (to_z-of_z w64 c.args.addr c.ranges.addr) (to_z-of_z w64 c.args.n c.ranges.n) c.value.ensures c.read_file-moved.ensures.beside c.requires.stands
+    (moved c.args.script.now c.args.objects.now c.read_file-moved.new.heap c.read_file-moved.new.tree c.args.caller.now.place.pid c.args.on.now.fd c.args.addr c.args.n _ _ c.read_file-moved.result c.value.result
+    (to_z-of_z w64 c.args.addr c.ranges.addr) (to_z-of_z w64 c.args.n c.ranges.n) c.value.ensures c.read_file-moved.ensures.beside c.requires.stands
     c.heap_is_well_formed.ensures c.read_file-moved.ensures.kept c.requires.right c.read_file-moved.ensures.stays (c.read_file-moved.ensures.leads c.args.script.now))
     c.args.caller.now.control c.requires.runs
 
@@ -76,8 +76,8 @@ returns-clause-paid c =
 pub returns-clause-does : goal.returns-clause-does
 returns-clause-does c =
     serves_moved c.args.script.now c.args.objects.now c.read_file-moved.new.heap c.read_file-moved.new.tree c.args.caller.now.place.pid (call.Read c.args.on.now.fd c.args.addr c.args.n) c.args.on.now.fd (λ plain. read c.args.script.now plain c.args.caller.now.place.pid c.args.on.now.fd c.args.addr c.args.n) c.value.result
-    (moved c.args.script.now c.args.objects.now c.read_file-moved.new.heap c.read_file-moved.new.tree c.args.caller.now.place.pid c.args.on.now.fd c.args.addr c.args.n _ _ _ c.read_file-moved.result c.value.result
-    refl (to_z-of_z w64 c.args.addr c.ranges.addr) (to_z-of_z w64 c.args.n c.ranges.n) c.value.ensures c.read_file-moved.ensures.beside c.requires.stands
+    (moved c.args.script.now c.args.objects.now c.read_file-moved.new.heap c.read_file-moved.new.tree c.args.caller.now.place.pid c.args.on.now.fd c.args.addr c.args.n _ _ c.read_file-moved.result c.value.result
+    (to_z-of_z w64 c.args.addr c.ranges.addr) (to_z-of_z w64 c.args.n c.ranges.n) c.value.ensures c.read_file-moved.ensures.beside c.requires.stands
     c.heap_is_well_formed.ensures c.read_file-moved.ensures.kept c.requires.right c.read_file-moved.ensures.stays (c.read_file-moved.ensures.leads c.args.script.now))
     c.go_on.result c.go_on.new.objects
     (within_paid c.args.objects.now (mid_of c.args.objects.now c.read_file-moved.new.heap c.read_file-moved.new.tree) c.args.purse.now c.read_file-moved.new.purse (call.Read c.args.on.now.fd c.args.addr c.args.n) c.read_file-moved.ensures.paid
@@ -87,5 +87,5 @@ returns-clause-does c =
 pub returns-clause-cached : goal.returns-clause-cached
 returns-clause-cached c =
     let m = c.read_file-moved in
-    bytes_cached c.args.objects.now c.go_on.new.objects m.new.tree c.args.caller.now.place.pid _ c.args.on.now.fd _ (λ (desc : Desc). desc.offset) m.result c.value.result c.go_on.result
-    refl (refl) c.value.ensures c.go_on.ensures.told c.go_on.ensures.tree m.ensures.saved m.ensures.last
+    bytes_cached c.args.objects.now c.go_on.new.objects m.new.tree c.args.caller.now.place.pid c.args.on.now.fd _ (λ (desc : Desc). desc.offset) m.result c.value.result c.go_on.result
+    refl c.value.ensures c.go_on.ensures.told c.go_on.ensures.tree m.ensures.saved m.ensures.last

@@ -1,11 +1,9 @@
-use Rattle.std.proofs.Common.{refl, subst, sym, w64}
-use Rattle.std.proofs.lemmas.Int.{to_z-of_z}
+use Rattle.std.proofs.Common.{refl, subst, sym}
 use Rattle.kabi_types.specs.declared.calls.Call.TheVariants as call
 use Rattle.posix_defs.specs.Calls.OnFiles.{fstat}
 use Rattle.proc_numbers.proofs.Fronts.{queues_same}
-use Rattle.proc_files.specs.Answering.{AnswersHolding, StaysOffNodes}
+use Rattle.proc_files.specs.Answering.{AnswersHolding}
 use Rattle.proc_files.proofs.OpenFiles.{used_reads}
-use Rattle.proc_numbers.specs.Answering.{stat_of}
 use Rattle.store_objects.proofs.Replying.{no_frames}
 use Rattle.store_objects.proofs.Keeping.{listed_in}
 use Rattle.store_objects.proofs.Within.{within_nothing}

@@ -18,23 +18,23 @@ use Rattle.store_objects.specs.Standing.{IsSound, StandsFor}
 use Rattle.store_objects.proofs.Within.{within_paid}
 use Rattle.file_calls.proofs.Calling.{HasMoved, Leads, alive_who_runs, holds_some, is_kept, kept_moved, leaves_others, mid_of, runs_moved, serves_moved}
 use Rattle.file_calls.proofs.Kin.{pwrite_kin}
-use Rattle.file_calls.proofs.Needed.{of_four}
+use Rattle.file_calls.proofs.Needed.{of_three}
 use Rattle.file_calls.proofs.writing.pwrite.Goals as goal
 
-moved : (script : Script) (old : Objects) (heap : Heap) (fs : TreeView) (pid : ℕ) (fd addr n at as_fd as_addr as_n as_at : ℤ) (count : Result ℕ Errno) (said : Reply) → as_fd ≡ fd → as_addr ≡ addr → as_n ≡ n → as_at ≡ at
+moved : (script : Script) (old : Objects) (heap : Heap) (fs : TreeView) (pid : ℕ) (fd addr n at as_addr as_n as_at : ℤ) (count : Result ℕ Errno) (said : Reply) → as_addr ≡ addr → as_n ≡ n → as_at ≡ at
     → said ≡ value_of count → heap ≡ record old.heap { vnodes = heap.vnodes; names = heap.names; blocks = heap.blocks; high = heap.high } → (world : World) × StandsFor script old world × IsSound world.plain
-    → IsWellFormed old.heap → IsKept heap old.procs → argument_fault (call.Pwrite fd addr n at) ≡ None → StaysOffNodes old.heap old.procs pid as_fd old.tree fs
-    → Leads script old heap fs pid (call.Pwrite as_fd as_addr as_n as_at) (λ plain. pwrite script plain pid as_fd as_addr as_n as_at) (value_of count)
+    → IsWellFormed old.heap → IsKept heap old.procs → argument_fault (call.Pwrite fd addr n at) ≡ None → StaysOffNodes old.heap old.procs pid fd old.tree fs
+    → Leads script old heap fs pid (call.Pwrite fd as_addr as_n as_at) (λ plain. pwrite script plain pid fd as_addr as_n as_at) (value_of count)
     → HasMoved script old heap fs pid (call.Pwrite fd addr n at) fd (λ plain. pwrite script plain pid fd addr n at) said
-moved script old heap fs pid fd addr n at as_fd as_addr as_n as_at count said same_fd same_addr same_n same_at tells beside world well is right stays leads = record {
+moved script old heap fs pid fd addr n at as_addr as_n as_at count said same_addr same_n same_at tells beside world well is right stays leads = record {
   world = world;
   well = well;
   others = leaves_others old.heap heap (record old.heap { vnodes = heap.vnodes; names = heap.names; blocks = heap.blocks; high = heap.high }) beside refl refl refl refl;
   is = is;
   names = record { right = right; paths = refl; numbers = refl; leaves = refl; walks = refl };
-  stays = subst (λ k. StaysOffNodes old.heap old.procs pid k old.tree fs) same_fd stays;
-  leads = of_four (λ fd1 addr1 n1 at1. Leads script old heap fs pid (call.Pwrite fd1 addr1 n1 at1) (λ plain. pwrite script plain pid fd1 addr1 n1 at1) said)
-      as_fd as_addr as_n as_at fd addr n at same_fd same_addr same_n same_at (subst (Leads script old heap fs pid (call.Pwrite as_fd as_addr as_n as_at) (λ plain. pwrite script plain pid as_fd as_addr as_n as_at)) (sym tells) leads);
+  stays = stays;
+  leads = of_three (λ addr1 n1 at1. Leads script old heap fs pid (call.Pwrite fd addr1 n1 at1) (λ plain. pwrite script plain pid fd addr1 n1 at1) said)
+      as_addr as_n as_at addr n at same_addr same_n same_at (subst (Leads script old heap fs pid (call.Pwrite fd as_addr as_n as_at) (λ plain. pwrite script plain pid fd as_addr as_n as_at)) (sym tells) leads);
 }
 
 pub pwrite_file-moved-requires-clause-kept : goal.pwrite_file-moved-requires-clause-kept
@@ -49,15 +49,15 @@ pwrite_file-moved-requires-clause-hold c = holds_some c.args.script.now c.args.o
 pub go_on-requires-clause-kept : goal.go_on-requires-clause-kept
 go_on-requires-clause-kept c =
     kept_moved c.args.script.now c.args.objects.now c.pwrite_file-moved.new.heap c.pwrite_file-moved.new.tree c.args.caller.now.place.pid (call.Pwrite c.args.on.now.fd c.args.addr c.args.n c.args.at) c.args.on.now.fd (λ plain. pwrite c.args.script.now plain c.args.caller.now.place.pid c.args.on.now.fd c.args.addr c.args.n c.args.at) c.value.result
-    (moved c.args.script.now c.args.objects.now c.pwrite_file-moved.new.heap c.pwrite_file-moved.new.tree c.args.caller.now.place.pid c.args.on.now.fd c.args.addr c.args.n c.args.at _ _ _ _ c.pwrite_file-moved.result c.value.result
-    refl (to_z-of_z w64 c.args.addr c.ranges.addr) (to_z-of_z w64 c.args.n c.ranges.n) (to_z-of_z w64 c.args.at c.ranges.at) c.value.ensures c.pwrite_file-moved.ensures.beside c.requires.stands
+    (moved c.args.script.now c.args.objects.now c.pwrite_file-moved.new.heap c.pwrite_file-moved.new.tree c.args.caller.now.place.pid c.args.on.now.fd c.args.addr c.args.n c.args.at _ _ _ c.pwrite_file-moved.result c.value.result
+    (to_z-of_z w64 c.args.addr c.ranges.addr) (to_z-of_z w64 c.args.n c.ranges.n) (to_z-of_z w64 c.args.at c.ranges.at) c.value.ensures c.pwrite_file-moved.ensures.beside c.requires.stands
     c.heap_is_well_formed.ensures c.pwrite_file-moved.ensures.kept c.requires.right c.pwrite_file-moved.ensures.stays (c.pwrite_file-moved.ensures.leads c.args.script.now))
 
 pub go_on-requires-clause-runs : goal.go_on-requires-clause-runs
 go_on-requires-clause-runs c =
     runs_moved c.args.script.now c.args.objects.now c.pwrite_file-moved.new.heap c.pwrite_file-moved.new.tree c.args.caller.now.place.pid (call.Pwrite c.args.on.now.fd c.args.addr c.args.n c.args.at) c.args.on.now.fd (λ plain. pwrite c.args.script.now plain c.args.caller.now.place.pid c.args.on.now.fd c.args.addr c.args.n c.args.at) c.value.result
-    (moved c.args.script.now c.args.objects.now c.pwrite_file-moved.new.heap c.pwrite_file-moved.new.tree c.args.caller.now.place.pid c.args.on.now.fd c.args.addr c.args.n c.args.at _ _ _ _ c.pwrite_file-moved.result c.value.result
-    refl (to_z-of_z w64 c.args.addr c.ranges.addr) (to_z-of_z w64 c.args.n c.ranges.n) (to_z-of_z w64 c.args.at c.ranges.at) c.value.ensures c.pwrite_file-moved.ensures.beside c.requires.stands
+    (moved c.args.script.now c.args.objects.now c.pwrite_file-moved.new.heap c.pwrite_file-moved.new.tree c.args.caller.now.place.pid c.args.on.now.fd c.args.addr c.args.n c.args.at _ _ _ c.pwrite_file-moved.result c.value.result
+    (to_z-of_z w64 c.args.addr c.ranges.addr) (to_z-of_z w64 c.args.n c.ranges.n) (to_z-of_z w64 c.args.at c.ranges.at) c.value.ensures c.pwrite_file-moved.ensures.beside c.requires.stands
     c.heap_is_well_formed.ensures c.pwrite_file-moved.ensures.kept c.requires.right c.pwrite_file-moved.ensures.stays (c.pwrite_file-moved.ensures.leads c.args.script.now))
     c.args.caller.now.control c.requires.runs
 
@@ -69,8 +69,8 @@ returns-clause-paid c =
 pub returns-clause-does : goal.returns-clause-does
 returns-clause-does c =
     serves_moved c.args.script.now c.args.objects.now c.pwrite_file-moved.new.heap c.pwrite_file-moved.new.tree c.args.caller.now.place.pid (call.Pwrite c.args.on.now.fd c.args.addr c.args.n c.args.at) c.args.on.now.fd (λ plain. pwrite c.args.script.now plain c.args.caller.now.place.pid c.args.on.now.fd c.args.addr c.args.n c.args.at) c.value.result
-    (moved c.args.script.now c.args.objects.now c.pwrite_file-moved.new.heap c.pwrite_file-moved.new.tree c.args.caller.now.place.pid c.args.on.now.fd c.args.addr c.args.n c.args.at _ _ _ _ c.pwrite_file-moved.result c.value.result
-    refl (to_z-of_z w64 c.args.addr c.ranges.addr) (to_z-of_z w64 c.args.n c.ranges.n) (to_z-of_z w64 c.args.at c.ranges.at) c.value.ensures c.pwrite_file-moved.ensures.beside c.requires.stands
+    (moved c.args.script.now c.args.objects.now c.pwrite_file-moved.new.heap c.pwrite_file-moved.new.tree c.args.caller.now.place.pid c.args.on.now.fd c.args.addr c.args.n c.args.at _ _ _ c.pwrite_file-moved.result c.value.result
+    (to_z-of_z w64 c.args.addr c.ranges.addr) (to_z-of_z w64 c.args.n c.ranges.n) (to_z-of_z w64 c.args.at c.ranges.at) c.value.ensures c.pwrite_file-moved.ensures.beside c.requires.stands
     c.heap_is_well_formed.ensures c.pwrite_file-moved.ensures.kept c.requires.right c.pwrite_file-moved.ensures.stays (c.pwrite_file-moved.ensures.leads c.args.script.now))
     c.go_on.result c.go_on.new.objects
     (within_paid c.args.objects.now (mid_of c.args.objects.now c.pwrite_file-moved.new.heap c.pwrite_file-moved.new.tree) c.args.purse.now c.pwrite_file-moved.new.purse (call.Pwrite c.args.on.now.fd c.args.addr c.args.n c.args.at) c.pwrite_file-moved.ensures.paid

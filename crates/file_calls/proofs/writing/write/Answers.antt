@@ -18,23 +18,23 @@ use Rattle.store_objects.specs.Standing.{IsSound, StandsFor}
 use Rattle.store_objects.proofs.Within.{within_paid}
 use Rattle.file_calls.proofs.Calling.{HasMoved, Leads, alive_who_runs, holds_some, is_kept, kept_moved, leaves_others, mid_of, runs_moved, serves_moved}
 use Rattle.file_calls.proofs.Kin.{write_kin}
-use Rattle.file_calls.proofs.Needed.{of_three}
+use Rattle.file_calls.proofs.Needed.{of_two}
 use Rattle.file_calls.proofs.writing.write.Goals as goal
 
-moved : (script : Script) (old : Objects) (heap : Heap) (fs : TreeView) (pid : ℕ) (fd addr n as_fd as_addr as_n : ℤ) (count : Result ℕ Errno) (said : Reply) → as_fd ≡ fd → as_addr ≡ addr → as_n ≡ n
+moved : (script : Script) (old : Objects) (heap : Heap) (fs : TreeView) (pid : ℕ) (fd addr n as_addr as_n : ℤ) (count : Result ℕ Errno) (said : Reply) → as_addr ≡ addr → as_n ≡ n
     → said ≡ value_of count → heap ≡ record old.heap { descs = heap.descs; vnodes = heap.vnodes; names = heap.names; blocks = heap.blocks; high = heap.high } → (world : World) × StandsFor script old world × IsSound world.plain
-    → IsWellFormed old.heap → IsKept heap old.procs → argument_fault (call.Write fd addr n 0) ≡ None → StaysOffNodes old.heap old.procs pid as_fd old.tree fs
-    → Leads script old heap fs pid (call.Write as_fd as_addr as_n 0) (λ plain. write script plain pid as_fd as_addr as_n 0) (value_of count)
+    → IsWellFormed old.heap → IsKept heap old.procs → argument_fault (call.Write fd addr n 0) ≡ None → StaysOffNodes old.heap old.procs pid fd old.tree fs
+    → Leads script old heap fs pid (call.Write fd as_addr as_n 0) (λ plain. write script plain pid fd as_addr as_n 0) (value_of count)
     → HasMoved script old heap fs pid (call.Write fd addr n 0) fd (λ plain. write script plain pid fd addr n 0) said
-moved script old heap fs pid fd addr n as_fd as_addr as_n count said same_fd same_addr same_n tells beside world well is right stays leads = record {
+moved script old heap fs pid fd addr n as_addr as_n count said same_addr same_n tells beside world well is right stays leads = record {
   world = world;
   well = well;
   others = leaves_others old.heap heap (record old.heap { descs = heap.descs; vnodes = heap.vnodes; names = heap.names; blocks = heap.blocks; high = heap.high }) beside refl refl refl refl;
   is = is;
   names = record { right = right; paths = refl; numbers = refl; leaves = refl; walks = refl };
-  stays = subst (λ k. StaysOffNodes old.heap old.procs pid k old.tree fs) same_fd stays;
-  leads = of_three (λ fd1 addr1 n1. Leads script old heap fs pid (call.Write fd1 addr1 n1 0) (λ plain. write script plain pid fd1 addr1 n1 0) said)
-      as_fd as_addr as_n fd addr n same_fd same_addr same_n (subst (Leads script old heap fs pid (call.Write as_fd as_addr as_n 0) (λ plain. write script plain pid as_fd as_addr as_n 0)) (sym tells) leads);
+  stays = stays;
+  leads = of_two (λ addr1 n1. Leads script old heap fs pid (call.Write fd addr1 n1 0) (λ plain. write script plain pid fd addr1 n1 0) said)
+      as_addr as_n addr n same_addr same_n (subst (Leads script old heap fs pid (call.Write fd as_addr as_n 0) (λ plain. write script plain pid fd as_addr as_n 0)) (sym tells) leads);
 }
 
 pub write_file-moved-requires-clause-kept : goal.write_file-moved-requires-clause-kept
@@ -49,15 +49,15 @@ write_file-moved-requires-clause-hold c = holds_some c.args.script.now c.args.ob
 pub go_on-requires-clause-kept : goal.go_on-requires-clause-kept
 go_on-requires-clause-kept c =
     kept_moved c.args.script.now c.args.objects.now c.write_file-moved.new.heap c.write_file-moved.new.tree c.args.caller.now.place.pid (call.Write c.args.on.now.fd c.args.addr c.args.n 0) c.args.on.now.fd (λ plain. write c.args.script.now plain c.args.caller.now.place.pid c.args.on.now.fd c.args.addr c.args.n 0) c.value.result
-    (moved c.args.script.now c.args.objects.now c.write_file-moved.new.heap c.write_file-moved.new.tree c.args.caller.now.place.pid c.args.on.now.fd c.args.addr c.args.n _ _ _ c.write_file-moved.result c.value.result
-    refl (to_z-of_z w64 c.args.addr c.ranges.addr) (to_z-of_z w64 c.args.n c.ranges.n) c.value.ensures c.write_file-moved.ensures.beside c.requires.stands
+    (moved c.args.script.now c.args.objects.now c.write_file-moved.new.heap c.write_file-moved.new.tree c.args.caller.now.place.pid c.args.on.now.fd c.args.addr c.args.n _ _ c.write_file-moved.result c.value.result
+    (to_z-of_z w64 c.args.addr c.ranges.addr) (to_z-of_z w64 c.args.n c.ranges.n) c.value.ensures c.write_file-moved.ensures.beside c.requires.stands
     c.heap_is_well_formed.ensures c.write_file-moved.ensures.kept c.requires.right c.write_file-moved.ensures.stays (c.write_file-moved.ensures.leads c.args.script.now))
 
 pub go_on-requires-clause-runs : goal.go_on-requires-clause-runs
 go_on-requires-clause-runs c =
     runs_moved c.args.script.now c.args.objects.now c.write_file-moved.new.heap c.write_file-moved.new.tree c.args.caller.now.place.pid (call.Write c.args.on.now.fd c.args.addr c.args.n 0) c.args.on.now.fd (λ plain. write c.args.script.now plain c.args.caller.now.place.pid c.args.on.now.fd c.args.addr c.args.n 0) c.value.result
-    (moved c.args.script.now c.args.objects.now c.write_file-moved.new.heap c.write_file-moved.new.tree c.args.caller.now.place.pid c.args.on.now.fd c.args.addr c.args.n _ _ _ c.write_file-moved.result c.value.result
-    refl (to_z-of_z w64 c.args.addr c.ranges.addr) (to_z-of_z w64 c.args.n c.ranges.n) c.value.ensures c.write_file-moved.ensures.beside c.requires.stands
+    (moved c.args.script.now c.args.objects.now c.write_file-moved.new.heap c.write_file-moved.new.tree c.args.caller.now.place.pid c.args.on.now.fd c.args.addr c.args.n _ _ c.write_file-moved.result c.value.result
+    (to_z-of_z w64 c.args.addr c.ranges.addr) (to_z-of_z w64 c.args.n c.ranges.n) c.value.ensures c.write_file-moved.ensures.beside c.requires.stands
     c.heap_is_well_formed.ensures c.write_file-moved.ensures.kept c.requires.right c.write_file-moved.ensures.stays (c.write_file-moved.ensures.leads c.args.script.now))
     c.args.caller.now.control c.requires.runs
 
@@ -69,8 +69,8 @@ returns-clause-paid c =
 pub returns-clause-does : goal.returns-clause-does
 returns-clause-does c =
     serves_moved c.args.script.now c.args.objects.now c.write_file-moved.new.heap c.write_file-moved.new.tree c.args.caller.now.place.pid (call.Write c.args.on.now.fd c.args.addr c.args.n 0) c.args.on.now.fd (λ plain. write c.args.script.now plain c.args.caller.now.place.pid c.args.on.now.fd c.args.addr c.args.n 0) c.value.result
-    (moved c.args.script.now c.args.objects.now c.write_file-moved.new.heap c.write_file-moved.new.tree c.args.caller.now.place.pid c.args.on.now.fd c.args.addr c.args.n _ _ _ c.write_file-moved.result c.value.result
-    refl (to_z-of_z w64 c.args.addr c.ranges.addr) (to_z-of_z w64 c.args.n c.ranges.n) c.value.ensures c.write_file-moved.ensures.beside c.requires.stands
+    (moved c.args.script.now c.args.objects.now c.write_file-moved.new.heap c.write_file-moved.new.tree c.args.caller.now.place.pid c.args.on.now.fd c.args.addr c.args.n _ _ c.write_file-moved.result c.value.result
+    (to_z-of_z w64 c.args.addr c.ranges.addr) (to_z-of_z w64 c.args.n c.ranges.n) c.value.ensures c.write_file-moved.ensures.beside c.requires.stands
     c.heap_is_well_formed.ensures c.write_file-moved.ensures.kept c.requires.right c.write_file-moved.ensures.stays (c.write_file-moved.ensures.leads c.args.script.now))
     c.go_on.result c.go_on.new.objects
     (within_paid c.args.objects.now (mid_of c.args.objects.now c.write_file-moved.new.heap c.write_file-moved.new.tree) c.args.purse.now c.write_file-moved.new.purse (call.Write c.args.on.now.fd c.args.addr c.args.n 0) c.write_file-moved.ensures.paid

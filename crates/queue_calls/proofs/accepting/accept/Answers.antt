@@ -1,5 +1,4 @@
-use Rattle.std.proofs.Common.{◌∙◌, ap, of_z, refl, subst, sym, to_z, w64}
-use Rattle.std.proofs.lemmas.Int.{to_z-of_z}
+use Rattle.std.proofs.Common.{◌∙◌, ap, refl, sym}
 use Rattle.kabi_types.specs.declared.calls.Call.TheVariants as call
 use Rattle.kheap_laws.proofs.PaidLemmas.{IsPaid-nothing, IsPaid-trans}
 use Rattle.kheap_slabs.specs.Heap.{Heap}
@@ -7,7 +6,6 @@ use Rattle.store_objects.proofs.Replying.{no_frames}
 use Rattle.queue_calls.proofs.Performing.{kept_then, performs_anew, runs_then}
 use Rattle.posix_defs.specs.Calls.OnSockets.{accept}
 use Rattle.proc_files.specs.Names.{name_of}
-use Rattle.proc_numbers.specs.SocketOpening.{Accepts}
 use Rattle.store_objects.proofs.Keeping.{listed_in}
 use Rattle.queue_calls.proofs.NamingSockets.{names_made}
 use Rattle.queue_calls.proofs.StayingSockets.{accept_stays}

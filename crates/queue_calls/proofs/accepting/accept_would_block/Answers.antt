@@ -3,7 +3,6 @@ use Rattle.std.proofs.lemmas.Int.{to_z-of_z}
 use Rattle.posix_defs.specs.Calls.OnSockets.{accept}
 use Rattle.posix_defs.specs.Machine.{blocks}
 use Rattle.store_objects.proofs.Keeping.{listed_in}
-use Rattle.store_objects.proofs.RunningProcs.{alive_runs}
 use Rattle.queue_calls.proofs.accepting.accept_would_block.Goals as goal
 
 pub opened-on-requires-clause-listed : goal.opened-on-requires-clause-listed

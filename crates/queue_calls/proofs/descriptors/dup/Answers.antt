@@ -1,12 +1,11 @@
-use Rattle.std.proofs.Common.{ap, refl, subst, sym, w64}
-use Rattle.std.proofs.lemmas.Int.{to_z-of_z}
+use Rattle.std.proofs.Common.{ap, refl, subst, sym}
 use Rattle.kabi_types.specs.declared.calls.Call.TheVariants as call
 use Rattle.kheap_laws.proofs.PaidLemmas.{TakesNothing-trans, IsPaid-nothing, IsPaid-trans}
 use Rattle.kheap_slabs.specs.Heap.{Heap}
 use Rattle.posix_defs.specs.Calls.OnDescriptors.{dup}
 use Rattle.proc_numbers.proofs.Fronts.{queues_same}
 use Rattle.proc_files.specs.Names.{name_of}
-use Rattle.proc_numbers.specs.Answering.{Answers, value_of}
+use Rattle.proc_numbers.specs.Answering.{Answers}
 use Rattle.store_objects.proofs.Keeping.{listed_in}
 use Rattle.store_objects.proofs.Replying.{no_frames}
 use Rattle.queue_calls.proofs.Performing.{kept_then, performs, runs_then}

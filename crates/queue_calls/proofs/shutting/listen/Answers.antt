@@ -1,5 +1,4 @@
-use Rattle.std.proofs.Common.{of_z, refl, subst, sym, to_z, w64}
-use Rattle.std.proofs.lemmas.Int.{to_z-of_z}
+use Rattle.std.proofs.Common.{refl, subst, sym}
 use Rattle.kabi_types.specs.declared.calls.Call.TheVariants as call
 use Rattle.kheap_laws.proofs.PaidLemmas.{TakesNothing-trans}
 use Rattle.store_objects.proofs.Replying.{no_frames}
