@@ -1,11 +1,10 @@
-use Rattle.std.proofs.Common.{◌≡◌, ◌∙◌, Some, length, not, slice_set, true, false, ap, rules, sym, subst, w64}
+use Rattle.std.proofs.Common.{◌≡◌, ◌∙◌, Some, length, not, slice_set, true, false, ap, rules, subst, w64}
 use Rattle.std.specs.List.{refill}
 use Rattle.std.proofs.lemmas.Int.{to_z-of_z}
 use mir.Val.{of_z, to_z}
-use Rattle.call_run.specs.Sleepers.{AreNear, AreRising, NamesMore}
+use Rattle.call_run.specs.Sleepers.{AreNear, NamesMore}
 use Rattle.call_run.specs.Stores.{SleepersView}
-use Rattle.call_run.proofs.Asking.{named_written, near_length, near_rising, near_written}
-use Rattle.call_run.proofs.Telling.{refilled}
+use Rattle.call_run.proofs.Asking.{named_written, near_rising, near_written}
 use Rattle.call_run.proofs.sleepers.Sleepers.ask_there.Goals as goal
 
 never : {X : Type 0} → true ≡ false → X
