@@ -18,7 +18,9 @@ TOP = os.path.dirname(os.path.dirname(os.path.realpath(__file__)))
 
 # The functions that are meant to stand without a caller, by crate and name, each with its reason.
 EXCEPTIONS = {
+    ("kept_places", "get"): "nothing stands on its crate yet, which is for what calls to come keep in order",
     ("kept_places", "get_mut"): "nothing stands on its crate yet, which is for what calls to come keep in order",
+    ("wait_graph", "circle"): "nothing stands on its crate yet, which is for calls to come that wait for one another",
     ("run_pasts", "of"): "what an entry claims, told apart from the lines in which claims come in",
     ("claim_lines", "claim_of"): "what who checks a report line by line begins with",
     ("report_text", "event_line"): "one line of a run by itself; reports are written as a whole",

@@ -1,5 +1,5 @@
 -- The loops that ask sleepers again, from the last to the first.
-use Rattle.std.proofs.Common.{◌≡◌, ◌≢◌, ◌==◌, ℕ, zero, suc, ◌+◌, ◌-◌, ◌<◌, ◌≤◌, ℤ, Bool, true, false, if◌then◌else◌, Option, None, Some, eqb-true, List, [], ◌∷◌, drop, length, slice_set, slice_index_or, remove, refl, ap, sym, ◌∙◌, subst, arith, length-set}
+use Rattle.std.proofs.Common.{◌≡◌, ◌≢◌, ◌==◌, ℕ, zero, suc, ◌<◌, ◌≤◌, ℤ, Bool, true, false, if◌then◌else◌, None, Some, eqb-true, List, [], ◌∷◌, drop, length, slice_set, slice_index_or, remove, refl, ap, sym, ◌∙◌, subst, arith, length-set}
 use Rattle.std.specs.List.{AllByRecursion, refill}
 use Rattle.kabi_types.specs.declared.scripts.Script.{Script}
 use Rattle.posix_defs.specs.Machine.{would_block}
@@ -9,7 +9,7 @@ use Rattle.store_objects.specs.declared.objects.Objects.{Objects}
 use Rattle.store_objects.specs.Standing.{StandsFor}
 use Rattle.call_run.specs.declared.sleepers.Sleeper.{Sleeper}
 use Rattle.call_run.specs.Sleepers.{AreFewer, AreNear, AreRising, AreTrulyTold, IsLookedAt, IsNear, IsTrulyTold, NamesMore, NamesOne, any_sleeper, is_asked, is_gone, is_known, is_learned, is_near, told_of}
-use Rattle.call_run.proofs.Telling.{each_other, names_set, read_any, rising_removed, rising_set, set_all, told_removed, told_set, told_there}
+use Rattle.call_run.proofs.Telling.{each_other, names_set, read_any, refilled, rising_removed, rising_set, set_all, told_removed, told_set, told_there}
 
 -- ---- all are asked
 
@@ -136,6 +136,19 @@ module _ (script : Script) (objects : Objects) (pid : ℕ) (fd : ℤ) (channel :
   near_length [] (y ∷ new) near asked = absurd asked
   near_length (x ∷ old) [] near asked = absurd asked
   near_length (x ∷ old) (y ∷ new) near asked = ap (λ n. suc n) (near_length old new near asked.1)
+
+  -- what is written as a slice
+  pub near_written : (told read new : List Sleeper) (near : Bool) → read ≡ told → AreNear script objects pid fd channel read new near
+      → AreNear script objects pid fd channel told (refill (length told) told new) near
+  near_written told read new near reads asked =
+      let of_told = subst (λ ts. AreNear script objects pid fd channel ts new near) reads asked in
+      subst (λ ts. AreNear script objects pid fd channel told ts near) (sym (refilled told new (near_length told new near of_told))) of_told
+
+  pub named_written : (told read new : List Sleeper) (near : Bool) (named more : List ℕ) → read ≡ told → AreNear script objects pid fd channel read new near → NamesMore read named new more
+      → NamesMore told named (refill (length told) told new) more
+  named_written told read new near named more reads asked names =
+      let of_told = subst (λ ts. AreNear script objects pid fd channel ts new near) reads asked in
+      subst (λ ts. NamesMore told named ts more) (sym (refilled told new (near_length told new near of_told))) (subst (λ ts. NamesMore ts named new more) reads names)
 
 -- ---- of whom nothing was told nothing is
 

@@ -1,5 +1,5 @@
 -- The channels of which something is kept in mind.
-use Rattle.std.proofs.Common.{◌≡◌, ◌≢◌, ◌==◌, ℕ, length, zero, suc, Bool, true, false, List, [], ◌∷◌, map, replicate, Option, None, Some, slice_get, slice_index_or, refl, ap, sym, ◌∙◌, subst}
+use Rattle.std.proofs.Common.{◌≡◌, ◌≢◌, ◌==◌, ℕ, length, zero, suc, Bool, true, false, List, [], ◌∷◌, map, replicate, Option, None, Some, slice_get, slice_index_or, refl, ap, sym, ◌∙◌, subst, arith, eqb-true}
 use Rattle.call_run.specs.declared.sleepers.Channel.{Channel}
 use Rattle.call_run.specs.declared.sleepers.Sleeper.{Sleeper}
 use Rattle.call_run.specs.Sleepers.{IsDoubted, channel_at, doubted}
@@ -54,3 +54,10 @@ some_told ts told empty same is none e = both (is ∙ ap (λ list. length list =
   where
     both : empty ≡ true → empty ≡ false → ⊥
     both f g = cc
+
+pub none_told : (ts told : List Sleeper) (empty : Bool) → ts ≡ told → empty ≡ (length ts == 0) → empty ≡ true → told ≡ []
+none_told ts told empty same is e = go told (ap (λ list. length list == 0) (sym same) ∙ sym is ∙ e)
+  where
+    go : (list : List Sleeper) → (length list == 0) ≡ true → list ≡ []
+    go [] f = refl
+    go (sleeper ∷ list) f = absurd (omega (arith, eqb-true (length (sleeper ∷ list)) 0 f))

@@ -1,6 +1,6 @@
 -- What a call waits for, beside what a number of another is open on.
-use Rattle.std.proofs.Common.{◌≡◌, ℕ, ◌==◌, ◌||◌, ◌+◌, ◌<◌, ℤ, not, Bool, true, false, List, [], ◌∷◌, drop, length, map, get_or, Option, None, Some, refl, ap, sym, ◌∙◌, subst, arith}
-use Rattle.std.specs.List.{AllByRecursion, list_any}
+use Rattle.std.proofs.Common.{◌≡◌, ℕ, ◌==◌, ◌||◌, ◌+◌, ◌<◌, ℤ, not, Bool, true, false, List, [], ◌∷◌, drop, length, map, get_or, Option, None, Some, refl, ap, sym, ◌∙◌, subst}
+use Rattle.std.specs.List.{list_any}
 use Rattle.std.specs.Option.{option_map}
 use Rattle.std.proofs.lemmas.List.{drop_more}
 use borrow.Author.Tests.{eqb-true, eq-eqb}
@@ -27,7 +27,7 @@ use Rattle.proc_numbers.proofs.OpenedBy.{opened_is}
 use Rattle.proc_table.specs.Table.{TableView}
 use Rattle.prog_ctl.specs.Waits.{wait_of}
 use Rattle.prog_ctl.specs.declared.waits.Awaited.{Awaited}
-use Rattle.prog_ctl.specs.declared.waits.Awaited.TheVariants.{Child, Bytes, Room, Peer, Events}
+use Rattle.prog_ctl.specs.declared.waits.Awaited.TheVariants.{Bytes, Room, Peer, Events}
 use Rattle.waking_laws.specs.Waking.{awaited, is_apart, meet, target_at}
 use Rattle.call_run.specs.Touching.{IsOpenOn, MeetsNone, meet_in}
 
@@ -136,3 +136,16 @@ module _ (script : Script) (plain : Plain) (who pid : ℕ) (fd : ℤ) where
       ap (λ b. b || list_any (λ n. meet (target_at plain.files pid fd) (target_at plain.files who n)) (map (λ (one : PollEntry). one.fd) entries))
       (ap (λ it. meet it (target_at plain.files who entry.fd)) is ∙ none.0)
       ∙ meets_no_entry target entries is none.1
+
+  -- one that awaits one number, and entries
+  pub apart_number : (wait : Option Awaited) (target : Target) (at : ℕ) (seen number : ℤ) → wait ≡ wait_of (call_of script plain who) → awaited_for wait ≡ number ∷ []
+      → target_at plain.files pid fd ≡ Some target → at ≡ who → seen ≡ number → meet (Some target) (target_at plain.files at seen) ≡ false → is_apart script plain who pid fd ≡ true
+  apart_number wait target at seen number is awaits open_on same_pid same_fd apart =
+      apart_so wait is (subst MeetsNoneOf (sym awaits) (meets_not_one target number open_on (meets_alike plain.files (Some target) at who seen number same_pid same_fd apart)))
+
+  pub apart_entries : (wait : Option Awaited) (target : Target) (at : ℕ) (seen entries : List PollEntry) → wait ≡ wait_of (call_of script plain who)
+      → awaited_for wait ≡ map (λ (entry : PollEntry). entry.fd) entries → target_at plain.files pid fd ≡ Some target → at ≡ who → seen ≡ entries
+      → MeetsNone plain.files at (Some target) seen → is_apart script plain who pid fd ≡ true
+  apart_entries wait target at seen entries is awaits open_on same_pid same_entries apart =
+      apart_so wait is (subst MeetsNoneOf (sym awaits)
+      (meets_no_entry target entries open_on (subst (λ n. MeetsNone plain.files n (Some target) entries) same_pid (subst (MeetsNone plain.files at (Some target)) same_entries apart))))

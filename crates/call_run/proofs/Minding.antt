@@ -4,9 +4,7 @@ use Rattle.std.specs.List.{AllByRecursion, list_any}
 use Rattle.std.specs.Option.{option_and_then}
 use Rattle.std.proofs.lemmas.Bool.Decides.{eqb_tells}
 use Rattle.kabi_types.specs.declared.calls.Call.{Call}
-use Rattle.kabi_types.specs.declared.calls.Call.TheVariants as call
 use Rattle.kabi_types.specs.declared.errnos.Errno.TheVariants.{ENOMEM}
-use Rattle.kabi_types.specs.declared.replies.Reply.{Reply}
 use Rattle.kabi_types.specs.declared.replies.Reply.TheVariants as reply
 use Rattle.kabi_types.specs.declared.scripts.Script.{Script}
 use Rattle.kern_laws.proofs.Nexts.{AnswerGoes, posix_goes}
@@ -16,7 +14,6 @@ use Rattle.machine_laws.specs.Placed.{IsPlaced}
 use Rattle.machine_laws.specs.Reached.{IsReached}
 use Rattle.posix_defs.specs.Answer.{Answer, Blocked, Done, Ended, Part}
 use Rattle.posix_defs.specs.Control as program
-use Rattle.posix_defs.specs.Files.Descriptions.{Target}
 use Rattle.posix_defs.specs.Machine.{blocks, machine, would_block}
 use Rattle.posix_defs.specs.Plain.{Plain, call_of, control_of, with_control}
 use Rattle.posix_defs.specs.Process.{is_alive}
@@ -27,15 +24,14 @@ use Rattle.posix_defs.specs.declared.turner.Turned.{Turned}
 use Rattle.posix_defs.specs.declared.turner.Turned.TheVariants as turned
 use Rattle.store_objects.specs.declared.objects.Objects.{Objects}
 use Rattle.store_objects.specs.Standing.{StandsFor}
-use Rattle.waking_laws.specs.Waking.{StaysAsItWas, StaysItself, awaited, gives_number, is_apart, is_failure, meet, moves_through, passes_by, target_at, wakes_nobody}
+use Rattle.waking_laws.specs.Waking.{StaysAsItWas, StaysItself, awaited, gives_number, is_apart, meet, moves_through, passes_by, target_at, wakes_nobody}
 use Rattle.waking_laws.proofs.Behind.{moved_apart, moved_lives, own_kept, own_passed, stays_itself}
 use Rattle.waking_laws.proofs.Passing.{came_further, passed_by}
-use Rattle.call_run.specs.declared.sleepers.Came.{Came}
 use Rattle.call_run.specs.declared.sleepers.Came.TheVariants as came
 use Rattle.call_run.specs.declared.sleepers.Channel.{Channel}
 use Rattle.call_run.specs.declared.sleepers.Sleeper.{Sleeper}
-use Rattle.call_run.specs.declared.sleepers.Stirs.TheVariants.{Nobody, Through, Everybody}
-use Rattle.call_run.specs.Sleepers.{AreMinded, AreNear, HasBegun, IsApartAt, IsBehind, IsChannel, IsDoubted, IsNear, IsOf, IsPassed, IsToldApart, IsTrulyTold, KnowsChannels, StandsAsleep, begun, came_of, channel_at, doubted, has_stood, is_anew, is_known, is_learned, is_near, is_settled, lain, stirs_by, stirs_of, told_of, with_sleeper, without}
+use Rattle.call_run.specs.declared.sleepers.Stirs.TheVariants.{Nobody, Through}
+use Rattle.call_run.specs.Sleepers.{AreMinded, AreNear, HasBegun, IsApartAt, IsBehind, IsChannel, IsDoubted, IsNear, IsOf, IsPassed, IsToldApart, IsTrulyTold, KnowsChannels, StandsAsleep, begun, came_of, channel_at, has_stood, is_anew, is_known, is_learned, is_near, lain, stirs_by, stirs_of, told_of, with_sleeper, without}
 use Rattle.call_run.proofs.Asking.{near_pid}
 use Rattle.call_run.proofs.Telling.{each_other, each_with, each_without, none_without}
 
@@ -62,6 +58,15 @@ minded_alone script plain told channels none truly = record {
   apart = each_all (KnowsChannels script plain channels) told (λ sleeper place. subst (IsApartAt script plain sleeper place) (sym (none place)) tt);
   known = λ place. subst (IsChannel script plain told) (sym (none place)) tt;
 }
+
+-- where nobody is told of, that is so of any world
+pub nobody_minded : (script : Script) (plain : Plain) (told : List Sleeper) (channels : List (Option Channel)) → told ≡ [] → AreMinded script plain told channels
+nobody_minded script plain told channels none =
+    subst (λ ts. AreMinded script plain ts channels) (sym none) (record { each = tt; apart = tt; known = λ place. any (channel_at channels place) })
+  where
+    any : (found : Option Channel) → IsChannel script plain [] found
+    any None = tt
+    any (Some channel) = tt
 
 -- ---- by pids
 

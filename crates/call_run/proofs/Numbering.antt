@@ -1,5 +1,5 @@
 -- The number that a call has, and whether it moves bytes.
-use Rattle.std.specs.Prelude.{ℕ, ℤ, ◌≡◌, List, Option, None, false, refl}
+use Rattle.std.specs.Prelude.{ℕ, ℤ, ◌≡◌, List, None, false, refl}
 use Rattle.kabi_types.specs.declared.calls.Call.{Call}
 use Rattle.kabi_types.specs.declared.calls.Call.TheVariants as call
 use Rattle.call_run.specs.Families.{is_moving, number_of}

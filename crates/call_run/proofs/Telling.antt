@@ -1,13 +1,13 @@
 -- The sleepers of whom something is told: where each stands among them, and what is told of whom when they change.
-use Rattle.std.proofs.Common.{◌≡◌, ◌≢◌, ℕ, zero, suc, ◌+◌, ◌-◌, ◌<◌, ◌≤◌, ◌==◌, ◌||◌, nat_lt, not, Bool, true, false, cond, if◌then◌else◌, List, [], ◌∷◌, ◌++◌, length, filter, Option, None, Some, slice_get, slice_set, slice_index_or, remove, refl, ap, sym, ◌∙◌, subst, arith, min, map, ℤ, length-set}
+use Rattle.std.proofs.Common.{◌≡◌, ◌≢◌, ℕ, zero, suc, ◌+◌, ◌-◌, ◌<◌, ◌≤◌, ◌==◌, ◌||◌, nat_lt, not, Bool, true, false, cond, if◌then◌else◌, List, [], ◌∷◌, ◌++◌, length, Option, None, Some, slice_set, slice_index_or, remove, refl, ap, sym, ◌∙◌, subst, arith, min, map, ℤ, length-set}
 use Rattle.std.specs.Prelude.{insert}
-use Rattle.std.specs.List.{AllByRecursion, list_any, refill}
+use Rattle.std.specs.List.{AllByRecursion, refill}
 use Rattle.arrayvec.proofs.ArrayVecLemmas.{items-with_items}
 use borrow.Author.Tests.{eqb-true, eq-eqb, le-ltb, lt-ltb, ltb-false, ltb-true}
 use Rattle.posix_defs.specs.Minding.{HasNamed, is_among}
 use Rattle.call_run.specs.declared.sleepers.Channel.{Channel}
 use Rattle.call_run.specs.declared.sleepers.Sleeper.{Sleeper}
-use Rattle.call_run.specs.Sleepers.{AreRising, HasBegun, NamesMore, NamesOne, begun, has_stood, is_anew, is_at, is_settled, is_so, place_in, stands_in, told_of, with_sleeper, without}
+use Rattle.call_run.specs.Sleepers.{AreRising, HasBegun, NamesMore, NamesOne, begun, has_stood, is_anew, is_settled, is_so, place_in, stands_in, told_of, with_sleeper, without}
 
 both : {X : Type 0} {b : Bool} → b ≡ true → b ≡ false → X
 both e f = cc

@@ -17,8 +17,11 @@ use proc_numbers::{Named, opened};
 use proc_table::Place;
 use store_objects::{Objects, Target};
 
-/// A number that is never open, which stands for that of a call that has none.
-const NONE: i64 = -1;
+/// What stands for the number of a call that has none: one that is never open.
+const UNNAMED: Named = Named {
+    fd: -1,
+    found: None,
+};
 
 /// The number of a descriptor that a call has, of `dup2` that of the one that is copied; None of a call that has none.
 fn number_of(call: &Call) -> Option<i64>
@@ -53,8 +56,10 @@ pub(crate) fn named_by(objects: &Objects, place: Place, call: &Call) -> Named
     ensures number { (fd : ℤ) → number_of call.now ≡ Some fd → result.fd ≡ fd }
     ensures opened { IsOpened objects.now.heap objects.now.procs place.pid result }
 {
-    let number = number_of(call).unwrap_or(NONE);
-    opened(&objects.heap, &objects.procs, place, number)
+    match number_of(call) {
+        Some(number) => opened(&objects.heap, &objects.procs, place, number),
+        None => UNNAMED,
+    }
 }
 
 /// Whether a call moves bytes of whatever is open.

@@ -89,9 +89,9 @@ pub fn is_apart(script: &Script, objects: &Objects, who: u32, pid: u32, fd: i64)
     let target = found.desc.target;
     let at = place_there(objects, who);
     match waits_for(script, objects, who) {
-        Some(Awaited::Bytes { fd, .. } | Awaited::Room { fd, .. } | Awaited::Peer { fd }) => {
-            !is_near(objects, target, at, fd)
-        }
+        Some(Awaited::Bytes { fd, .. }) => !is_near(objects, target, at, fd),
+        Some(Awaited::Room { fd, .. }) => !is_near(objects, target, at, fd),
+        Some(Awaited::Peer { fd }) => !is_near(objects, target, at, fd),
         Some(Awaited::Events { entries, .. }) => {
             !some_near(objects, target, at, entries.items())
         }

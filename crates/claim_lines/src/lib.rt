@@ -4,8 +4,6 @@
 
 mod claims;
 mod laws;
-#[cfg(test)]
-mod tests;
 mod words;
 mod worked;
 

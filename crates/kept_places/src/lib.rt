@@ -5,8 +5,6 @@
 
 mod places;
 mod search;
-#[cfg(test)]
-mod tests;
 
 pub use places::Places;
 pub use search::Kept;

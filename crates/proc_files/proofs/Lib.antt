@@ -43,3 +43,4 @@ pub mod Shares
 pub mod Endings
 pub mod NodesEnd
 pub mod Unnaming
+pub mod Unopened

@@ -1,12 +1,12 @@
 -- Descriptions go, and no node is opened less often where none of a node has gone.
-use Rattle.std.proofs.Common.{◌≡◌, ℕ, zero, suc, ◌+◌, ◌<◌, ◌≤◌, Bool, true, false, ◌&&◌, ◌||◌, List, [], ◌∷◌, length, Option, None, Some, is_none, is_some, refl, ap, sym, ◌∙◌, subst, arith}
+use Rattle.std.proofs.Common.{◌≡◌, ℕ, zero, suc, ◌+◌, ◌<◌, Bool, true, false, ◌&&◌, ◌||◌, [], ◌∷◌, length, Option, None, Some, is_none, is_some, refl, ap, sym, ◌∙◌, arith}
 use Rattle.std.specs.List.{list_any, range_with_len}
 use Rattle.kheap_slabs.proofs.ObjectLemmas.{InUse-within}
 use Rattle.kheap_slabs.specs.Heap.{Heap}
 use Rattle.open_laws.specs.Owned.{HasItsOwners}
 use Rattle.open_laws.specs.Placed.{Numbers}
 use Rattle.posix_defs.specs.Files.Closing.{after_close}
-use Rattle.posix_defs.specs.Files.Descriptions.{Description, Descriptions, Target, description_at}
+use Rattle.posix_defs.specs.Files.Descriptions.{Description, Descriptions, description_at}
 use Rattle.posix_defs.specs.Files.State.{Files, beside, node_of, nodes_among, opened_node}
 use Rattle.posix_defs.specs.Reaching.{ends_at, ends_node}
 use Rattle.proc_table.specs.Table.{TableView}

@@ -1,7 +1,6 @@
 -- The machine once a number is closed whose socket, where that goes, has lost its name before.
 use Rattle.std.proofs.Common.{◌≡◌, ◌≢◌, ◌⊎◌, ℕ, ◌<◌, ◌≤◌, ◌==◌, Bool, true, false, cond, List, [], length, Option, None, Some, IsSome, refl, sym, ap, subst, ◌∙◌, arith, inl, inr, Contains}
 use Rattle.std.specs.Option.{option_map}
-use Rattle.std.specs.Prelude.{IfSome}
 use Rattle.std.proofs.lemmas.Bool.Decides.{eqb_tells}
 use Rattle.kheap_slabs.specs.Objects.{object}
 use Rattle.kheap_slabs.specs.declared.objects.Desc.{Desc}
@@ -37,7 +36,7 @@ use Rattle.usock_core.proofs.OneTable.{nowhere_in}
 use Rattle.proc_table.specs.Table.{TableView}
 use Rattle.proc_numbers.specs.Having.{AreListed, HaveOpen, node_closed}
 use Rattle.proc_numbers.specs.Naming.{named_at}
-use Rattle.proc_numbers.proofs.NumberNames.{desc_named, descriptor_at_is}
+use Rattle.proc_numbers.proofs.NumberNames.{descriptor_at_is}
 use Rattle.proc_numbers.proofs.NamedOpen.{described_so}
 use Rattle.proc_files.specs.Closing.{CachesChange, ClosesHolding}
 use Rattle.proc_files.specs.Holding.{HoldFiles}
@@ -45,7 +44,7 @@ use Rattle.proc_files.proofs.Beside.{have_beside, listed_beside}
 use Rattle.proc_files.proofs.Closings.{Goes, closes_so, goes_with, none_names, still_named, tree_left}
 use Rattle.proc_numbers.proofs.Told.{keyed_there, on_named, socket_there}
 use Rattle.proc_files.specs.Names.{name_of}
-use Rattle.proc_files.specs.SocketGoing.{socket_going, socket_left, unnamed}
+use Rattle.proc_files.specs.SocketGoing.{socket_going, unnamed}
 use Rattle.proc_files.specs.NameHolding.{HoldNames}
 use Rattle.proc_files.proofs.GoesOn.{names_on}
 use Rattle.proc_files.proofs.Gone.{close_nodes, close_waits, nodes_placed, unnamed_goes, waits_placed}
@@ -124,10 +123,13 @@ gone_elsewhere files place description is off = ap (λ (f : Files). f.sockets) (
     by_target (OnPipe pipe) never = refl
     by_target (OnSocket socket) never = absurd (never socket refl)
 
--- the socket that a Desc is open on is named
-pub going_named : (h : Heap) (at : ℕ) (desc : Desc) → object h.descs at ≡ Some desc → (o : Option ℕ) → o ≡ sock_of desc.target → IfSome o (Contains (socks_named h.descs))
-going_named h at desc there None is = tt
-going_named h at desc there (Some key) is = sock_named_by h.descs at key (ap sock_in there ∙ sym is)
+-- the socket that goes with one descriptor less of a Desc is the one that it is open on, which is named
+pub going_named : (h : Heap) (at : ℕ) (desc : Desc) → object h.descs at ≡ Some desc → (key : ℕ) → socket_going desc ≡ Some key → Contains (socks_named h.descs) key
+going_named h at desc there key is = sock_named_by h.descs at key (ap sock_in there ∙ by_count (desc.count == 1) is)
+  where
+    by_count : (b : Bool) → cond b (sock_of desc.target) None ≡ Some key → sock_of desc.target ≡ Some key
+    by_count true goes = goes
+    by_count false goes = cc
 
 -- ---- a number is closed
 
@@ -149,13 +151,14 @@ sockets_stay files pid fd same = record {
 -- ---- by the heap
 
 module _ (numbers : Numbers) (others : ℕ → ℕ) (old mid new : Heap) (kept : TableView) (fs now : TreeView) (names after : List (Option ℕ)) (files : Files) (pid fd : ℕ)
+    (held : HeldDescriptor) (desc : Desc) (is : named_at old kept pid fd ≡ Some held) (there : object old.descs held.desc ≡ Some desc)
     (listed : AreListed old kept) (owners : HasItsOwners old []) (before : HoldNames numbers others old kept fs names files)
     (procs : mid.procs ≡ old.procs) (descs : mid.descs ≡ old.descs) (listed_mid : AreListed mid kept) (owners_mid : HasItsOwners mid [])
-    (hold : HoldNames numbers others mid kept fs after (unnamed numbers files (socket_going old.descs (named_at old kept pid fd))))
+    (hold : HoldNames numbers others mid kept fs after (unnamed numbers files (socket_going desc)))
     (closes : ClosesHolding mid new kept pid fd) (listed_new : AreListed new kept)
     (leads : (n : Numbers) (o : ℕ → ℕ) (f : Files) → HoldFiles n o mid kept fs f → HoldFiles n o new kept now (after_close f pid fd)) where
   abbrev going : Option ℕ
-  going = socket_going old.descs (named_at old kept pid fd)
+  going = socket_going desc
 
   abbrev first : Files
   first = unnamed numbers files going
@@ -184,132 +187,131 @@ module _ (numbers : Numbers) (others : ℕ → ℕ) (old mid new : Heap) (kept :
 
   -- ---- what goes
 
-  module _ (held : HeldDescriptor) (desc : Desc) (is : named_at old kept pid fd ≡ Some held) (there : object old.descs held.desc ≡ Some desc) where
-    abbrev place : ℕ
-    place = numbers.descs held.desc
+  abbrev place : ℕ
+  place = numbers.descs held.desc
 
-    is_mid : named_at mid kept pid fd ≡ Some held
-    is_mid = named_mid ∙ is
+  is_mid : named_at mid kept pid fd ≡ Some held
+  is_mid = named_mid ∙ is
 
-    there_mid : object mid.descs held.desc ≡ Some desc
-    there_mid = ap (λ (d : List (Option Desc)). object d held.desc) descs ∙ there
+  there_mid : object mid.descs held.desc ≡ Some desc
+  there_mid = ap (λ (d : List (Option Desc)). object d held.desc) descs ∙ there
 
-    released_so : after_close first pid fd ≡ released (with_open first pid fd None) place
-    released_so = closes_so mid closes.mid kept pid fd listed_mid owners_mid closes.closes listed_then numbers first hold.held.opened have_then held desc is_mid there_mid
+  released_so : after_close first pid fd ≡ released (with_open first pid fd None) place
+  released_so = closes_so mid closes.mid kept pid fd listed_mid owners_mid closes.closes listed_then numbers first hold.held.opened have_then held desc is_mid there_mid
 
-    -- another descriptor names the description
-    other_names : desc.count ≢ 1 → (after_close first pid fd).sockets ≡ first.sockets
-    other_names more =
-        ap (λ (f : Files). f.sockets) (released_so
-        ∙ ap (λ b. cond b (with_open first pid fd None) (description_gone (with_open first pid fd None) place))
-        (still_named mid closes.mid kept pid fd listed_mid owners_mid closes.closes listed_then numbers first hold.held.opened have_then held desc is_mid there_mid more))
+  -- another descriptor names the description
+  other_names : desc.count ≢ 1 → (after_close first pid fd).sockets ≡ first.sockets
+  other_names more =
+      ap (λ (f : Files). f.sockets) (released_so
+      ∙ ap (λ b. cond b (with_open first pid fd None) (description_gone (with_open first pid fd None) place))
+      (still_named mid closes.mid kept pid fd listed_mid owners_mid closes.closes listed_then numbers first hold.held.opened have_then held desc is_mid there_mid more))
 
-    -- or it was the last
-    last_gone : desc.count ≡ 1 → after_close first pid fd ≡ description_gone (with_open first pid fd None) place
-    last_gone last =
-        released_so
-        ∙ ap (λ b. cond b (with_open first pid fd None) (description_gone (with_open first pid fd None) place))
-        (none_names mid closes.mid kept pid fd listed_mid owners_mid closes.closes listed_then numbers first hold.held.opened have_then held desc is_mid there_mid last)
+  -- or it was the last
+  last_gone : desc.count ≡ 1 → after_close first pid fd ≡ description_gone (with_open first pid fd None) place
+  last_gone last =
+      released_so
+      ∙ ap (λ b. cond b (with_open first pid fd None) (description_gone (with_open first pid fd None) place))
+      (none_names mid closes.mid kept pid fd listed_mid owners_mid closes.closes listed_then numbers first hold.held.opened have_then held desc is_mid there_mid last)
 
-    described : description_at first.descriptions place ≡ Some (counted_in numbers desc).is
-    described = described_so numbers mid hold.held.opened.list first held.desc desc hold.held.opened.opened there_mid
+  described : description_at first.descriptions place ≡ Some (counted_in numbers desc).is
+  described = described_so numbers mid hold.held.opened.list first held.desc desc hold.held.opened.opened there_mid
 
-    not_socket : desc.count ≡ 1 → ((key : ℕ) → desc.target ≡ target.Sock key → ⊥) → (after_close first pid fd).sockets ≡ first.sockets
-    not_socket last never =
-        ap (λ (f : Files). f.sockets) (last_gone last)
-        ∙ gone_elsewhere (with_open first pid fd None) place (counted_in numbers desc).is described (by_target desc.target never)
+  not_socket : desc.count ≡ 1 → ((key : ℕ) → desc.target ≡ target.Sock key → ⊥) → (after_close first pid fd).sockets ≡ first.sockets
+  not_socket last never =
+      ap (λ (f : Files). f.sockets) (last_gone last)
+      ∙ gone_elsewhere (with_open first pid fd None) place (counted_in numbers desc).is described (by_target desc.target never)
+    where
+      by_target : (what : HeldTarget) → ((key : ℕ) → what ≡ target.Sock key → ⊥) → (socket : ℕ) → target_in numbers what ≡ OnSocket socket → ⊥
+      by_target (target.Inode number) off socket e = cc
+      by_target (target.Pipe pipe) off socket e = cc
+      by_target (target.Sock key) off socket e = off key refl
+
+  -- a socket goes
+  module _ (last : desc.count ≡ 1) (key : ℕ) (on : desc.target ≡ target.Sock key) (first_is : first ≡ with_sockets files (with_name files.sockets (numbers.socks key) None)) where
+    abbrev socket : ℕ
+    socket = numbers.socks key
+
+    abbrev table : Sockets
+    table = hold.held.opened.opened.socketed.keyed
+
+    stands_table : SocketsStandFor mid table
+    stands_table = hold.held.opened.opened.socketed.stands
+
+    renamed : AreRenamed numbers.socks table first.sockets
+    renamed = hold.held.opened.opened.socketed.renamed
+
+    named_key : Contains (socks_named mid.descs) key
+    named_key = on_named mid held.desc key desc there_mid on
+
+    key_there : IsSome (sock_at table key)
+    key_there = keyed_there mid [] key owners_mid named_key table stands_table
+
+    nowhere : WaitsNowhere table key
+    nowhere =
+        let so = owners_mid.held.socks in
+        nowhere_in mid key table (record { sockets = so.sockets; stands = so.stands; used = (socket_there mid [] key owners_mid named_key).used; nowhere = so.held.apart key named_key }) stands_table
+
+    -- by place
+    within_before : socket ≤ length files.sockets
+    within_before =
+        placed_inside numbers.socks before.held.opened.opened.socketed.keyed files.sockets before.held.opened.opened.socketed.renamed key
+        (keyed_there old [] key owners (on_named old held.desc key desc there on) before.held.opened.opened.socketed.keyed before.held.opened.opened.socketed.stands)
+
+    gone_first : after_close first pid fd ≡ with_sockets (rest (with_open first pid fd None) place) (sockets_after_close first.sockets socket)
+    gone_first =
+        last_gone last ∙ gone_socket (with_open first pid fd None) place socket (counted_in numbers desc).is described (ap (target_in numbers) on)
+
+    sockets_gone : (after_close first pid fd).sockets ≡ sockets_after_close first.sockets socket
+    sockets_gone = ap (λ (f : Files). f.sockets) gone_first
+
+    -- the machine that kept the name closes the same
+    gone_files : after_close files pid fd ≡ with_sockets (rest (with_open files pid fd None) place) (sockets_after_close files.sockets socket)
+    gone_files =
+        ap (close_in files pid fd) (descriptor_at_is numbers old kept files pid before.held.opened fd ∙ ap (option_map (descriptor_by numbers.descs)) is)
+        ∙ ap (λ b. cond b (with_open files pid fd None) (description_gone (with_open files pid fd None) place)) none
+        ∙ gone_socket (with_open files pid fd None) place socket (counted_in numbers desc).is
+        (described_so numbers old before.held.opened.list files held.desc desc before.held.opened.opened there) (ap (target_in numbers) on)
       where
-        by_target : (what : HeldTarget) → ((key : ℕ) → what ≡ target.Sock key → ⊥) → (socket : ℕ) → target_in numbers what ≡ OnSocket socket → ⊥
-        by_target (target.Inode number) off socket e = cc
-        by_target (target.Pipe pipe) off socket e = cc
-        by_target (target.Sock key) off socket e = off key refl
+        none : is_named (with_open files pid fd None).descriptors place ≡ false
+        none =
+            ap (λ (f : Files). is_named (with_open f pid fd None).descriptors place) (sym first_is)
+            ∙ none_names mid closes.mid kept pid fd listed_mid owners_mid closes.closes listed_then numbers first hold.held.opened have_then held desc is_mid there_mid last
 
-    -- a socket goes
-    module _ (last : desc.count ≡ 1) (key : ℕ) (on : desc.target ≡ target.Sock key) (first_is : first ≡ with_sockets files (with_name files.sockets (numbers.socks key) None)) where
-      abbrev socket : ℕ
-      socket = numbers.socks key
+    same : after_close first pid fd ≡ after_close files pid fd
+    same =
+        gone_first
+        ∙ ap (λ (f : Files). with_sockets (rest (with_open f pid fd None) place) (sockets_after_close f.sockets socket)) first_is
+        ∙ ap (with_sockets (rest (with_open files pid fd None) place)) (unnamed_goes files.sockets socket within_before)
+        ∙ sym gone_files
 
-      abbrev table : Sockets
-      table = hold.held.opened.opened.socketed.keyed
+    nameless : node_of table key ≡ None
+    nameless =
+        sym (placed_node numbers.socks table first.sockets renamed key key_there)
+        ∙ ap (λ (f : Files). node_of f.sockets socket) first_is
+        ∙ named_here files.sockets socket None within_before
 
-      stands_table : SocketsStandFor mid table
-      stands_table = hold.held.opened.opened.socketed.stands
+    nobody_waits : (other : ℕ) → WaitsFor table key other → node_of table other ≡ None
+    nobody_waits other waits =
+        sym (placed_node numbers.socks table first.sockets renamed other (connected_there table other (stands_table.linked.waiting key other waits)))
+        ∙ hold.named.waiting socket (numbers.socks other) (waits_by_place numbers.socks table first.sockets renamed key other waits)
 
-      renamed : AreRenamed numbers.socks table first.sockets
-      renamed = hold.held.opened.opened.socketed.renamed
+    closed_table : AreRenamed numbers.socks (sockets_after_close table key) (sockets_after_close first.sockets socket)
+    closed_table = closed_renamed numbers.socks table first.sockets key stands_table.linked key_there nowhere renamed
 
-      named_key : Contains (socks_named mid.descs) key
-      named_key = on_named mid held.desc key desc there_mid on
+    goes_so : ClosesUnnamed first files pid fd
+    goes_so = record {
+      same = same;
+      nodes = λ at.
+          ap (λ (sockets : Sockets). node_of sockets at) sockets_gone
+          ∙ nodes_placed numbers.socks table (sockets_after_close table key) first.sockets (sockets_after_close first.sockets socket) renamed closed_table
+          (close_nodes table key stands_table.linked key_there nowhere nameless nobody_waits) at;
+      waits = λ listener at waits.
+          waits_placed numbers.socks table (sockets_after_close table key) first.sockets (sockets_after_close first.sockets socket) renamed closed_table
+          (close_waits table key stands_table.linked key_there nowhere) listener at
+          (subst (λ (sockets : Sockets). WaitsFor sockets listener at) sockets_gone waits);
+    }
 
-      key_there : IsSome (sock_at table key)
-      key_there = keyed_there mid [] key owners_mid named_key table stands_table
-
-      nowhere : WaitsNowhere table key
-      nowhere =
-          let so = owners_mid.held.socks in
-          nowhere_in mid key table (record { sockets = so.sockets; stands = so.stands; used = (socket_there mid [] key owners_mid named_key).used; nowhere = so.held.apart key named_key }) stands_table
-
-      -- by place
-      within_before : socket ≤ length files.sockets
-      within_before =
-          placed_inside numbers.socks before.held.opened.opened.socketed.keyed files.sockets before.held.opened.opened.socketed.renamed key
-          (keyed_there old [] key owners (on_named old held.desc key desc there on) before.held.opened.opened.socketed.keyed before.held.opened.opened.socketed.stands)
-
-      gone_first : after_close first pid fd ≡ with_sockets (rest (with_open first pid fd None) place) (sockets_after_close first.sockets socket)
-      gone_first =
-          last_gone last ∙ gone_socket (with_open first pid fd None) place socket (counted_in numbers desc).is described (ap (target_in numbers) on)
-
-      sockets_gone : (after_close first pid fd).sockets ≡ sockets_after_close first.sockets socket
-      sockets_gone = ap (λ (f : Files). f.sockets) gone_first
-
-      -- the machine that kept the name closes the same
-      gone_files : after_close files pid fd ≡ with_sockets (rest (with_open files pid fd None) place) (sockets_after_close files.sockets socket)
-      gone_files =
-          ap (close_in files pid fd) (descriptor_at_is numbers old kept files pid before.held.opened fd ∙ ap (option_map (descriptor_by numbers.descs)) is)
-          ∙ ap (λ b. cond b (with_open files pid fd None) (description_gone (with_open files pid fd None) place)) none
-          ∙ gone_socket (with_open files pid fd None) place socket (counted_in numbers desc).is
-          (described_so numbers old before.held.opened.list files held.desc desc before.held.opened.opened there) (ap (target_in numbers) on)
-        where
-          none : is_named (with_open files pid fd None).descriptors place ≡ false
-          none =
-              ap (λ (f : Files). is_named (with_open f pid fd None).descriptors place) (sym first_is)
-              ∙ none_names mid closes.mid kept pid fd listed_mid owners_mid closes.closes listed_then numbers first hold.held.opened have_then held desc is_mid there_mid last
-
-      same : after_close first pid fd ≡ after_close files pid fd
-      same =
-          gone_first
-          ∙ ap (λ (f : Files). with_sockets (rest (with_open f pid fd None) place) (sockets_after_close f.sockets socket)) first_is
-          ∙ ap (with_sockets (rest (with_open files pid fd None) place)) (unnamed_goes files.sockets socket within_before)
-          ∙ sym gone_files
-
-      nameless : node_of table key ≡ None
-      nameless =
-          sym (placed_node numbers.socks table first.sockets renamed key key_there)
-          ∙ ap (λ (f : Files). node_of f.sockets socket) first_is
-          ∙ named_here files.sockets socket None within_before
-
-      nobody_waits : (other : ℕ) → WaitsFor table key other → node_of table other ≡ None
-      nobody_waits other waits =
-          sym (placed_node numbers.socks table first.sockets renamed other (connected_there table other (stands_table.linked.waiting key other waits)))
-          ∙ hold.named.waiting socket (numbers.socks other) (waits_by_place numbers.socks table first.sockets renamed key other waits)
-
-      closed_table : AreRenamed numbers.socks (sockets_after_close table key) (sockets_after_close first.sockets socket)
-      closed_table = closed_renamed numbers.socks table first.sockets key stands_table.linked key_there nowhere renamed
-
-      goes_so : ClosesUnnamed first files pid fd
-      goes_so = record {
-        same = same;
-        nodes = λ at.
-            ap (λ (sockets : Sockets). node_of sockets at) sockets_gone
-            ∙ nodes_placed numbers.socks table (sockets_after_close table key) first.sockets (sockets_after_close first.sockets socket) renamed closed_table
-            (close_nodes table key stands_table.linked key_there nowhere nameless nobody_waits) at;
-        waits = λ listener at waits.
-            waits_placed numbers.socks table (sockets_after_close table key) first.sockets (sockets_after_close first.sockets socket) renamed closed_table
-            (close_waits table key stands_table.linked key_there nowhere) listener at
-            (subst (λ (sockets : Sockets). WaitsFor sockets listener at) sockets_gone waits);
-      }
-
-  -- ---- whatever the number names
+  -- ---- whatever it names
 
   stays : going ≡ None → (after_close first pid fd).sockets ≡ first.sockets → ClosesUnnamed first files pid fd
   stays none same =
@@ -317,30 +319,16 @@ module _ (numbers : Numbers) (others : ℕ → ℕ) (old mid new : Heap) (kept :
       subst (λ (f : Files). ClosesUnnamed f files pid fd) (sym it) (sockets_stay files pid fd (subst (λ (f : Files). (after_close f pid fd).sockets ≡ f.sockets) it same))
 
   so : ClosesUnnamed first files pid fd
-  so = by_name (named_at old kept pid fd) refl
+  so = by_count (eqb_tells desc.count 1)
     where
-      by_target : (held : HeldDescriptor) (desc : Desc) → named_at old kept pid fd ≡ Some held → object old.descs held.desc ≡ Some desc → desc.count ≡ 1
-          → going ≡ sock_of desc.target → (what : HeldTarget) → desc.target ≡ what → ClosesUnnamed first files pid fd
-      by_target held desc is there last at (target.Sock key) on =
-          goes_so held desc is there last key on (ap (unnamed numbers files) (at ∙ ap sock_of on))
-      by_target held desc is there last at (target.Inode number) on =
-          stays (at ∙ ap sock_of on) (not_socket held desc is there last (λ key other. (let both = sym on ∙ other in cc)))
-      by_target held desc is there last at (target.Pipe pipe) on =
-          stays (at ∙ ap sock_of on) (not_socket held desc is there last (λ key other. (let both = sym on ∙ other in cc)))
+      by_target : desc.count ≡ 1 → going ≡ sock_of desc.target → (what : HeldTarget) → desc.target ≡ what → ClosesUnnamed first files pid fd
+      by_target last at (target.Sock key) on = goes_so last key on (ap (unnamed numbers files) (at ∙ ap sock_of on))
+      by_target last at (target.Inode number) on = stays (at ∙ ap sock_of on) (not_socket last (λ key other. (let both = sym on ∙ other in cc)))
+      by_target last at (target.Pipe pipe) on = stays (at ∙ ap sock_of on) (not_socket last (λ key other. (let both = sym on ∙ other in cc)))
 
-      by_count : (held : HeldDescriptor) (desc : Desc) → named_at old kept pid fd ≡ Some held → object old.descs held.desc ≡ Some desc
-          → (((desc.count == 1) ≡ true) × (desc.count ≡ 1)) ⊎ (((desc.count == 1) ≡ false) × (desc.count ≢ 1)) → going ≡ cond (desc.count == 1) (sock_of desc.target) None
-          → ClosesUnnamed first files pid fd
-      by_count held desc is there (inl last) at = by_target held desc is there last.1 (at ∙ ap (λ b. cond b (sock_of desc.target) None) last.0) desc.target refl
-      by_count held desc is there (inr more) at = stays (at ∙ ap (λ b. cond b (sock_of desc.target) None) more.0) (other_names held desc is there more.1)
-
-      by_name : (o : Option HeldDescriptor) → named_at old kept pid fd ≡ o → ClosesUnnamed first files pid fd
-      by_name None none =
-          stays (ap (socket_going old.descs) none)
-          (ap (λ (f : Files). f.sockets) (ap (close_in first pid fd) (descriptor_at_is numbers mid kept first pid hold.held.opened fd ∙ ap (option_map (descriptor_by numbers.descs)) (named_mid ∙ none))))
-      by_name (Some held) is =
-          let it = desc_named old kept [] listed owners pid fd held is in
-          by_count held it.0 is it.1 (eqb_tells it.0.count 1) (ap (socket_going old.descs) is ∙ ap socket_left it.1)
+      by_count : (((desc.count == 1) ≡ true) × (desc.count ≡ 1)) ⊎ (((desc.count == 1) ≡ false) × (desc.count ≢ 1)) → ClosesUnnamed first files pid fd
+      by_count (inl last) = by_target last.1 (ap (λ b. cond b (sock_of desc.target) None) last.0) desc.target refl
+      by_count (inr more) = stays (ap (λ b. cond b (sock_of desc.target) None) more.0) (other_names more.1)
 
   -- all that heap, table, tree and names stand for
   pub closed_names_hold : HoldNames numbers others new kept now after (after_close files pid fd)

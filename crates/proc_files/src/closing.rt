@@ -1,19 +1,18 @@
 //! `close`, and what is closed with a number, where a socket may lose its name.
 
-ghost use Rattle.std.specs.Prelude.{◌≡◌, ◌<◌, ◌≤◌, ℕ, [], IfSome, None, OnErr, length};
-ghost use Rattle.std.specs.List.{Contains};
+ghost use Rattle.std.specs.Prelude.{◌≡◌, ◌≤◌, ℕ, [], None, OnErr, Some, length, pos};
 ghost use Rattle.kabi_types.specs.declared.scripts.Script.{Script};
+ghost use Rattle.kheap_slabs.specs.Objects.{object};
 ghost use Rattle.kheap_slabs.specs.Paid.{IsPaid, TakesNothing};
 ghost use Rattle.memfs_ops.specs.Closing.{KeepsCached};
 ghost use Rattle.memfs_ops.specs.FileTree.{TreeView};
-ghost use Rattle.open_laws.specs.Owned.{HasItsOwners, sock_of, socks_named};
+ghost use Rattle.open_laws.specs.Owned.{HasItsOwners, sock_of};
 ghost use Rattle.open_laws.specs.Placed.{Numbers};
 ghost use Rattle.posix_defs.specs.Calls.OnDescriptors.{close};
 ghost use Rattle.posix_defs.specs.Files.Closing.{after_close};
 ghost use Rattle.posix_defs.specs.Files.State.{Files};
 ghost use Rattle.posix_defs.specs.Plain.{Plain};
-ghost use Rattle.kabi_types.specs.Arguments.{most_descriptors};
-ghost use Rattle.proc_table.specs.Table.{IsPlaced};
+ghost use Rattle.proc_table.specs.Table.{IsPlaced, TableView};
 ghost use Rattle.proc_numbers.specs.Found.{IsOpened};
 ghost use Rattle.proc_numbers.specs.Having.{AreListed, node_closed};
 ghost use Rattle.proc_numbers.specs.Naming.{named_at, named_by};
@@ -26,12 +25,11 @@ ghost use Rattle.proc_files.specs.SocketGoing.{socket_going, unnamed};
 ghost use Rattle.proc_files.specs.NameHolding.{HoldNames, HoldSomeNames};
 
 use crate::naming::take_name;
-use crate::nodes::is_well_formed;
 use bound_table::BoundTable;
 use kabi_types::Errno;
-use kheap_slabs::{KHeap, Purse, Target};
+use kheap_slabs::{Desc, KHeap, Purse, Target};
 use memfs_ops::FileTree;
-use proc_numbers::{Named, close_one};
+use proc_numbers::{Found, Named, close_one, opened};
 use proc_table::{Place, ProcTable};
 
 /// A process closes a number, whatever it is open on. With the last descriptor that names it a description goes, and what it was
@@ -74,17 +72,15 @@ pub fn close_number(
     let Some(found) = on.found else {
         return Err(Errno::EBADF);
     };
-    close_open(heap, purse, procs, tree, names, place, found.number);
+    close_open(heap, purse, procs, tree, names, place, &found);
     Ok(())
 }
 
-/// A process has a number open no more, whatever it was open on: `close`, `dup2`, `exec` and the end of a process close by this.
-///
-/// A socket that goes has no name before. With the last descriptor that names it a description goes, and what it was open on is
-/// closed; a file without links goes with the last description of it. A number that isn't open changes nothing.
+/// A process has a number open no more, whether it had it open or not: `dup2`, `exec` and the end of a process close by this. A
+/// number that isn't open changes nothing.
 ///
 /// The purse pays for the blocks that this asks for, and is then as it was.
-pub(crate) fn close_open(
+pub(crate) fn close_at(
     heap: &mut KHeap,
     purse: &mut Purse,
     procs: &ProcTable,
@@ -96,7 +92,6 @@ pub(crate) fn close_open(
     requires listed { AreListed heap.old procs.now }
     requires owners { HasItsOwners heap.old [] }
     requires there { IsPlaced procs.now place }
-    requires number { fd < most_descriptors }
     requires hold { HoldSomeNames heap.old procs.now tree.old names.old }
     requires may { MayClose heap.old purse.old }
     ensures closed { (numbers : Numbers) (others : ℕ → ℕ) (files : Files)
@@ -115,24 +110,65 @@ pub(crate) fn close_open(
     ensures stays { node_closed heap.old.descs (named_at heap.old procs.now place.pid fd) ≡ None → tree.new ≡ tree.old }
     ensures cached { KeepsCached tree.old tree.new }
 {
-    unname_going(heap, procs, names, place, fd);
-    let Some(node) = close_one(heap, procs, place, fd) else {
+    let on = opened(heap, procs, place, i64::from(fd));
+    let Some(found) = on.found else {
+        return;
+    };
+    close_open(heap, purse, procs, tree, names, place, &found);
+}
+
+// A process closes a number of which was found what it names, whatever that is open on.
+//
+// A socket that goes has no name before. With the last descriptor that names it a description goes, and what it was open on is
+// closed; a file without links goes with the last description of it.
+//
+// The purse pays for the blocks that this asks for, and is then as it was.
+fn close_open(
+    heap: &mut KHeap,
+    purse: &mut Purse,
+    procs: &ProcTable,
+    tree: &mut FileTree,
+    names: &mut BoundTable,
+    place: Place,
+    found: &Found,
+)
+    requires listed { AreListed heap.old procs.now }
+    requires owners { HasItsOwners heap.old [] }
+    requires there { IsPlaced procs.now place }
+    requires opened { IsOpened heap.old procs.now place.pid (record { fd = pos found.now.number; found = Some found.now }) }
+    requires hold { HoldSomeNames heap.old procs.now tree.old names.old }
+    requires may { MayClose heap.old purse.old }
+    ensures closed { (numbers : Numbers) (others : ℕ → ℕ) (files : Files)
+        → HoldNames numbers others heap.old procs.now tree.old names.old files
+        → HoldNames numbers others heap.new procs.now tree.new names.new (after_close files place.pid found.now.number) }
+    ensures listed { AreListed heap.new procs.now }
+    ensures owners { HasItsOwners heap.new [] }
+    ensures hold { HoldSomeNames heap.new procs.now tree.new names.new }
+    ensures closes { ClosesHolding heap.old heap.new procs.now place.pid found.now.number }
+    ensures places { length names.new ≡ length names.old }
+    ensures queues { QueuesStand heap.old heap.new }
+    ensures same { purse.new ≡ purse.old }
+    ensures may { MayClose heap.new purse.new }
+    ensures paid { IsPaid heap.old purse.old heap.new purse.new }
+    ensures reads { tree.old.disk.reads ≤ tree.new.disk.reads }
+    ensures stays { node_closed heap.old.descs (named_at heap.old procs.now place.pid found.now.number) ≡ None → tree.new ≡ tree.old }
+    ensures cached { KeepsCached tree.old tree.new }
+{
+    unname_going(heap, names, found);
+    let Some(node) = close_one(heap, procs, place, found.number) else {
         return;
     };
     tree.close_node(heap, purse, node);
 }
 
-// The socket that goes with a number of a process, if one does, has no name from now on.
-fn unname_going(heap: &mut KHeap, procs: &ProcTable, names: &mut BoundTable, place: Place, fd: u32)
-    requires listed { AreListed heap.old procs.now }
+// The socket that goes with a descriptor, if one does, has no name from now on.
+fn unname_going(heap: &mut KHeap, names: &mut BoundTable, found: &Found)
     requires owners { HasItsOwners heap.old [] }
-    requires there { IsPlaced procs.now place }
-    requires number { fd < most_descriptors }
+    requires there { object heap.old.descs found.now.key ≡ Some found.now.desc }
     requires bound { AreBound (name_of heap.old.socks) names.old }
-    ensures hold { (numbers : Numbers) (others : ℕ → ℕ) (fs : TreeView) (files : Files)
-        → HoldNames numbers others heap.old procs.now fs names.old files
-        → HoldNames numbers others heap.new procs.now fs names.new
-        (unnamed numbers files (socket_going heap.old.descs (named_at heap.old procs.now place.pid fd))) }
+    ensures hold { (numbers : Numbers) (others : ℕ → ℕ) (kept : TableView) (fs : TreeView) (files : Files)
+        → HoldNames numbers others heap.old kept fs names.old files
+        → HoldNames numbers others heap.new kept fs names.new (unnamed numbers files (socket_going found.now.desc)) }
     ensures owners { HasItsOwners heap.new [] }
     ensures places { length names.new ≡ length names.old }
     ensures beside { heap.new
@@ -140,7 +176,7 @@ fn unname_going(heap: &mut KHeap, procs: &ProcTable, names: &mut BoundTable, pla
     ensures queues { QueuesStand heap.old heap.new }
     ensures takes { TakesNothing heap.old heap.new }
 {
-    let Some(key) = socket_going(heap, procs, place, fd) else {
+    let Some(key) = socket_going(&found.desc) else {
         return;
     };
     let Some(node) = heap.get_sock(key).node else {
@@ -149,18 +185,10 @@ fn unname_going(heap: &mut KHeap, procs: &ProcTable, names: &mut BoundTable, pla
     take_name(heap, names, key, node);
 }
 
-// The socket that goes with a number of a process, if one does.
-fn socket_going(heap: &KHeap, procs: &ProcTable, place: Place, fd: u32) -> Option<u32>
-    requires listed { AreListed heap.now procs.now }
-    requires owners { HasItsOwners heap.now [] }
-    requires there { IsPlaced procs.now place }
-    requires number { fd < most_descriptors }
-    ensures going { result ≡ socket_going heap.now.descs (named_at heap.now procs.now place.pid fd) }
-    ensures there { IfSome result (Contains (socks_named heap.now.descs)) }
+// The socket that goes with one descriptor less of a Desc, if one does.
+fn socket_going(desc: &Desc) -> Option<u32>
+    ensures { result ≡ socket_going desc.now }
 {
-    is_well_formed(heap);
-    let held = procs.at(heap, place).descriptors[fd as usize]?;
-    let desc = heap.get_desc(held.desc);
     if desc.count == 1 {
         socket_of(desc.target)
     } else {

@@ -20,7 +20,7 @@ ghost use Rattle.proc_files.specs.Holders.{openings};
 ghost use Rattle.proc_files.specs.Ending.{ClosesEach, ClosesIf, ClosesMarked, OnlyGoes, closed_where, goes_at_exec, has_mark, is_marked};
 ghost use Rattle.proc_files.specs.NameHolding.{HoldNames, HoldSomeNames};
 
-use crate::closing::close_open;
+use crate::closing::close_at;
 use crate::nodes::is_well_formed;
 use bound_table::BoundTable;
 use kabi_types::MOST_DESCRIPTORS;
@@ -226,7 +226,6 @@ fn close_if(
     requires listed { AreListed heap.old procs.now }
     requires owners { HasItsOwners heap.old [] }
     requires there { IsPlaced procs.now place }
-    requires number { fd < most_descriptors }
     requires hold { HoldSomeNames heap.old procs.now tree.old names.old }
     requires may { MayClose heap.old purse.old }
     ensures closed { (numbers : Numbers) (others : ℕ → ℕ) (files : Files)
@@ -254,5 +253,5 @@ fn close_if(
     if !marked {
         return;
     }
-    close_open(heap, purse, procs, tree, names, place, fd);
+    close_at(heap, purse, procs, tree, names, place, fd);
 }

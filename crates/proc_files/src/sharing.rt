@@ -16,7 +16,7 @@ ghost use Rattle.proc_files.specs.Closing.{ChangesHolding, MayClose};
 ghost use Rattle.proc_files.specs.NameAnswering.{AnswersNaming};
 ghost use Rattle.proc_files.specs.NameHolding.{HoldNames, HoldSomeNames};
 
-use crate::closing::close_open;
+use crate::closing::close_at;
 use crate::nodes::is_well_formed;
 use bound_table::BoundTable;
 use kabi_types::Errno;
@@ -78,7 +78,7 @@ pub fn dup_number(
         return Ok(number);
     }
     is_well_formed(heap);
-    close_open(heap, back, procs, tree, names, place, number);
+    close_at(heap, back, procs, tree, names, place, number);
     share_at(heap, purse, procs, place, number, found.key);
     Ok(number)
 }

@@ -2,7 +2,5 @@
 #![tactic(auto)]
 
 mod circles;
-#[cfg(test)]
-mod tests;
 
 pub use circles::circle;

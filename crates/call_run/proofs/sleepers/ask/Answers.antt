@@ -1,4 +1,4 @@
-use Rattle.std.proofs.Common.{◌≡◌, Bool, true, false, not, refl, ◌∙◌}
+use Rattle.std.proofs.Common.{◌≡◌, Bool, true, false, not, refl}
 use Rattle.call_run.proofs.Telling.{named_more}
 use Rattle.call_run.proofs.sleepers.ask.Goals as goal
 

@@ -1,4 +1,4 @@
-use Rattle.std.proofs.Common.{◌≡◌, ◌∙◌, List, slice_index_or, ap, sym, subst}
+use Rattle.std.proofs.Common.{◌∙◌, List, slice_index_or, ap, sym, subst}
 use Rattle.store_objects.specs.Objects.{is_running, procs_of}
 use Rattle.store_objects.proofs.RunningProcs.{alive_is}
 use Rattle.call_run.specs.declared.sleepers.Sleeper.{Sleeper}

@@ -1,9 +1,7 @@
 use Rattle.std.proofs.Common.{◌∙◌, Some, ap, refl, sym, w64}
 use Rattle.std.specs.Option.{option_map}
 use Rattle.std.proofs.lemmas.Int.{to_z-of_z}
-use Rattle.kheap_slabs.specs.declared.objects.Target.{Target}
 use Rattle.open_laws.specs.Described.{target_in}
-use Rattle.open_laws.specs.Placed.{Numbers}
 use Rattle.proc_numbers.specs.declared.lookups.Found.{Found}
 use Rattle.proc_numbers.proofs.OpenedBy.{is_there}
 use Rattle.waking_laws.specs.Waking.{meet}

@@ -22,7 +22,7 @@ run_workers-requires-send-T g c κs within =
     let buffers : IsSend held_buffers.the_field.row = struct_send (declared.shape held_buffers.the_type) (search (sendable, crosses) depth 20, (search (sendable, crosses) depth 20, tt)) in
     let fields : IsSend (inside.the_field (param 2 g.row.F) (param 3 g.row.G) g.F.Scorer g.G.Scorer).row =
     struct_send (declared.shape (inside.the_type (param 2 g.row.F) (param 3 g.row.G) g.F.Scorer g.G.Scorer))
-    (script.the_field_send, (objects, (buffers, (score.the_field_send (param 2 g.row.F) (param 3 g.row.G) g.F.Scorer g.G.Scorer c.type_bounds.send-F c.type_bounds.send-G, (search (sendable, crosses) depth 20, (search (sendable, crosses) depth 20, tt)))))) in
+    (script.the_field_send, (objects, (buffers, (score.the_field_send (param 2 g.row.F) (param 3 g.row.G) g.F.Scorer g.G.Scorer c.type_bounds.send-F c.type_bounds.send-G, (search (sendable, crosses) depth 20, tt))))) in
     let whole : IsSend (store_row (param 2 g.row.F) (param 3 g.row.G) g.F.Scorer g.G.Scorer) =
     view_send _ _ _ _ _ (recorded_send (inside.the_field (param 2 g.row.F) (param 3 g.row.G) g.F.Scorer g.G.Scorer).row _ _ (inside.the_type (param 2 g.row.F) (param 3 g.row.G) g.F.Scorer g.G.Scorer).to_one fields) in
     param_send _ _ (arg_send _ no _ whole)

@@ -7,9 +7,10 @@ use Rattle.proc_numbers.proofs.NumberCloses.{no_some}
 use Rattle.proc_numbers.proofs.Answered.{on_it, on_nothing}
 use Rattle.proc_numbers.proofs.Changes.{changes_nothing}
 use Rattle.proc_files.proofs.Changing.{holding_closed, holding_of}
+use Rattle.proc_files.proofs.Unopened.{opened_found}
 use Rattle.proc_files.specs.NameHolding.{HoldNames}
 use Rattle.proc_numbers.specs.Found.{held_in}
-use Rattle.proc_numbers.proofs.OpenedBy.{is_counted, is_held, is_held_at, is_none, is_number, is_there}
+use Rattle.proc_numbers.proofs.OpenedBy.{is_counted, is_held, is_held_at, is_none, is_there}
 use Rattle.proc_files.proofs.closing.close_number.Goals as goal
 
 pub returns-in_default-clause-answers : goal.returns-in_default-clause-answers
@@ -21,8 +22,8 @@ returns-in_default-clause-answers c = λ numbers others script plain hold.
       holds = hold;
     }
 
-pub close_open-requires-clause-number : goal.close_open-requires-clause-number
-close_open-requires-clause-number c = (is_number c.args.heap.now c.args.procs.now c.args.place.pid c.args.on.now c.requires.opened c.in-Some.found c.in-Some.is).1
+pub close_open-requires-clause-opened : goal.close_open-requires-clause-opened
+close_open-requires-clause-opened c = opened_found c.args.heap.now c.args.procs.now c.args.place.pid c.args.on.now c.requires.opened c.in-Some.found c.in-Some.is
 
 pub returns-clause-answers : goal.returns-clause-answers
 unfolding close

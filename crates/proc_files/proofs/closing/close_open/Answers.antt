@@ -6,6 +6,7 @@ use Rattle.posix_defs.specs.Files.Closing.{after_close}
 use Rattle.proc_numbers.proofs.Changes.{node_of_number}
 use Rattle.proc_numbers.proofs.Fronts.{queues_same, queues_then}
 use Rattle.proc_numbers.proofs.NumberCloses.{listed_on}
+use Rattle.proc_numbers.specs.Found.{held_in}
 use Rattle.proc_numbers.specs.Having.{node_closed}
 use Rattle.proc_numbers.specs.Naming.{named_at}
 use Rattle.proc_files.proofs.Beside.{listed_beside, owners_beside, same_pipes, same_socks}
@@ -18,9 +19,15 @@ use Rattle.proc_files.proofs.closing.close_open.Goals as goal
 
 -- ---- the number is closed
 
+pub unname_going-requires-clause-there : goal.unname_going-requires-clause-there
+unname_going-requires-clause-there c = c.requires.opened.there
+
 pub close_one-requires-clause-listed : goal.close_one-requires-clause-listed
 close_one-requires-clause-listed c =
     listed_on c.args.heap.now c.unname_going.new.heap c.args.procs.now (ap (λ (h : Heap). h.procs) c.unname_going.ensures.beside) c.requires.listed
+
+pub close_one-requires-clause-number : goal.close_one-requires-clause-number
+close_one-requires-clause-number c = c.requires.opened.number.1
 
 -- ---- no node goes
 
@@ -34,11 +41,11 @@ returns-in_default-clause-closed c = λ numbers others files hold.
       size = ap (λ (h : Heap). h.heap) c.unname_going.ensures.beside;
     })
     c.unname_going.ensures.takes c.requires.may) in
-    closed_names_hold numbers others c.args.heap.now c.unname_going.new.heap c.close_one.new.heap c.args.procs.now c.args.tree.now c.args.tree.now c.args.names.now c.unname_going.new.names files c.args.place.pid c.args.fd
-    c.requires.listed c.requires.owners hold (ap (λ (h : Heap). h.procs) c.unname_going.ensures.beside) (ap (λ (h : Heap). h.descs) c.unname_going.ensures.beside)
-    listed c.unname_going.ensures.owners (c.unname_going.ensures.hold numbers others c.args.tree.now files hold) (record { mid = c.close_one.new.heap; closes = c.close_one.ensures.closes; caches = refl }) c.close_one.ensures.listed
-    (holds_still c.unname_going.new.heap c.close_one.new.heap c.args.procs.now c.args.place.pid c.args.fd c.args.purse.now c.args.tree.now listed c.unname_going.ensures.owners c.close_one.ensures.closes c.close_one.ensures.listed c.close_one.ensures.takes may
-    c.close_one.ensures.closed c.close_one.result (node_of_number c.unname_going.new.heap c.close_one.new.heap c.args.procs.now c.args.place.pid c.args.fd c.close_one.result listed c.close_one.ensures.closes c.close_one.ensures.node) c.in_default.is)
+    closed_names_hold numbers others c.args.heap.now c.unname_going.new.heap c.close_one.new.heap c.args.procs.now c.args.tree.now c.args.tree.now c.args.names.now c.unname_going.new.names files c.args.place.pid c.args.found.now.number
+    (held_in c.args.found.now) c.args.found.now.desc c.requires.opened.names c.requires.opened.there c.requires.listed c.requires.owners hold (ap (λ (h : Heap). h.procs) c.unname_going.ensures.beside) (ap (λ (h : Heap). h.descs) c.unname_going.ensures.beside)
+    listed c.unname_going.ensures.owners (c.unname_going.ensures.hold numbers others c.args.procs.now c.args.tree.now files hold) (record { mid = c.close_one.new.heap; closes = c.close_one.ensures.closes; caches = refl }) c.close_one.ensures.listed
+    (holds_still c.unname_going.new.heap c.close_one.new.heap c.args.procs.now c.args.place.pid c.args.found.now.number c.args.purse.now c.args.tree.now listed c.unname_going.ensures.owners c.close_one.ensures.closes c.close_one.ensures.listed c.close_one.ensures.takes may
+    c.close_one.ensures.closed c.close_one.result (node_of_number c.unname_going.new.heap c.close_one.new.heap c.args.procs.now c.args.place.pid c.args.found.now.number c.close_one.result listed c.close_one.ensures.closes c.close_one.ensures.node) c.in_default.is)
 
 pub returns-in_default-clause-hold : goal.returns-in_default-clause-hold
 returns-in_default-clause-hold c =
@@ -54,17 +61,17 @@ returns-in_default-clause-hold c =
     record {
       numbers = some.numbers;
       others = some.others;
-      files = after_close some.files c.args.place.pid c.args.fd;
-      hold = closed_names_hold some.numbers some.others c.args.heap.now c.unname_going.new.heap c.close_one.new.heap c.args.procs.now c.args.tree.now c.args.tree.now c.args.names.now c.unname_going.new.names some.files c.args.place.pid c.args.fd
-          c.requires.listed c.requires.owners some.hold (ap (λ (h : Heap). h.procs) c.unname_going.ensures.beside) (ap (λ (h : Heap). h.descs) c.unname_going.ensures.beside)
-          listed c.unname_going.ensures.owners (c.unname_going.ensures.hold some.numbers some.others c.args.tree.now some.files some.hold) (record { mid = c.close_one.new.heap; closes = c.close_one.ensures.closes; caches = refl }) c.close_one.ensures.listed
-          (holds_still c.unname_going.new.heap c.close_one.new.heap c.args.procs.now c.args.place.pid c.args.fd c.args.purse.now c.args.tree.now listed c.unname_going.ensures.owners c.close_one.ensures.closes c.close_one.ensures.listed c.close_one.ensures.takes may
-          c.close_one.ensures.closed c.close_one.result (node_of_number c.unname_going.new.heap c.close_one.new.heap c.args.procs.now c.args.place.pid c.args.fd c.close_one.result listed c.close_one.ensures.closes c.close_one.ensures.node) c.in_default.is);
+      files = after_close some.files c.args.place.pid c.args.found.now.number;
+      hold = closed_names_hold some.numbers some.others c.args.heap.now c.unname_going.new.heap c.close_one.new.heap c.args.procs.now c.args.tree.now c.args.tree.now c.args.names.now c.unname_going.new.names some.files c.args.place.pid c.args.found.now.number
+          (held_in c.args.found.now) c.args.found.now.desc c.requires.opened.names c.requires.opened.there c.requires.listed c.requires.owners some.hold (ap (λ (h : Heap). h.procs) c.unname_going.ensures.beside) (ap (λ (h : Heap). h.descs) c.unname_going.ensures.beside)
+          listed c.unname_going.ensures.owners (c.unname_going.ensures.hold some.numbers some.others c.args.procs.now c.args.tree.now some.files some.hold) (record { mid = c.close_one.new.heap; closes = c.close_one.ensures.closes; caches = refl }) c.close_one.ensures.listed
+          (holds_still c.unname_going.new.heap c.close_one.new.heap c.args.procs.now c.args.place.pid c.args.found.now.number c.args.purse.now c.args.tree.now listed c.unname_going.ensures.owners c.close_one.ensures.closes c.close_one.ensures.listed c.close_one.ensures.takes may
+          c.close_one.ensures.closed c.close_one.result (node_of_number c.unname_going.new.heap c.close_one.new.heap c.args.procs.now c.args.place.pid c.args.found.now.number c.close_one.result listed c.close_one.ensures.closes c.close_one.ensures.node) c.in_default.is);
     }
 
 pub returns-in_default-clause-closes : goal.returns-in_default-clause-closes
 returns-in_default-clause-closes c =
-    closes_before c.args.heap.now c.unname_going.new.heap c.close_one.new.heap c.args.procs.now c.args.place.pid c.args.fd c.unname_going.ensures.beside c.unname_going.ensures.takes.high
+    closes_before c.args.heap.now c.unname_going.new.heap c.close_one.new.heap c.args.procs.now c.args.place.pid c.args.found.now.number c.unname_going.ensures.beside c.unname_going.ensures.takes.high
     (record { mid = c.close_one.new.heap; closes = c.close_one.ensures.closes; caches = refl })
 
 pub returns-in_default-clause-queues : goal.returns-in_default-clause-queues
@@ -81,7 +88,7 @@ returns-in_default-clause-may c =
       size = ap (λ (h : Heap). h.heap) c.unname_going.ensures.beside;
     })
     c.unname_going.ensures.takes c.requires.may) in
-    close_on c.unname_going.new.heap c.close_one.new.heap c.args.purse.now (number_caches c.unname_going.new.heap c.close_one.new.heap c.args.procs.now c.args.place.pid c.args.fd c.close_one.ensures.closes) c.close_one.ensures.takes may
+    close_on c.unname_going.new.heap c.close_one.new.heap c.args.purse.now (number_caches c.unname_going.new.heap c.close_one.new.heap c.args.procs.now c.args.place.pid c.args.found.now.number c.close_one.ensures.closes) c.close_one.ensures.takes may
 
 pub returns-in_default-clause-paid : goal.returns-in_default-clause-paid
 returns-in_default-clause-paid c =
@@ -106,10 +113,10 @@ close_node-requires-clause-stands c =
     })
     c.unname_going.ensures.takes c.requires.may) in
     let some = c.requires.hold in
-    lets_go c.unname_going.new.heap c.close_one.new.heap c.args.procs.now c.args.place.pid c.args.fd c.args.purse.now c.args.tree.now listed c.unname_going.ensures.owners c.close_one.ensures.closes c.close_one.ensures.listed c.close_one.ensures.takes may
-    c.close_one.ensures.closed c.close_one.result (node_of_number c.unname_going.new.heap c.close_one.new.heap c.args.procs.now c.args.place.pid c.args.fd c.close_one.result listed c.close_one.ensures.closes c.close_one.ensures.node) c.in-Some.node c.in-Some.is some.numbers some.others
-    (unnamed some.numbers some.files (socket_going c.args.heap.now.descs (named_at c.args.heap.now c.args.procs.now c.args.place.pid c.args.fd)))
-    (c.unname_going.ensures.hold some.numbers some.others c.args.tree.now some.files some.hold).held
+    lets_go c.unname_going.new.heap c.close_one.new.heap c.args.procs.now c.args.place.pid c.args.found.now.number c.args.purse.now c.args.tree.now listed c.unname_going.ensures.owners c.close_one.ensures.closes c.close_one.ensures.listed c.close_one.ensures.takes may
+    c.close_one.ensures.closed c.close_one.result (node_of_number c.unname_going.new.heap c.close_one.new.heap c.args.procs.now c.args.place.pid c.args.found.now.number c.close_one.result listed c.close_one.ensures.closes c.close_one.ensures.node) c.in-Some.node c.in-Some.is some.numbers some.others
+    (unnamed some.numbers some.files (socket_going c.args.found.now.desc))
+    (c.unname_going.ensures.hold some.numbers some.others c.args.procs.now c.args.tree.now some.files some.hold).held
 
 pub close_node-requires-clause-fills : goal.close_node-requires-clause-fills
 close_node-requires-clause-fills c =
@@ -121,7 +128,7 @@ close_node-requires-clause-fills c =
       size = ap (λ (h : Heap). h.heap) c.unname_going.ensures.beside;
     })
     c.unname_going.ensures.takes c.requires.may) in
-    fills_on c.unname_going.new.heap c.close_one.new.heap c.args.purse.now (number_caches c.unname_going.new.heap c.close_one.new.heap c.args.procs.now c.args.place.pid c.args.fd c.close_one.ensures.closes) may.free.fetch.fills
+    fills_on c.unname_going.new.heap c.close_one.new.heap c.args.purse.now (number_caches c.unname_going.new.heap c.close_one.new.heap c.args.procs.now c.args.place.pid c.args.found.now.number c.close_one.ensures.closes) may.free.fetch.fills
 
 pub returns-clause-closed : goal.returns-clause-closed
 returns-clause-closed c = λ numbers others files hold.
@@ -133,11 +140,11 @@ returns-clause-closed c = λ numbers others files hold.
       size = ap (λ (h : Heap). h.heap) c.unname_going.ensures.beside;
     })
     c.unname_going.ensures.takes c.requires.may) in
-    closed_names_hold numbers others c.args.heap.now c.unname_going.new.heap c.close_node.new.heap c.args.procs.now c.args.tree.now c.close_node.new.self c.args.names.now c.unname_going.new.names files c.args.place.pid c.args.fd
-    c.requires.listed c.requires.owners hold (ap (λ (h : Heap). h.procs) c.unname_going.ensures.beside) (ap (λ (h : Heap). h.descs) c.unname_going.ensures.beside)
-    listed c.unname_going.ensures.owners (c.unname_going.ensures.hold numbers others c.args.tree.now files hold) (record { mid = c.close_one.new.heap; closes = c.close_one.ensures.closes; caches = c.close_node.ensures.pays.only }) (listed_beside c.close_one.new.heap c.close_node.new.heap c.close_node.ensures.pays.only c.args.procs.now c.close_one.ensures.listed)
-    (holds_without c.unname_going.new.heap c.close_one.new.heap c.args.procs.now c.args.place.pid c.args.fd c.args.purse.now c.args.tree.now listed c.unname_going.ensures.owners c.close_one.ensures.closes c.close_one.ensures.listed c.close_one.ensures.takes may
-    c.close_one.ensures.closed c.close_one.result (node_of_number c.unname_going.new.heap c.close_one.new.heap c.args.procs.now c.args.place.pid c.args.fd c.close_one.result listed c.close_one.ensures.closes c.close_one.ensures.node) c.in-Some.node c.in-Some.is c.close_node.new.heap c.close_node.new.self c.close_node.ensures.pays.only c.close_node.ensures.stands)
+    closed_names_hold numbers others c.args.heap.now c.unname_going.new.heap c.close_node.new.heap c.args.procs.now c.args.tree.now c.close_node.new.self c.args.names.now c.unname_going.new.names files c.args.place.pid c.args.found.now.number
+    (held_in c.args.found.now) c.args.found.now.desc c.requires.opened.names c.requires.opened.there c.requires.listed c.requires.owners hold (ap (λ (h : Heap). h.procs) c.unname_going.ensures.beside) (ap (λ (h : Heap). h.descs) c.unname_going.ensures.beside)
+    listed c.unname_going.ensures.owners (c.unname_going.ensures.hold numbers others c.args.procs.now c.args.tree.now files hold) (record { mid = c.close_one.new.heap; closes = c.close_one.ensures.closes; caches = c.close_node.ensures.pays.only }) (listed_beside c.close_one.new.heap c.close_node.new.heap c.close_node.ensures.pays.only c.args.procs.now c.close_one.ensures.listed)
+    (holds_without c.unname_going.new.heap c.close_one.new.heap c.args.procs.now c.args.place.pid c.args.found.now.number c.args.purse.now c.args.tree.now listed c.unname_going.ensures.owners c.close_one.ensures.closes c.close_one.ensures.listed c.close_one.ensures.takes may
+    c.close_one.ensures.closed c.close_one.result (node_of_number c.unname_going.new.heap c.close_one.new.heap c.args.procs.now c.args.place.pid c.args.found.now.number c.close_one.result listed c.close_one.ensures.closes c.close_one.ensures.node) c.in-Some.node c.in-Some.is c.close_node.new.heap c.close_node.new.self c.close_node.ensures.pays.only c.close_node.ensures.stands)
 
 pub returns-clause-hold : goal.returns-clause-hold
 returns-clause-hold c =
@@ -153,17 +160,17 @@ returns-clause-hold c =
     record {
       numbers = some.numbers;
       others = some.others;
-      files = after_close some.files c.args.place.pid c.args.fd;
-      hold = closed_names_hold some.numbers some.others c.args.heap.now c.unname_going.new.heap c.close_node.new.heap c.args.procs.now c.args.tree.now c.close_node.new.self c.args.names.now c.unname_going.new.names some.files c.args.place.pid c.args.fd
-          c.requires.listed c.requires.owners some.hold (ap (λ (h : Heap). h.procs) c.unname_going.ensures.beside) (ap (λ (h : Heap). h.descs) c.unname_going.ensures.beside)
-          listed c.unname_going.ensures.owners (c.unname_going.ensures.hold some.numbers some.others c.args.tree.now some.files some.hold) (record { mid = c.close_one.new.heap; closes = c.close_one.ensures.closes; caches = c.close_node.ensures.pays.only }) (listed_beside c.close_one.new.heap c.close_node.new.heap c.close_node.ensures.pays.only c.args.procs.now c.close_one.ensures.listed)
-          (holds_without c.unname_going.new.heap c.close_one.new.heap c.args.procs.now c.args.place.pid c.args.fd c.args.purse.now c.args.tree.now listed c.unname_going.ensures.owners c.close_one.ensures.closes c.close_one.ensures.listed c.close_one.ensures.takes may
-          c.close_one.ensures.closed c.close_one.result (node_of_number c.unname_going.new.heap c.close_one.new.heap c.args.procs.now c.args.place.pid c.args.fd c.close_one.result listed c.close_one.ensures.closes c.close_one.ensures.node) c.in-Some.node c.in-Some.is c.close_node.new.heap c.close_node.new.self c.close_node.ensures.pays.only c.close_node.ensures.stands);
+      files = after_close some.files c.args.place.pid c.args.found.now.number;
+      hold = closed_names_hold some.numbers some.others c.args.heap.now c.unname_going.new.heap c.close_node.new.heap c.args.procs.now c.args.tree.now c.close_node.new.self c.args.names.now c.unname_going.new.names some.files c.args.place.pid c.args.found.now.number
+          (held_in c.args.found.now) c.args.found.now.desc c.requires.opened.names c.requires.opened.there c.requires.listed c.requires.owners some.hold (ap (λ (h : Heap). h.procs) c.unname_going.ensures.beside) (ap (λ (h : Heap). h.descs) c.unname_going.ensures.beside)
+          listed c.unname_going.ensures.owners (c.unname_going.ensures.hold some.numbers some.others c.args.procs.now c.args.tree.now some.files some.hold) (record { mid = c.close_one.new.heap; closes = c.close_one.ensures.closes; caches = c.close_node.ensures.pays.only }) (listed_beside c.close_one.new.heap c.close_node.new.heap c.close_node.ensures.pays.only c.args.procs.now c.close_one.ensures.listed)
+          (holds_without c.unname_going.new.heap c.close_one.new.heap c.args.procs.now c.args.place.pid c.args.found.now.number c.args.purse.now c.args.tree.now listed c.unname_going.ensures.owners c.close_one.ensures.closes c.close_one.ensures.listed c.close_one.ensures.takes may
+          c.close_one.ensures.closed c.close_one.result (node_of_number c.unname_going.new.heap c.close_one.new.heap c.args.procs.now c.args.place.pid c.args.found.now.number c.close_one.result listed c.close_one.ensures.closes c.close_one.ensures.node) c.in-Some.node c.in-Some.is c.close_node.new.heap c.close_node.new.self c.close_node.ensures.pays.only c.close_node.ensures.stands);
     }
 
 pub returns-clause-closes : goal.returns-clause-closes
 returns-clause-closes c =
-    closes_before c.args.heap.now c.unname_going.new.heap c.close_node.new.heap c.args.procs.now c.args.place.pid c.args.fd c.unname_going.ensures.beside c.unname_going.ensures.takes.high
+    closes_before c.args.heap.now c.unname_going.new.heap c.close_node.new.heap c.args.procs.now c.args.place.pid c.args.found.now.number c.unname_going.ensures.beside c.unname_going.ensures.takes.high
     (record { mid = c.close_one.new.heap; closes = c.close_one.ensures.closes; caches = c.close_node.ensures.pays.only })
 
 pub returns-clause-listed : goal.returns-clause-listed
@@ -203,7 +210,7 @@ returns-clause-may c =
     c.unname_going.ensures.takes c.requires.may) in
     close_again c.close_one.new.heap c.close_node.new.heap c.args.purse.now c.close_node.new.purse c.args.tree.now c.close_node.new.self c.close_node.ensures.pays
     (c.close_node.ensures.dropped may.vnodes may.blocks)
-    (close_on c.unname_going.new.heap c.close_one.new.heap c.args.purse.now (number_caches c.unname_going.new.heap c.close_one.new.heap c.args.procs.now c.args.place.pid c.args.fd c.close_one.ensures.closes) c.close_one.ensures.takes may)
+    (close_on c.unname_going.new.heap c.close_one.new.heap c.args.purse.now (number_caches c.unname_going.new.heap c.close_one.new.heap c.args.procs.now c.args.place.pid c.args.found.now.number c.close_one.ensures.closes) c.close_one.ensures.takes may)
 
 pub returns-clause-paid : goal.returns-clause-paid
 returns-clause-paid c =
@@ -220,5 +227,5 @@ returns-clause-cached c =
 pub returns-clause-stays : goal.returns-clause-stays
 returns-clause-stays c = λ none.
     let listed = (listed_on c.args.heap.now c.unname_going.new.heap c.args.procs.now (ap (λ (h : Heap). h.procs) c.unname_going.ensures.beside) c.requires.listed) in
-    let node = (node_of_number c.unname_going.new.heap c.close_one.new.heap c.args.procs.now c.args.place.pid c.args.fd c.close_one.result listed c.close_one.ensures.closes c.close_one.ensures.node) in
-    absurd (let both : Some c.in-Some.node ≡ None = sym c.in-Some.is ∙ node ∙ (ap (λ (h : Heap). node_closed h.descs (named_at h c.args.procs.now c.args.place.pid c.args.fd)) c.unname_going.ensures.beside ∙ none) in cc)
+    let node = (node_of_number c.unname_going.new.heap c.close_one.new.heap c.args.procs.now c.args.place.pid c.args.found.now.number c.close_one.result listed c.close_one.ensures.closes c.close_one.ensures.node) in
+    absurd (let both : Some c.in-Some.node ≡ None = sym c.in-Some.is ∙ node ∙ (ap (λ (h : Heap). node_closed h.descs (named_at h c.args.procs.now c.args.place.pid c.args.found.now.number)) c.unname_going.ensures.beside ∙ none) in cc)

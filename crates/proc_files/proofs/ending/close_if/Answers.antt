@@ -24,13 +24,13 @@ returns-then-not-marked-clause-queues c = queues_same c.args.heap.now c.args.hea
 
 pub returns-clause-closed : goal.returns-clause-closed
 returns-clause-closed c = λ numbers others files hold.
-    subst (λ b. HoldNames numbers others c.close_open.new.heap c.args.procs.now c.close_open.new.tree c.close_open.new.names (cond b (after_close files c.args.place.pid c.args.fd) files)) (sym c.if-not-marked.false)
-    (c.close_open.ensures.closed numbers others files hold)
+    subst (λ b. HoldNames numbers others c.close_at.new.heap c.args.procs.now c.close_at.new.tree c.close_at.new.names (cond b (after_close files c.args.place.pid c.args.fd) files)) (sym c.if-not-marked.false)
+    (c.close_at.ensures.closed numbers others files hold)
 
 pub returns-clause-closes : goal.returns-clause-closes
 returns-clause-closes c =
-    subst (ClosesIf c.args.heap.now c.close_open.new.heap c.args.procs.now c.args.place.pid c.args.fd) (sym c.if-not-marked.false)
-    (marked_closes c.args.heap.now c.close_open.new.heap c.args.procs.now c.args.place.pid c.args.fd c.close_open.ensures.closes)
+    subst (ClosesIf c.args.heap.now c.close_at.new.heap c.args.procs.now c.args.place.pid c.args.fd) (sym c.if-not-marked.false)
+    (marked_closes c.args.heap.now c.close_at.new.heap c.args.procs.now c.args.place.pid c.args.fd c.close_at.ensures.closes)
 
 pub returns-then-not-marked-clause-goes : goal.returns-then-not-marked-clause-goes
 returns-then-not-marked-clause-goes c = λ numbers others files hold.
@@ -40,19 +40,19 @@ pub returns-clause-goes : goal.returns-clause-goes
 returns-clause-goes c = λ numbers others files hold.
     subst (λ b. OnlyGoes files (cond b (after_close files c.args.place.pid c.args.fd) files)) (sym c.if-not-marked.false)
     (only_goes files (after_close files c.args.place.pid c.args.fd) _
-    (closing_goes c.args.heap.now c.close_open.new.heap c.args.procs.now c.args.place.pid c.args.fd numbers files c.requires.listed c.requires.owners c.close_open.ensures.listed c.close_open.ensures.closes hold.held.opened
-    (c.close_open.ensures.closed numbers others files hold).held.opened))
+    (closing_goes c.args.heap.now c.close_at.new.heap c.args.procs.now c.args.place.pid c.args.fd numbers files c.requires.listed c.requires.owners c.close_at.ensures.listed c.close_at.ensures.closes hold.held.opened
+    (c.close_at.ensures.closed numbers others files hold).held.opened))
 
 pub returns-clause-stays : goal.returns-clause-stays
 returns-clause-stays c = λ numbers others files hold same.
-    c.close_open.ensures.stays
+    c.close_at.ensures.stays
     (none_goes files (after_close files c.args.place.pid c.args.fd) _
-    (closing_goes c.args.heap.now c.close_open.new.heap c.args.procs.now c.args.place.pid c.args.fd numbers files c.requires.listed c.requires.owners c.close_open.ensures.listed c.close_open.ensures.closes hold.held.opened
-    (c.close_open.ensures.closed numbers others files hold).held.opened)
+    (closing_goes c.args.heap.now c.close_at.new.heap c.args.procs.now c.args.place.pid c.args.fd numbers files c.requires.listed c.requires.owners c.close_at.ensures.listed c.close_at.ensures.closes hold.held.opened
+    (c.close_at.ensures.closed numbers others files hold).held.opened)
     (subst (λ b. (n : ℕ) → openings (cond b (after_close files c.args.place.pid c.args.fd) files) n ≡ openings files n) c.if-not-marked.false same))
 
 pub returns-then-not-marked-clause-cached : goal.returns-then-not-marked-clause-cached
 returns-then-not-marked-clause-cached c = cached_still c.args.tree.now
 
 pub returns-clause-cached : goal.returns-clause-cached
-returns-clause-cached c = c.close_open.ensures.cached
+returns-clause-cached c = c.close_at.ensures.cached

@@ -103,15 +103,15 @@ returns-then-found-number-clause-queues c = queues_same c.args.heap.now c.args.h
 
 pub share_at-requires-clause-used : goal.share_at-requires-clause-used
 share_at-requires-clause-used c =
-    let closes = c.close_open.ensures.closes in
-    ap is_some (desc_named c.close_open.new.heap c.args.procs.now [] c.close_open.ensures.listed c.close_open.ensures.owners c.args.place.pid c.in-Some.found.number (held_in c.in-Some.found)
+    let closes = c.close_at.ensures.closes in
+    ap is_some (desc_named c.close_at.new.heap c.args.procs.now [] c.close_at.ensures.listed c.close_at.ensures.owners c.args.place.pid c.in-Some.found.number (held_in c.in-Some.found)
     (ap (λ (h : Heap). named_at h c.args.procs.now c.args.place.pid c.in-Some.found.number) closes.caches
     ∙ others_stay c.args.heap.now closes.mid c.args.procs.now c.args.place.pid c.count_of-number.result c.in-Some.found.number c.requires.listed closes.closes c.if-found-number.false
     ∙ is_held_at c.args.heap.now c.args.procs.now c.args.place.pid c.args.on.now c.requires.opened c.in-Some.found c.in-Some.is)).1
 
 pub share_at-requires-clause-free : goal.share_at-requires-clause-free
 share_at-requires-clause-free c =
-    let closes = c.close_open.ensures.closes in
+    let closes = c.close_at.ensures.closes in
     let long = numbers_all c.args.heap.now closes.closes.key closes.closes.proc c.is_well_formed.ensures closes.closes.there in
     let to = to_z-of_z w64 c.args.to c.ranges.to in
     let within : may_be_descriptor c.args.to ≡ true =
@@ -120,14 +120,6 @@ share_at-requires-clause-free c =
     let few = within_most c.args.to within in
     ap (λ (h : Heap). named_at h c.args.procs.now c.args.place.pid c.count_of-number.result) closes.caches
     ∙ closed_names_nothing c.args.heap.now closes.mid c.args.procs.now c.args.place.pid c.count_of-number.result c.requires.listed closes.closes (omega (arith, few, long, number_is))
-
-pub close_open-requires-clause-number : goal.close_open-requires-clause-number
-close_open-requires-clause-number c =
-    let to = to_z-of_z w64 c.args.to c.ranges.to in
-    let within : may_be_descriptor c.args.to ≡ true =
-    sym (subst (λ z. c.may_be_descriptor.result ≡ may_be_descriptor z) to c.may_be_descriptor.ensures) ∙ c.if-not-may_be_descriptor.false in
-    let number_is : c.count_of-number.result ≡ count_of c.args.to = subst (λ z. c.count_of-number.result ≡ count_of z) to c.count_of-number.ensures in
-    let few = within_most c.args.to within in omega (arith, few, number_is)
 
 pub share_at-requires-clause-number : goal.share_at-requires-clause-number
 share_at-requires-clause-number c =
@@ -146,7 +138,7 @@ returns-clause-answers c = λ numbers others script plain hold.
     sym (subst (λ z. c.may_be_descriptor.result ≡ may_be_descriptor z) to c.may_be_descriptor.ensures) ∙ c.if-not-may_be_descriptor.false in
     let from_is = is_counted c.args.heap.now c.args.procs.now c.args.place.pid c.args.on.now c.requires.opened c.in-Some.found c.in-Some.is in
     let number_is : c.count_of-number.result ≡ count_of c.args.to = subst (λ z. c.count_of-number.result ≡ count_of z) to c.count_of-number.ensures in
-    let closed = c.close_open.ensures.closed numbers others plain.files hold in
+    let closed = c.close_at.ensures.closed numbers others plain.files hold in
     record {
       files = shared_at (after_close plain.files c.args.place.pid c.count_of-number.result) c.args.place.pid (record { place = numbers.descs c.in-Some.found.key; is = (counted_in numbers c.in-Some.found.desc).is }) c.count_of-number.result;
       replies =
@@ -157,7 +149,7 @@ returns-clause-answers c = λ numbers others script plain hold.
           (with_files plain (shared_at (after_close plain.files c.args.place.pid n) c.args.place.pid (record { place = numbers.descs c.in-Some.found.key; is = (counted_in numbers c.in-Some.found.desc).is }) n)) c.args.place.pid
           (Val (pos n)))
           (sym number_is);
-      holds = hold_named numbers others c.close_open.new.heap c.share_at.new.heap c.args.procs.now c.close_open.new.tree c.close_open.new.names (after_close plain.files c.args.place.pid c.count_of-number.result) c.args.place.pid c.count_of-number.result
+      holds = hold_named numbers others c.close_at.new.heap c.share_at.new.heap c.args.procs.now c.close_at.new.tree c.close_at.new.names (after_close plain.files c.args.place.pid c.count_of-number.result) c.args.place.pid c.count_of-number.result
           (Some (record { description = numbers.descs c.in-Some.found.key; cloexec = false })) c.share_at.ensures.beside closed
           (c.share_at.ensures.opened numbers (after_close plain.files c.args.place.pid c.count_of-number.result) closed.held.opened);
     }
@@ -165,42 +157,42 @@ returns-clause-answers c = λ numbers others script plain hold.
 pub returns-clause-hold : goal.returns-clause-hold
 returns-clause-hold c =
     let some = c.requires.hold in
-    let closed = c.close_open.ensures.closed some.numbers some.others some.files some.hold in
+    let closed = c.close_at.ensures.closed some.numbers some.others some.files some.hold in
     record {
       numbers = some.numbers;
       others = some.others;
       files = _;
-      hold = hold_named some.numbers some.others c.close_open.new.heap c.share_at.new.heap c.args.procs.now c.close_open.new.tree c.close_open.new.names (after_close some.files c.args.place.pid c.count_of-number.result) c.args.place.pid
+      hold = hold_named some.numbers some.others c.close_at.new.heap c.share_at.new.heap c.args.procs.now c.close_at.new.tree c.close_at.new.names (after_close some.files c.args.place.pid c.count_of-number.result) c.args.place.pid
           c.count_of-number.result (Some (record { description = some.numbers.descs c.in-Some.found.key; cloexec = false }))
           c.share_at.ensures.beside closed (c.share_at.ensures.opened some.numbers (after_close some.files c.args.place.pid c.count_of-number.result) closed.held.opened);
     }
 
 pub returns-clause-changes : goal.returns-clause-changes
 returns-clause-changes c =
-    holding_then c.args.heap.now c.close_open.new.heap c.share_at.new.heap c.args.procs.now c.args.place.pid
-    (holding_closed c.args.heap.now c.close_open.new.heap c.args.procs.now c.args.place.pid c.count_of-number.result c.close_open.ensures.closes)
-    (holding_of c.close_open.new.heap c.share_at.new.heap c.args.procs.now c.args.place.pid c.share_at.ensures.changes)
+    holding_then c.args.heap.now c.close_at.new.heap c.share_at.new.heap c.args.procs.now c.args.place.pid
+    (holding_closed c.args.heap.now c.close_at.new.heap c.args.procs.now c.args.place.pid c.count_of-number.result c.close_at.ensures.closes)
+    (holding_of c.close_at.new.heap c.share_at.new.heap c.args.procs.now c.args.place.pid c.share_at.ensures.changes)
 
 pub returns-clause-queues : goal.returns-clause-queues
 returns-clause-queues c =
-    queues_then c.args.heap.now c.close_open.new.heap c.share_at.new.heap c.close_open.ensures.queues
-    (queues_same c.close_open.new.heap c.share_at.new.heap (ap (λ (h : Heap). h.pipes) c.share_at.ensures.beside) (ap (λ (h : Heap). h.socks) c.share_at.ensures.beside))
+    queues_then c.args.heap.now c.close_at.new.heap c.share_at.new.heap c.close_at.ensures.queues
+    (queues_same c.close_at.new.heap c.share_at.new.heap (ap (λ (h : Heap). h.pipes) c.share_at.ensures.beside) (ap (λ (h : Heap). h.socks) c.share_at.ensures.beside))
 
 pub returns-clause-paid : goal.returns-clause-paid
 returns-clause-paid c =
-    IsPaid-trans c.args.heap.now c.args.back.now c.close_open.new.heap c.close_open.new.purse c.share_at.new.heap c.close_open.new.purse c.close_open.ensures.paid
-    (IsPaid-nothing c.close_open.new.heap c.share_at.new.heap c.close_open.new.purse c.close_open.new.purse c.share_at.ensures.takes refl refl)
+    IsPaid-trans c.args.heap.now c.args.back.now c.close_at.new.heap c.close_at.new.purse c.share_at.new.heap c.close_at.new.purse c.close_at.ensures.paid
+    (IsPaid-nothing c.close_at.new.heap c.share_at.new.heap c.close_at.new.purse c.close_at.new.purse c.share_at.ensures.takes refl refl)
 
 pub returns-clause-stays : goal.returns-clause-stays
 returns-clause-stays c = λ none.
     let to = to_z-of_z w64 c.args.to c.ranges.to in
     let from_is = is_counted c.args.heap.now c.args.procs.now c.args.place.pid c.args.on.now c.requires.opened c.in-Some.found c.in-Some.is in
     let number_is : c.count_of-number.result ≡ count_of c.args.to = subst (λ z. c.count_of-number.result ≡ count_of z) to c.count_of-number.ensures in
-    c.close_open.ensures.stays
+    c.close_at.ensures.stays
     (ap (λ n. node_closed c.args.heap.now.descs (named_at c.args.heap.now c.args.procs.now c.args.place.pid n)) number_is
     ∙ sym (ap (λ b. cond b None (node_closed c.args.heap.now.descs (named_at c.args.heap.now c.args.procs.now c.args.place.pid (count_of c.args.to))))
     (ne_eqb (count_of c.args.on.now.fd) (count_of c.args.to) (λ same. c.if-found-number.false (from_is ∙ same ∙ sym number_is))))
     ∙ none)
 
 pub share_at-requires-clause-pays : goal.share_at-requires-clause-pays
-share_at-requires-clause-pays c = can_pay_beside c.args.heap.now c.close_open.new.heap c.args.back.now c.close_open.new.purse c.args.purse.now c.close_open.ensures.paid c.close_open.ensures.same c.requires.pays
+share_at-requires-clause-pays c = can_pay_beside c.args.heap.now c.close_at.new.heap c.args.back.now c.close_at.new.purse c.args.purse.now c.close_at.ensures.paid c.close_at.ensures.same c.requires.pays

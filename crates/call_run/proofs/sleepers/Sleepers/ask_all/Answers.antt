@@ -1,5 +1,5 @@
-use Rattle.std.proofs.Common.{◌≡◌, ◌≤◌, ◌+◌, ◌∙◌, length, ap, sym, subst, arith}
-use Rattle.call_run.specs.Sleepers.{AreMinded, channel_at}
+use Rattle.std.proofs.Common.{◌≡◌, ◌∙◌, length, ap, arith}
+use Rattle.call_run.specs.Sleepers.{channel_at}
 use Rattle.call_run.specs.Stores.{SleepersView}
 use Rattle.call_run.proofs.Minding.{minded_alone}
 use Rattle.call_run.proofs.sleepers.Sleepers.ask_all.Goals as goal

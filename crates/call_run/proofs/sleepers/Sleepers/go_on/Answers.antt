@@ -1,4 +1,4 @@
-use Rattle.std.proofs.Common.{◌≡◌, None, [], refl, sym, subst}
+use Rattle.std.proofs.Common.{◌≡◌, None, [], sym, subst}
 use Rattle.call_run.specs.Sleepers.{told_of}
 use Rattle.call_run.proofs.Minding.{up_behind}
 use Rattle.call_run.proofs.Telling.{names_then, none_without}

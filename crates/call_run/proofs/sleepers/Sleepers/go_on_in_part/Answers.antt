@@ -1,4 +1,4 @@
-use Rattle.std.proofs.Common.{◌≡◌, Bool, true, false, not, [], refl, sym, ap, subst, ◌∙◌, inl, inr}
+use Rattle.std.proofs.Common.{◌≡◌, Bool, true, false, not, [], refl, sym, subst, inl, inr}
 use Rattle.posix_defs.specs.Machine.{would_block}
 use Rattle.call_run.specs.Sleepers.{AreMinded}
 use Rattle.call_run.proofs.Minding.{alive_some, doubted_minded, lain_minded, part_lives}

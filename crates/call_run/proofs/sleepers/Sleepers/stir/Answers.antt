@@ -2,7 +2,7 @@ use Rattle.std.proofs.Common.{◌≡◌, sym, ap, rules, subst, w64, ◌∙◌}
 use Rattle.std.proofs.lemmas.Int.{to_z-of_z}
 use mir.Val.{of_z, to_z}
 use Rattle.call_run.specs.declared.sleepers.Stirs.TheVariants.{Through}
-use Rattle.call_run.specs.Sleepers.{AreMinded, came_of, stirs_of}
+use Rattle.call_run.specs.Sleepers.{AreMinded, stirs_of}
 use Rattle.call_run.proofs.Minding.{nobody_forgotten, nobody_stirred}
 use Rattle.call_run.proofs.sleepers.Sleepers.stir.Goals as goal
 

@@ -1,4 +1,4 @@
-use Rattle.std.proofs.Common.{◌≡◌, ℕ, true, false, ◌+◌, ◌≤◌, ◌∙◌, ap, arith, refl, subst, sym}
+use Rattle.std.proofs.Common.{◌≡◌, ℕ, ◌+◌, ◌≤◌, ◌∙◌, ap, arith, refl, subst, sym}
 use Rattle.std.specs.Prelude.{codes}
 use Rattle.kabi_types.specs.declared.scripts.Script.{Script}
 use Rattle.machine_laws.specs.Reached.{boots}
@@ -9,7 +9,6 @@ use Rattle.posix_defs.specs.ValidScript.{IsValid}
 use Rattle.posix_defs.specs.World.{boot_world, live_of}
 use Rattle.store_objects.specs.Objects.{AreKept}
 use Rattle.store_objects.proofs.Booting.{boot_stands, boot_stands_for}
-use Rattle.store_objects.specs.Standing.{StandsFor}
 use Rattle.std.specs.List.{AllByRecursion}
 use Rattle.call_run.specs.Sleepers.{IsTrulyTold}
 use Rattle.call_run.specs.Stores.{Stands}

@@ -1,4 +1,4 @@
-use Rattle.std.proofs.Common.{refl, ap, sym, subst}
+use Rattle.std.proofs.Common.{ap, sym, subst}
 use Rattle.posix_defs.specs.Minding.{HasNamed}
 use Rattle.call_run.specs.Sleepers.{AreMinded, is_settled}
 use Rattle.call_run.specs.Stores.{IsAtRest, IsStoreOf, SleepersView, Stands}

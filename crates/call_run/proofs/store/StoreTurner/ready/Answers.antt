@@ -1,4 +1,4 @@
-use Rattle.std.proofs.Common.{◌≡◌, ap, not, subst, sym, ◌∙◌}
+use Rattle.std.proofs.Common.{ap, not, subst, sym, ◌∙◌}
 use Rattle.posix_defs.specs.Machine.{would_block}
 use Rattle.store_objects.specs.Standing.{StandsFor}
 use Rattle.call_run.specs.Stores.{Stands}

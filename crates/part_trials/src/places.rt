@@ -1,5 +1,7 @@
-use crate::{Kept, Places};
+//! Places that are given in order, by hand.
+
 use kabi_types::Memory;
+use kept_places::{Kept, Places};
 use std::alloc::Global;
 use std::test::Fail;
 

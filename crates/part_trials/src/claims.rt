@@ -1,4 +1,6 @@
-use crate::claim_of;
+//! What lines of a history claim, by hand.
+
+use claim_lines::claim_of;
 use kabi_types::Cached;
 use run_pasts::{Claim, Deed};
 use std::test::Fail;

@@ -1,6 +1,8 @@
-use crate::circle;
+//! Chains of waits that are closed and that aren't, by hand.
+
 use std::process::Abort;
 use std::test::Fail;
+use wait_graph::circle;
 
 // Who waits for whom, of whom it is asked, and whether a chain leads back there.
 const ROWS: &[(&[(usize, u32)], u32, bool)] = &[
