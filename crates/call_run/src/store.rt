@@ -105,8 +105,6 @@ impl<F: Scorer, G: Scorer> Turner for Store<F, G> {
 
     ghost stirred = { λ store. store.sleepers.stirred };
 
-    // A call has room for two paths: each function that hands one on pays for that room once more.
-    #[inline(never)]
     fn next(&self, pid: u32) -> Call {
         turns::next(&self.script, &self.objects, pid)
     }

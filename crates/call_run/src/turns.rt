@@ -1,6 +1,6 @@
 //! Turns over a script and its objects, as the core asks for them.
 
-ghost use Rattle.std.specs.Prelude.{◌≡◌, ◌≢◌, ◌+◌, ◌%◌, ◌^◌, ◌≤◌, true, false};
+ghost use Rattle.std.specs.Prelude.{◌≡◌, ◌≢◌, ◌+◌, ◌%◌, ◌^◌, ◌≤◌, option_copied, true, false};
 ghost use Rattle.file_calls.specs.Bytes.{ReadsCached};
 ghost use Rattle.kabi_types.specs.declared.scripts.Script.{Script};
 ghost use Rattle.posix_defs.specs.Needs.{bound, need_of, slack};
@@ -11,18 +11,31 @@ ghost use Rattle.posix_defs.specs.Sizes.{reserve};
 ghost use Rattle.posix_defs.specs.Turn.{TurnsTo};
 ghost use Rattle.posix_defs.specs.World.{World, can_evict, live_of};
 ghost use Rattle.prog_ctl.specs.Waits.{asked_for, wait_of};
-ghost use Rattle.store_objects.specs.Objects.{AreKept};
+ghost use Rattle.proc_table.specs.Procs.{proc_of};
+ghost use Rattle.proc_table.specs.Table.{AreStored};
+ghost use Rattle.store_objects.specs.Objects.{AreKept, procs_of};
 ghost use Rattle.store_objects.specs.Standing.{StandsFor};
 ghost use Rattle.store_objects.specs.Uses.{UsesAtMost};
 ghost use Rattle.call_run.specs.Stores.{IsAtRest, IsStoreOf};
 
 use crate::calls::{self, Buffers};
 use kabi_types::{Cached, Call, Errno, Need, Reply, Script};
+use kheap_slabs::Proc;
 use posix_defs::{Asked, Turned};
 use proc_table::Place;
 use process_calls::{INIT, SIGKILL, end};
 use prog_ctl::Awaited;
 use store_objects::{Objects, go_on};
+
+/// The process of that pid; None exactly where none is there. It stands by itself: so who makes a process's call is small enough to be one
+/// function with who has it run, where the call stays in one place.
+#[inline(never)]
+fn proc_at(objects: &Objects, pid: u32) -> Option<&Proc>
+    requires { AreStored objects.now.heap.procs objects.now.procs.listed }
+    ensures { option_copied result ≡ proc_of (procs_of objects.now) pid }
+{
+    objects.proc(pid)
+}
 
 /// The call that a live process makes next.
 pub fn next(script: &Script, objects: &Objects, pid: u32) -> Call
@@ -30,7 +43,7 @@ pub fn next(script: &Script, objects: &Objects, pid: u32) -> Call
     ensures { (world : World) → StandsFor script.now objects.now world → is_alive world.plain.table pid ≡ true
         → result ≡ call_of script.now world.plain pid }
 {
-    let Some(proc) = objects.proc(pid) else {
+    let Some(proc) = proc_at(objects, pid) else {
         unreachable!();
     };
     prog_ctl::call_here(script, &proc.control)

@@ -1,4 +1,5 @@
-//! The call that a statement makes of its operands.
+//! The call that a statement makes of its operands. A call has room for two paths. What the arms of a `match` come to is put together in
+//! room of its own and copied from there, so an arm that makes a call returns it.
 
 ghost use Rattle.std.specs.Prelude.{◌≡◌, ℕ, ℤ, List, ◌≤◌, drop, length, map, IfSome, option_copied};
 ghost use Rattle.std.specs.List.{AllByRecursion};
@@ -99,22 +100,22 @@ fn made_on_path(kind: CallKind, texts: &[Text]) -> Call
     ensures { (numbers : List ℤ) (done : ℕ) → TakesPath kind → result ≡ spec.made kind numbers texts.now done }
 {
     match kind {
-        CallKind::Exec => Call::Exec {
+        CallKind::Exec => return Call::Exec {
             path: path_at(texts, 0),
         },
-        CallKind::Stat => Call::Stat {
+        CallKind::Stat => return Call::Stat {
             path: path_at(texts, 0),
         },
-        CallKind::Chdir => Call::Chdir {
+        CallKind::Chdir => return Call::Chdir {
             path: path_at(texts, 0),
         },
-        CallKind::Mkdir => Call::Mkdir {
+        CallKind::Mkdir => return Call::Mkdir {
             path: path_at(texts, 0),
         },
-        CallKind::Rmdir => Call::Rmdir {
+        CallKind::Rmdir => return Call::Rmdir {
             path: path_at(texts, 0),
         },
-        CallKind::Unlink => Call::Unlink {
+        CallKind::Unlink => return Call::Unlink {
             path: path_at(texts, 0),
         },
         _ => Call::SchedYield,
@@ -131,23 +132,23 @@ fn made_with_texts(control: &Control, kind: CallKind, operands: &[Operand], text
     ensures { (done : ℕ) → TakesMore kind → result ≡ spec.made kind (map (value_of control.now) operands.now) texts.now done }
 {
     match kind {
-        CallKind::Store => Call::Store {
+        CallKind::Store => return Call::Store {
             addr: operand_at(control, operands, 0),
             bytes: bytes_at(texts, 0),
         },
-        CallKind::OpenFile => Call::OpenFile {
+        CallKind::OpenFile => return Call::OpenFile {
             path: path_at(texts, 0),
             flags: operand_at(control, operands, 0),
         },
-        CallKind::Link => Call::Link {
+        CallKind::Link => return Call::Link {
             old: path_at(texts, 0),
             new: path_at(texts, 1),
         },
-        CallKind::Rename => Call::Rename {
+        CallKind::Rename => return Call::Rename {
             old: path_at(texts, 0),
             new: path_at(texts, 1),
         },
-        CallKind::Poll => Call::Poll {
+        CallKind::Poll => return Call::Poll {
             timeout: operand_at(control, operands, 0),
             entries: entries_of(numbers_of(control, operands).as_slice()),
         },
@@ -162,30 +163,30 @@ fn made_of_bytes(control: &Control, kind: CallKind, operands: &[Operand]) -> Cal
     ensures { (texts : List (List ℕ)) → MovesBytes kind → result ≡ spec.made kind (map (value_of control.now) operands.now) texts control.now.done }
 {
     match kind {
-        CallKind::Read => Call::Read {
+        CallKind::Read => return Call::Read {
             fd: operand_at(control, operands, 0),
             addr: operand_at(control, operands, 1),
             n: operand_at(control, operands, 2),
         },
-        CallKind::Write => Call::Write {
+        CallKind::Write => return Call::Write {
             fd: operand_at(control, operands, 0),
             addr: operand_at(control, operands, 1),
             n: operand_at(control, operands, 2),
             done: control.done,
         },
-        CallKind::Pread => Call::Pread {
+        CallKind::Pread => return Call::Pread {
             fd: operand_at(control, operands, 0),
             addr: operand_at(control, operands, 1),
             n: operand_at(control, operands, 2),
             at: operand_at(control, operands, 3),
         },
-        CallKind::Pwrite => Call::Pwrite {
+        CallKind::Pwrite => return Call::Pwrite {
             fd: operand_at(control, operands, 0),
             addr: operand_at(control, operands, 1),
             n: operand_at(control, operands, 2),
             at: operand_at(control, operands, 3),
         },
-        CallKind::Readdir => Call::Readdir {
+        CallKind::Readdir => return Call::Readdir {
             fd: operand_at(control, operands, 0),
             addr: operand_at(control, operands, 1),
             n: operand_at(control, operands, 2),
@@ -201,31 +202,31 @@ fn made_on_descriptor(control: &Control, kind: CallKind, operands: &[Operand]) -
     ensures { (texts : List (List ℕ)) (done : ℕ) → TakesDescriptor kind → result ≡ spec.made kind (map (value_of control.now) operands.now) texts done }
 {
     match kind {
-        CallKind::Close => Call::Close {
+        CallKind::Close => return Call::Close {
             fd: operand_at(control, operands, 0),
         },
-        CallKind::Dup => Call::Dup {
+        CallKind::Dup => return Call::Dup {
             fd: operand_at(control, operands, 0),
         },
-        CallKind::Dup2 => Call::Dup2 {
+        CallKind::Dup2 => return Call::Dup2 {
             fd: operand_at(control, operands, 0),
             to: operand_at(control, operands, 1),
         },
-        CallKind::Fcntl => Call::Fcntl {
+        CallKind::Fcntl => return Call::Fcntl {
             fd: operand_at(control, operands, 0),
             cmd: operand_at(control, operands, 1),
             arg: operand_at(control, operands, 2),
         },
-        CallKind::Lseek => Call::Lseek {
+        CallKind::Lseek => return Call::Lseek {
             fd: operand_at(control, operands, 0),
             offset: operand_at(control, operands, 1),
             whence: operand_at(control, operands, 2),
         },
-        CallKind::Ftruncate => Call::Ftruncate {
+        CallKind::Ftruncate => return Call::Ftruncate {
             fd: operand_at(control, operands, 0),
             length: operand_at(control, operands, 1),
         },
-        CallKind::Fstat => Call::Fstat {
+        CallKind::Fstat => return Call::Fstat {
             fd: operand_at(control, operands, 0),
         },
         _ => Call::SchedYield,
@@ -240,23 +241,23 @@ fn made_on_socket(control: &Control, kind: CallKind, operands: &[Operand], texts
     ensures { (done : ℕ) → TakesSocket kind → result ≡ spec.made kind (map (value_of control.now) operands.now) texts.now done }
 {
     match kind {
-        CallKind::Socket => Call::Socket,
-        CallKind::Socketpair => Call::Socketpair,
-        CallKind::Bind => Call::Bind {
+        CallKind::Socket => return Call::Socket,
+        CallKind::Socketpair => return Call::Socketpair,
+        CallKind::Bind => return Call::Bind {
             fd: operand_at(control, operands, 0),
             path: path_at(texts, 0),
         },
-        CallKind::Listen => Call::Listen {
+        CallKind::Listen => return Call::Listen {
             fd: operand_at(control, operands, 0),
         },
-        CallKind::Connect => Call::Connect {
+        CallKind::Connect => return Call::Connect {
             fd: operand_at(control, operands, 0),
             path: path_at(texts, 0),
         },
-        CallKind::Accept => Call::Accept {
+        CallKind::Accept => return Call::Accept {
             fd: operand_at(control, operands, 0),
         },
-        CallKind::Shutdown => Call::Shutdown {
+        CallKind::Shutdown => return Call::Shutdown {
             fd: operand_at(control, operands, 0),
             how: operand_at(control, operands, 1),
         },
@@ -309,31 +310,31 @@ pub(crate) fn made(control: &Control, kind: CallKind, operands: &[Operand], text
     ensures { result ≡ spec.made kind (map (value_of control.now) operands.now) texts.now control.now.done }
 {
     match kind {
-        CallKind::Getpid => Call::Getpid,
-        CallKind::Getppid => Call::Getppid,
-        CallKind::SchedYield => Call::SchedYield,
-        CallKind::Fork => Call::Fork,
+        CallKind::Getpid => return Call::Getpid,
+        CallKind::Getppid => return Call::Getppid,
+        CallKind::SchedYield => return Call::SchedYield,
+        CallKind::Fork => return Call::Fork,
         CallKind::Exec => made_on_path(kind, texts),
-        CallKind::Exit => Call::Exit {
+        CallKind::Exit => return Call::Exit {
             status: operand_at(control, operands, 0),
         },
-        CallKind::Waitpid => Call::Waitpid {
+        CallKind::Waitpid => return Call::Waitpid {
             pid: operand_at(control, operands, 0),
             options: operand_at(control, operands, 1),
         },
-        CallKind::Kill => Call::Kill {
+        CallKind::Kill => return Call::Kill {
             pid: operand_at(control, operands, 0),
             signal: operand_at(control, operands, 1),
         },
-        CallKind::Mmap => Call::Mmap {
+        CallKind::Mmap => return Call::Mmap {
             length: operand_at(control, operands, 0),
         },
-        CallKind::Munmap => Call::Munmap {
+        CallKind::Munmap => return Call::Munmap {
             addr: operand_at(control, operands, 0),
             length: operand_at(control, operands, 1),
         },
         CallKind::Store => made_with_texts(control, kind, operands, texts),
-        CallKind::Load => Call::Load {
+        CallKind::Load => return Call::Load {
             addr: operand_at(control, operands, 0),
             n: operand_at(control, operands, 1),
         },

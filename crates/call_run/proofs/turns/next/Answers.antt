@@ -5,21 +5,21 @@ use Rattle.store_objects.proofs.RunningProcs.{alive_runs}
 use Rattle.call_run.proofs.Turning.{missing, next_is, up_at_call}
 use Rattle.call_run.proofs.turns.next.Goals as goal
 
-pub proc-requires : goal.proc-requires
-proc-requires c = let alive = c.requires in alive.1.kept.holds.stored
+pub proc_at-requires : goal.proc_at-requires
+proc_at-requires c = let alive = c.requires in alive.1.kept.holds.stored
 
 pub unreachable-requires : goal.unreachable-requires
 unreachable-requires c =
     let alive = c.requires in
     let up = alive_runs c.args.script.now c.args.objects.now alive.0.plain c.args.pid alive.1.processes alive.2 in
-    missing (proc_of (procs_of c.args.objects.now) c.args.pid) up.proc (sym c.proc.ensures ∙ ap option_copied c.in_default.is) up.there
+    missing (proc_of (procs_of c.args.objects.now) c.args.pid) up.proc (sym c.proc_at.ensures ∙ ap option_copied c.in_default.is) up.there
 
 pub call_here-requires : goal.call_here-requires
 call_here-requires c =
     let alive = c.requires in
-    let at = up_at_call c.args.script.now c.args.objects.now alive.0 c.args.pid c.in-Some.proc.now alive.1 alive.2 (sym c.proc.ensures ∙ ap option_copied c.in-Some.is) in
+    let at = up_at_call c.args.script.now c.args.objects.now alive.0 c.args.pid c.in-Some.proc.now alive.1 alive.2 (sym c.proc_at.ensures ∙ ap option_copied c.in-Some.is) in
     record { stands = at.stands; rests = at.rests }
 
 pub returns : goal.returns
 returns c = λ world stands alive.
-    c.call_here.ensures ∙ next_is c.args.script.now c.args.objects.now world c.args.pid c.in-Some.proc.now stands alive (sym c.proc.ensures ∙ ap option_copied c.in-Some.is)
+    c.call_here.ensures ∙ next_is c.args.script.now c.args.objects.now world c.args.pid c.in-Some.proc.now stands alive (sym c.proc_at.ensures ∙ ap option_copied c.in-Some.is)
