@@ -23,7 +23,7 @@ def used(blocks):
     lines = ["heap 1048576", "steps STEPS", "disk 4096", "program init"]
     left, k = blocks, 0
     while left > 0:
-        # The greatest file has 266 blocks of bytes and one of pointers.
+        # A file of 266 blocks of bytes takes one of pointers; a greater one would take two more.
         taken = min(left, 267)
         data = taken - 1 if taken > 10 else taken
         lines += [f'r2 = open "/u{k}" O_RDWR|O_CREAT', f"r1 = ftruncate r2 {1024 * data}", "r1 = close r2"]

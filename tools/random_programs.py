@@ -81,7 +81,7 @@ class Program:
             "readdir": lambda: f"{self.fd(call)} {self.address()} {rng.choice(['32', '64', '0', '31', '320'])}",
             "lseek": lambda: f"{self.fd(call)} {rng.choice(['0', '5', '-1', '32'])} "
                              f"{rng.choice(['SEEK_SET', 'SEEK_CUR', 'SEEK_END', '7'])}",
-            "ftruncate": lambda: f"{self.fd(call)} {rng.choice(['0', '5', '2000', '12000', '272384', '272385', '-1'])}",
+            "ftruncate": lambda: f"{self.fd(call)} {rng.choice(['0', '5', '2000', '12000', '272384', '272385', '67381248', '67381249', '-1'])}",
             "shutdown": lambda: f"{self.fd(call)} {rng.choice(['SHUT_RD', 'SHUT_WR', 'SHUT_RDWR', '5'])}",
             "open": lambda: f"{self.path()} {rng.choice(FLAGS)}",
             "poll": self.polled,

@@ -207,11 +207,13 @@ write $f r0 9000
 again
 pwrite $f r0 # 270000
 ? pwrite $f r0 # 272384
+? pwrite $f r0 # 67381248
 ? lseek $f 272384 SEEK_SET
 ? fcntl $f F_SETFL O_APPEND
 write $f r0 #
 ftruncate $f 60000
 ? ftruncate $f 272385
+? ftruncate $f 67381249
 open @other O_RDWR|O_CREAT
 mkdir @dir
 ? lseek $f 0 SEEK_SET

@@ -1,16 +1,28 @@
 -- Blocks that are read and written.
 use Rattle.std.proofs.Common.{◌≡◌, ◌≢◌, ℕ, ◌<◌, ◌≤◌, Some, inl, inr, List, [], length, set, sym, ap, ◌∙◌, arith}
 use Rattle.std.specs.Prelude.{slice_get}
-use Rattle.std.proofs.lemmas.Bool.{cases_eq}
+use Rattle.std.proofs.lemmas.Bool.{cases_lt, cases_eq}
 use Rattle.std.proofs.lemmas.List.{get_or-set_same, get_or-set_other}
 use Rattle.std.proofs.lemmas.Option.{get_or_from_slice_get}
 use Rattle.kabi_types.specs.declared.inodes.Inode.{Inode}
-use Rattle.posix_defs.specs.DiskFormat.{table_nodes, table_end, inode_bytes}
-use Rattle.posix_defs.specs.SoundDisk.{block_bytes, table_block, table_slot, slot_bytes, table_bytes}
+use Rattle.posix_defs.specs.DiskFormat.{table_nodes, table_end, IsForFiles, inode_bytes}
+use Rattle.posix_defs.specs.SoundDisk.{block_bytes, table_block, table_slot, slot_bytes, table_bytes, Sound, IsFreeBlock}
 
 -- what was got is the block
 pub got : (disk : List (List ℕ)) (number : ℕ) (bytes : List ℕ) → slice_get disk number ≡ Some bytes → block_bytes disk number ≡ bytes
 got disk number bytes e = get_or_from_slice_get disk number bytes [] e
+
+-- what was written there is there
+pub written_is : (before between after : List (List ℕ)) (number : ℕ) (bytes : List ℕ) → number < length before → between ≡ before → after ≡ set between number bytes → block_bytes after number ≡ bytes
+written_is before between after number bytes within kept is =
+    ap (λ (disk : List (List ℕ)). block_bytes disk number) (is ∙ ap (λ (disk : List (List ℕ)). set disk number bytes) kept) ∙ get_or-set_same before number bytes [] within
+
+-- what is free is for files
+pub free_is_for_files : (disk : List (List ℕ)) → Sound disk → (block : ℕ) → IsFreeBlock disk block → IsForFiles (length disk) block
+free_is_for_files disk sound block free = elim (cases_lt (table_end (length disk)) block) [
+  | inl above ↦ (above, free.0)
+  | inr low ↦ absurd (free.1 ((sound.map block free.0).1 (inl low)))
+]
 
 pub in_table : (blocks node : ℕ) → 0 < node → node ≤ table_nodes blocks → (0 < table_block node) × (table_block node ≤ table_end blocks)
 in_table blocks node pos within = (omega arith, omega (arith, pos, within))

@@ -1,10 +1,12 @@
 -- Free blocks that are found one after another.
-use Rattle.std.proofs.Common.{◌≡◌, ◌≢◌, ℕ, zero, suc, ◌+◌, ◌-◌, ◌<◌, ◌≤◌, Bool, not, eqb, ◌⊎◌, inl, inr, List, length, get_or, set, sym, ap, subst, ◌∙◌, arith}
+use Rattle.std.proofs.Common.{◌≡◌, ◌≢◌, ℕ, zero, suc, ◌+◌, ◌-◌, ◌<◌, ◌≤◌, Bool, not, Some, eqb, ◌⊎◌, inl, inr, List, length, get_or, set, sym, ap, subst, ◌∙◌, arith}
+use Rattle.std.specs.Prelude.{slice_get}
 use Rattle.std.proofs.lemmas.Bool.{cases_eq, eq-eqb, ne_eqb}
 use Rattle.std.proofs.lemmas.List.{get_or-set_same, get_or-set_other}
-use Rattle.posix_defs.specs.SoundDisk.{bit_of}
+use Rattle.posix_defs.specs.SoundDisk.{bit_of, block_bytes, free_in_map}
 use Rattle.disk_laws.proofs.FreeBlocks.{numbers, one, numbers-suc}
 use Rattle.blk_map.specs.Found.{free_below}
+use Rattle.blk_map.proofs.Blocks.{got}
 
 -- ---- how many numbers of a range pass, from its end
 
@@ -121,3 +123,10 @@ pub free_one : (map : List ℕ) (number : ℕ) → bit_of map number ≢ 1 → f
 free_one map number free =
     let more : one (not (eqb (bit_of map number) 1)) ≡ 1 = ap (λ (b : Bool). one (not b)) (ne_eqb (bit_of map number) 1 free) in
     omega (arith, free_end map number, more)
+
+-- ---- the free blocks of a disk
+
+-- what a map that was read has as free
+pub free_read : (disk between : List (List ℕ)) (map : List ℕ) (blocks : ℕ) → between ≡ disk → slice_get disk 0 ≡ Some map → blocks ≡ length between → free_below map blocks ≡ free_in_map disk
+free_read disk between map blocks kept read count =
+    ap (λ (n : ℕ). free_below map n) (count ∙ ap length kept) ∙ ap (λ (bytes : List ℕ). free_below bytes (length disk)) (sym (got disk 0 map read))

@@ -1,17 +1,24 @@
 -- A node that was given free blocks has grown.
-use Rattle.std.proofs.Common.{◌≡◌, ◌≢◌, ℕ, ◌+◌, ◌-◌, ◌*◌, ◌<◌, ◌≤◌, ◌⊎◌, inl, inr, List, length, get_or, ltb, sym, ap, subst, ◌∙◌, arith}
+use Rattle.std.proofs.Common.{◌≡◌, ◌≢◌, ℕ, ◌+◌, ◌-◌, ◌*◌, ◌<◌, ◌≤◌, ◌⊎◌, inl, inr, List, length, get_or, refl, sym, ap, subst, ◌∙◌, arith}
 use Rattle.std.proofs.lemmas.Bool.{cases_lt}
 use Rattle.kabi_types.specs.declared.inodes.Inode.{Inode}
-use Rattle.posix_defs.specs.DiskFormat.{block_size, table_end, table_nodes, data_blocks, blocks_of, needs_pointer, IsForFiles, IsPointer, inode_bytes, most_blocks}
+use Rattle.posix_defs.specs.DiskFormat.{block_size, table_end, table_nodes, data_blocks, pointer_blocks, blocks_of, leads_to, IsForFiles, inode_bytes, most_blocks}
 use Rattle.posix_defs.specs.SoundDisk.{block_bytes, table_bytes, HasInode, pointer_at, pointer_block, Place, Data, Pointers, HasPlace, named_at, IsMarked, Sound, IsFreeBlock, free_in_map}
 use Rattle.posix_defs.specs.DiskContents.{data_block, zeros}
 use Rattle.posix_defs.specs.NodeChange.{Names, Replaces, Resizes, Grows}
-use Rattle.disk_laws.proofs.FreeBlocks.{named_is_for_files, direct_at, behind_at, large_of, of_each}
+use Rattle.disk_laws.proofs.FreeBlocks.{named_is_for_files, direct_at}
+use Rattle.disk_laws.proofs.Pointing.{pointers_are}
 use Rattle.disk_laws.proofs.OneNode.{named_is_marked, this_has, changes_node, free_after}
 use Rattle.blk_map.specs.Growing.{GrowsBut}
 use Rattle.blk_map.specs.Named.{MayHaveSize}
-use Rattle.blk_map.proofs.Inodes.{pointer_is, Points, is_inode}
-use Rattle.blk_map.proofs.Counted.{given_least, given_one_more, given_as_many}
+use Rattle.blk_map.proofs.Blocks.{free_is_for_files}
+use Rattle.blk_map.proofs.Inodes.{Points, is_inode}
+use Rattle.blk_map.proofs.Counted.{given, pointers_more}
+
+-- which of the blocks that a node is given it has for a place
+abbrev pub key_of : ℕ → ℕ → Place → ℕ
+key_of old size (Data index) = index - data_blocks old
+key_of old size (Pointers block) = data_blocks size - data_blocks old + (block - pointer_blocks old)
 
 -- what was done to a disk on which a node grew
 pub record Growth : Type 0 where
@@ -37,15 +44,14 @@ pub record Growth : Type 0 where
   pub lowest : (block : ℕ) → IsFreeBlock before block → ((k : ℕ) × (k < length taken) × (get_or taken k 0 ≡ block)) ⊎ ((k : ℕ) → k < length taken → get_or taken k 0 < block)
   pub slot : table_bytes after number ≡ inode_bytes new
   pub slots : (node : ℕ) → 0 < node → node ≤ table_nodes (length before) → node ≢ number → table_bytes after node ≡ table_bytes before node
-  pub kept_names : (index : ℕ) → index < data_blocks old.size → named_at after new (Data index) ≡ named_at before old (Data index)
-  pub new_names : (index : ℕ) → data_blocks old.size ≤ index → index < data_blocks size → named_at after new (Data index) ≡ get_or taken (index - data_blocks old.size) 0
+  -- it names what it named, and behind that what it was given: for its bytes first, then for pointers
+  pub kept_names : (place : Place) → HasPlace old.size place → named_at after new place ≡ named_at before old place
+  pub new_names : (place : Place) → HasPlace size place → ¬ (HasPlace old.size place) → named_at after new place ≡ get_or taken (key_of old.size size place) 0
   pub direct_rest : (k : ℕ) → data_blocks size ≤ k → k < 10 → get_or new.direct k 0 ≡ 0
-  pub behind_rest : 10 < data_blocks size → (k : ℕ) → data_blocks size ≤ 10 + k → k < 256 → pointer_at (block_bytes after new.indirect) k ≡ 0
-  pub old_pointers : 10 < data_blocks old.size → new.indirect ≡ old.indirect
-  pub new_pointers : data_blocks old.size ≤ 10 → 10 < data_blocks size → new.indirect ≡ get_or taken (data_blocks size - data_blocks old.size) 0
-  pub no_pointers : data_blocks size ≤ 10 → new.indirect ≡ 0
+  pub none : (data_blocks size ≤ 10 → new.indirect ≡ 0) × (data_blocks size ≤ 266 → new.double ≡ 0)
+  pub behind_rest : (block at : ℕ) → block < pointer_blocks size → at < 256 → data_blocks size ≤ leads_to block at → pointer_at (block_bytes after (pointer_block after new block)) at ≡ 0
   pub untouched : (block : ℕ) → table_end (length before) < block → block < length before → ((k : ℕ) → k < length taken → get_or taken k 0 ≢ block)
-      → (10 < data_blocks size → block ≢ new.indirect) → block_bytes after block ≡ block_bytes before block
+      → ((p : ℕ) → p < pointer_blocks size → pointer_block after new p ≢ block) → block_bytes after block ≡ block_bytes before block
   -- the new blocks from one up to another have any bytes
   pub from : ℕ
   pub to : ℕ
@@ -56,27 +62,32 @@ pub record Growth : Type 0 where
 
 -- ---- how many blocks were given
 
-many_data : (g : Growth) → data_blocks g.size - data_blocks g.old.size ≤ length g.taken
-many_data g = omega (arith, g.many, given_least g.old.size g.size g.more)
+abbrev more_data : Growth → ℕ
+more_data g = data_blocks g.size - data_blocks g.old.size
 
-one_more : (g : Growth) → data_blocks g.old.size ≤ 10 → 10 < data_blocks g.size → length g.taken ≡ data_blocks g.size - data_blocks g.old.size + 1
-one_more g few large = g.many ∙ given_one_more g.old.size g.size few large
+abbrev more_pointers : Growth → ℕ
+more_pointers g = pointer_blocks g.size - pointer_blocks g.old.size
 
--- what is given behind the blocks of bytes is the block of pointers
-last_one : (g : Growth) (k : ℕ) → k < length g.taken → data_blocks g.size - data_blocks g.old.size ≤ k → (data_blocks g.old.size ≤ 10) × (10 < data_blocks g.size) × (k ≡ data_blocks g.size - data_blocks g.old.size)
-last_one g k lt behind = elim (cases_lt 10 (data_blocks g.size)) [
-  | inl large ↦ elim (cases_lt 10 (data_blocks g.old.size)) [
-    | inl was ↦ absurd (omega (arith, lt, behind, g.many, given_as_many g.old.size g.size (inl was) g.more))
-    | inr few ↦ (few, large, omega (arith, lt, behind, one_more g few large))
-  ]
-  | inr few ↦ absurd (omega (arith, lt, behind, g.many, given_as_many g.old.size g.size (inr few) g.more))
-]
+many_given : (g : Growth) → length g.taken ≡ more_data g + more_pointers g
+many_given g = g.many ∙ given g.old.size g.size g.more
+
+pointers_grow : (g : Growth) → pointer_blocks g.old.size ≤ pointer_blocks g.size
+pointers_grow g = pointers_more g.old.size g.size g.more
+
+-- numbers among those that were given
+pub front_within : (all held pointers k : ℕ) → all ≡ held + pointers → k < held → k < all
+front_within all held pointers k is lt = omega arith
+
+pub back_within : (all held pointers p old size : ℕ) → all ≡ held + pointers → pointers ≡ size - old → old ≤ p → p < size → held + (p - old) < all
+back_within all held pointers p old size is many le lt = omega arith
+
+back_from : (all held pointers k old size : ℕ) → all ≡ held + pointers → pointers ≡ size - old → old ≤ size → held ≤ k → k < all → (old ≤ old + (k - held)) × (old + (k - held) < size) × (held + (old + (k - held) - old) ≡ k)
+back_from all held pointers k old size is many le past lt = (omega arith, omega arith, omega arith)
 
 -- ---- where a block comes from that the node names now
 
 abbrev key : Growth → Place → ℕ
-key g (Data index) = index - data_blocks g.old.size
-key g (Pointers block) = data_blocks g.size - data_blocks g.old.size
+key g place = key_of g.old.size g.size place
 
 record IsOld (g : Growth) (place : Place) : Type 0 where
   within : HasPlace g.old.size place
@@ -89,34 +100,59 @@ record IsGiven (g : Growth) (place : Place) : Type 0 where
 
 where_from : (g : Growth) (place : Place) → HasPlace g.size place → IsOld g place ⊎ IsGiven g place
 where_from g (Data index) lt = elim (cases_lt index (data_blocks g.old.size)) [
-  | inl old ↦ inl (record { within = old; same = g.kept_names index old })
-  | inr behind ↦ inr (record { within = omega (arith, behind, lt, many_data g); same = g.new_names index behind lt; none = λ is. omega (arith, is, behind) })
+  | inl old ↦ inl (record { within = old; same = g.kept_names (Data index) old })
+  | inr past ↦
+      let none : ¬ (HasPlace g.old.size (Data index)) = λ is. omega (arith, is, past) in
+      inr (
+      record { within = front_within (length g.taken) (more_data g) (more_pointers g) (index - data_blocks g.old.size) (many_given g) (omega (arith, past, lt)); same = g.new_names (Data index) lt none; none = none }
+      )
 ]
-where_from g (Pointers block) has = (let large = large_of g.size block has in elim (cases_lt 10 (data_blocks g.old.size)) [
-  | inl was ↦ inl (record { within = omega (arith, was, has); same = g.old_pointers was })
-  | inr few ↦ inr (record { within = omega (arith, one_more g few large); same = g.new_pointers few large; none = λ is. omega (arith, is, few) })
-])
+where_from g (Pointers block) lt = elim (cases_lt block (pointer_blocks g.old.size)) [
+  | inl old ↦ inl (record { within = old; same = g.kept_names (Pointers block) old })
+  | inr past ↦
+      let none : ¬ (HasPlace g.old.size (Pointers block)) = λ is. never block (pointer_blocks g.old.size) past is in
+      inr (
+      record {
+        within = back_within (length g.taken) (more_data g) (more_pointers g) block (pointer_blocks g.old.size) (pointer_blocks g.size) (many_given g) refl past lt;
+        same = g.new_names (Pointers block) lt none;
+        none = none;
+      }
+      )
+]
+  where
+    never : (n m : ℕ) → m ≤ n → n < m → ⊥
+    never n m le lt = omega (arith, le, lt)
 
 still : (g : Growth) (place : Place) → HasPlace g.old.size place → HasPlace g.size place
 still g (Data index) lt = omega (arith, lt, g.more)
-still g (Pointers block) lt = omega (arith, lt, g.more)
+still g (Pointers block) lt = let grows = pointers_grow g in below block (pointer_blocks g.old.size) (pointer_blocks g.size) lt grows
+  where
+    below : (n m p : ℕ) → n < m → m ≤ p → n < p
+    below n m p lt le = omega arith
 
 was_marked : (g : Growth) (place : Place) → HasPlace g.old.size place → IsMarked g.before (named_at g.before g.old place)
 was_marked g place within = named_is_marked g.before g.sound g.number g.old place g.had within
 
+-- what isn't there is past the end
+no_data : (g : Growth) (index : ℕ) → ¬ (HasPlace g.old.size (Data index)) → data_blocks g.old.size ≤ index
+no_data g index none = elim (cases_lt index (data_blocks g.old.size)) [ inl lt ↦ absurd (none lt) | inr le ↦ le ]
+
+no_pointer : (g : Growth) (block : ℕ) → ¬ (HasPlace g.old.size (Pointers block)) → pointer_blocks g.old.size ≤ block
+no_pointer g block none = elim (cases_lt block (pointer_blocks g.old.size)) [ inl lt ↦ absurd (none lt) | inr le ↦ le ]
+
+-- of two numbers one for bytes and one for pointers aren't the same
+keys_apart : (x old size p : ℕ) → old ≤ x → x < size → x - old ≡ size - old + p → ⊥
+keys_apart x old size p low lt e = omega (arith, low, lt, e)
+
+pub keys_same : (x y old more : ℕ) → old ≤ x → old ≤ y → more + (x - old) ≡ more + (y - old) → x ≡ y
+keys_same x y old more low also e = omega (arith, low, also, e)
+
 same_key : (g : Growth) (i j : Place) → HasPlace g.size i → HasPlace g.size j → ¬ (HasPlace g.old.size i) → ¬ (HasPlace g.old.size j) → key g i ≡ key g j → i ≡ j
-same_key g (Data x) (Data y) at_i at_j not_i not_j e =
-    let low : data_blocks g.old.size ≤ x = elim (cases_lt x (data_blocks g.old.size)) [ inl lt ↦ absurd (not_i lt) | inr le ↦ le ] in
-    let also : data_blocks g.old.size ≤ y = elim (cases_lt y (data_blocks g.old.size)) [ inl lt ↦ absurd (not_j lt) | inr le ↦ le ] in
-    let same : x ≡ y = omega (arith, e, low, also) in
-    ap Data same
-same_key g (Data x) (Pointers block) at_i at_j not_i not_j e =
-    let low : data_blocks g.old.size ≤ x = elim (cases_lt x (data_blocks g.old.size)) [ inl lt ↦ absurd (not_i lt) | inr le ↦ le ] in
-    absurd (omega (arith, e, low, at_i))
+same_key g (Data x) (Data y) at_i at_j not_i not_j e = let same : x ≡ y = omega (arith, e, no_data g x not_i, no_data g y not_j) in ap Data same
+same_key g (Data x) (Pointers block) at_i at_j not_i not_j e = absurd (keys_apart x (data_blocks g.old.size) (data_blocks g.size) (block - pointer_blocks g.old.size) (no_data g x not_i) at_i e)
 same_key g (Pointers block) (Data y) at_i at_j not_i not_j e =
-    let low : data_blocks g.old.size ≤ y = elim (cases_lt y (data_blocks g.old.size)) [ inl lt ↦ absurd (not_j lt) | inr le ↦ le ] in
-    absurd (omega (arith, e, low, at_j))
-same_key g (Pointers x) (Pointers y) at_i at_j not_i not_j e = let same : x ≡ y = omega (arith, at_i, at_j) in ap Pointers same
+    absurd (keys_apart y (data_blocks g.old.size) (data_blocks g.size) (block - pointer_blocks g.old.size) (no_data g y not_j) at_j (sym e))
+same_key g (Pointers x) (Pointers y) at_i at_j not_i not_j e = ap Pointers (keys_same x y (pointer_blocks g.old.size) (more_data g) (no_pointer g x not_i) (no_pointer g y not_j) e)
 
 -- ---- the node's own facts
 
@@ -141,16 +177,10 @@ named_once g i j at_i at_j same = elim (where_from g i at_i) [
   ]
 ]
 
-free_is_for_files : (g : Growth) (block : ℕ) → IsFreeBlock g.before block → IsForFiles (length g.before) block
-free_is_for_files g block free = elim (cases_lt (table_end (length g.before)) block) [
-  | inl above ↦ (above, free.0)
-  | inr low ↦ absurd (free.1 ((g.sound.map block free.0).1 (inl low)))
-]
-
 is_for_files : (g : Growth) (place : Place) → HasPlace g.size place → IsForFiles (length g.before) (named_at g.after g.new place)
 is_for_files g place within = elim (where_from g place within) [
   | inl a ↦ subst (IsForFiles (length g.before)) (sym a.same) (named_is_for_files g.before g.sound g.number g.old place g.had a.within)
-  | inr a ↦ subst (IsForFiles (length g.before)) (sym a.same) (free_is_for_files g (get_or g.taken (key g place) 0) (g.free (key g place) a.within))
+  | inr a ↦ subst (IsForFiles (length g.before)) (sym a.same) (free_is_for_files g.before g.sound (get_or g.taken (key g place) 0) (g.free (key g place) a.within))
 ]
 
 points : (g : Growth) → Points (length g.before) g.size g.new
@@ -160,31 +190,31 @@ points g =
       direct = λ k lt within. subst (IsForFiles (length g.before)) (direct_at g.after g.new k lt) (is_for_files g (Data k) within);
       none = λ k lt past. g.direct_rest k past lt;
       pointers = λ large. is_for_files g (Pointers 0) (omega (arith, large));
-      no_pointers = g.no_pointers;
+      no_pointers = g.none.0;
+      double = λ large. is_for_files g (Pointers 1) (omega (arith, large));
+      no_double = g.none.1;
     }
-
-behind_pointer : (g : Growth) (k : ℕ) → 10 * block_size < g.new.size → k < 256 → IsPointer (length g.before) (ltb ((10 + k) * block_size) g.new.size) (pointer_at (block_bytes g.after g.new.indirect) k)
-behind_pointer g k large lt =
-    let at : 10 + k - 10 ≡ k = omega arith in
-    pointer_is (length g.before) (pointer_at (block_bytes g.after g.new.indirect) k) ((10 + k) * block_size) g.new.size (
-    λ needed.
-    subst (IsForFiles (length g.before)) (behind_at g.after g.new (10 + k) (omega arith) ∙ ap (λ (n : ℕ). pointer_at (block_bytes g.after g.new.indirect) n) at) (is_for_files g (Data (10 + k)) (omega (arith, needed, g.fields.2)))
-    ) (λ past. g.behind_rest (omega (arith, large, g.fields.2)) k (omega (arith, past, g.fields.2)) lt)
 
 -- ---- the disk
 
 -- what was given is named
 names_given : (g : Growth) (k : ℕ) → k < length g.taken → Names g.after g.new (get_or g.taken k 0)
-names_given g k lt = elim (cases_lt k (data_blocks g.size - data_blocks g.old.size)) [
+names_given g k lt = elim (cases_lt k (more_data g)) [
   | inl data_one ↦
       let index : ℕ = data_blocks g.old.size + k in
       let back : index - data_blocks g.old.size ≡ k = omega arith in
       let within : index < data_blocks g.size = omega (arith, data_one) in
-      record { place = Data index; within = within_now g (Data index) within; same = ap (λ (n : ℕ). get_or g.taken n 0) (sym back) ∙ sym (g.new_names index (omega arith) within) }
-  | inr behind ↦
-      let last = last_one g k lt behind in
-      record { place = Pointers 0; within = within_now g (Pointers 0) (omega (arith, last.1)); same = ap (λ (n : ℕ). get_or g.taken n 0) last.2 ∙ sym (g.new_pointers last.0 last.1) }
+      let none : ¬ (HasPlace g.old.size (Data index)) = λ is. omega (arith, is) in
+      record { place = Data index; within = within_now g (Data index) within; same = ap (λ (n : ℕ). get_or g.taken n 0) (sym back) ∙ sym (g.new_names (Data index) within none) }
+  | inr past ↦
+      let block : ℕ = pointer_blocks g.old.size + (k - more_data g) in
+      let at = back_from (length g.taken) (more_data g) (more_pointers g) k (pointer_blocks g.old.size) (pointer_blocks g.size) (many_given g) refl (pointers_grow g) past lt in
+      let none : ¬ (HasPlace g.old.size (Pointers block)) = λ is. never (pointer_blocks g.old.size) block at.0 is in
+      record { place = Pointers block; within = within_now g (Pointers block) at.1; same = ap (λ (n : ℕ). get_or g.taken n 0) (sym at.2) ∙ sym (g.new_names (Pointers block) at.1 none) }
 ]
+  where
+    never : (n m : ℕ) → n ≤ m → m < n → ⊥
+    never n m le lt = omega (arith, le, lt)
 
 names_still : (g : Growth) (block : ℕ) → Names g.before g.old block → Names g.after g.new block
 names_still g block names = elim (where_from g names.place (still g names.place names.within)) [
@@ -204,9 +234,9 @@ replaces g =
       inode = is_inode (length g.before) g.size g.old g.new g.sound.size.1 g.had.valid g.kind g.most g.fields (points g);
       slot = g.slot;
       slots = g.slots;
-      pointers = λ block at has lt.
-          of_each (λ n. IsPointer (length g.before) (needs_pointer g.new.size n at) (pointer_at (block_bytes g.after (pointer_block g.new n)) at)) g.new.size block has
-          (behind_pointer g at (omega (arith, has)) lt);
+      pointers = pointers_are (length g.before) g.after g.new (λ place within. is_for_files g place (now_within g place within)) (
+          λ block at has lt past. g.behind_rest block at (now_within g (Pointers block) has) lt (subst (λ (n : ℕ). data_blocks n ≤ leads_to block at) g.fields.2 past)
+          );
       once = λ i j at_i at_j same. named_once g i j (now_within g i at_i) (now_within g j at_j) same;
       taken = λ place within. elim (where_from g place (now_within g place within)) [
         | inl a ↦ inl (record { place = place; within = a.within; same = a.same })
@@ -214,10 +244,10 @@ replaces g =
       ];
       untouched = λ block above below marked others.
           g.untouched block above below (not_given g block marked) (
-          λ large e.
-          elim (where_from g (Pointers 0) (omega (arith, large))) [
-            | inl a ↦ others (record { place = Pointers 0; within = a.within; same = e ∙ a.same })
-            | inr a ↦ not_given g block marked (key g (Pointers 0)) a.within (sym a.same ∙ sym e)
+          λ p has e.
+          elim (where_from g (Pointers p) has) [
+            | inl a ↦ others (record { place = Pointers p; within = a.within; same = sym e ∙ a.same })
+            | inr a ↦ not_given g block marked (key g (Pointers p)) a.within (sym a.same ∙ e)
           ]
           );
       marked = λ block lt marked. elim (g.only block marked) [
@@ -236,8 +266,8 @@ replaces g =
       ];
     }
 
-apart_places : (index : ℕ) → Data index ≢ Pointers 0
-apart_places index = λ e. cc
+apart_places : (index block : ℕ) → Data index ≢ Pointers block
+apart_places index block = λ e. cc
 
 -- a block of its bytes stays as it is
 bytes_kept : (g : Growth) (index : ℕ) → index < data_blocks g.old.size → block_bytes g.after (data_block g.before g.old index) ≡ block_bytes g.before (data_block g.before g.old index)
@@ -245,10 +275,10 @@ bytes_kept g index lt =
     let marked = was_marked g (Data index) lt in
     let files = named_is_for_files g.before g.sound g.number g.old (Data index) g.had lt in
     g.untouched (data_block g.before g.old index) files.0 files.1 (not_given g (data_block g.before g.old index) marked) (
-    λ large e.
-    elim (where_from g (Pointers 0) (omega (arith, large))) [
-      | inl a ↦ absurd (apart_places index (g.sound.once g.number g.number g.old g.old (Data index) (Pointers 0) g.had g.had lt a.within (e ∙ a.same)).1)
-      | inr a ↦ not_given g (data_block g.before g.old index) marked (key g (Pointers 0)) a.within (sym a.same ∙ sym e)
+    λ p has e.
+    elim (where_from g (Pointers p) has) [
+      | inl a ↦ absurd (apart_places index p (g.sound.once g.number g.number g.old g.old (Data index) (Pointers p) g.had g.had lt a.within (sym e ∙ a.same)).1)
+      | inr a ↦ not_given g (data_block g.before g.old index) marked (key g (Pointers p)) a.within (sym a.same ∙ e)
     ]
     )
 
@@ -260,7 +290,7 @@ resizes g =
       has = this_has g.number g.before g.old g.after g.new change;
       fields = g.fields;
       changes = changes_node g.number g.before g.old g.after g.new g.sound change;
-      kept = λ index lt also. (g.kept_names index lt, bytes_kept g index lt);
+      kept = λ index lt also. (g.kept_names (Data index) lt, bytes_kept g index lt);
       free = ap (λ (n : ℕ). free_in_map g.after + blocks_of n) (sym g.fields.2) ∙ left;
     }
 
@@ -274,7 +304,7 @@ grows g =
             | inl below ↦ inl (omega (arith, past, below))
             | inr behind ↦ inr (omega (arith, past, behind))
           ] in
-          ap (block_bytes g.after) (g.new_names index past lt) ∙ g.zero k (omega (arith, past, lt)) outside;
+          ap (block_bytes g.after) (g.new_names (Data index) lt (λ is. omega (arith, is, past))) ∙ g.zero k (omega (arith, past, lt)) outside;
       lowest = λ block other free marked stays_free. elim (g.only block marked) [
         | inl was ↦ absurd (free.1 was)
         | inr given ↦

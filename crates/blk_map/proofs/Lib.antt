@@ -1,11 +1,16 @@
 pub mod AndBack
 pub mod Blocks
+pub mod Coming
 pub mod Counted
 pub mod Finding
 pub mod Forgetting
 pub mod Giving
 pub mod Growth
+pub mod InHand
 pub mod Inodes
+pub mod Repointing
 pub mod SameBlocks
+pub mod Steps
 pub mod Taking
 pub mod Taken
+pub mod Ways

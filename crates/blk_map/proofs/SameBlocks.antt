@@ -1,16 +1,16 @@
 -- A node has another size, and as many blocks as before.
 use Rattle.std.proofs.Common.{◌≡◌, ◌≢◌, ℕ, ◌+◌, ◌-◌, ◌*◌, ◌<◌, ◌≤◌, inl, inr, List, length, get_or, refl, sym, ap, subst, ◌∙◌, arith}
-use Rattle.std.proofs.lemmas.Bool.{cases_lt}
 use Rattle.kabi_types.specs.declared.inodes.Inode.{Inode}
-use Rattle.posix_defs.specs.DiskFormat.{block_size, table_end, data_blocks, IsForFiles, inode_bytes, IsPointer, needs_pointer, most_blocks}
+use Rattle.posix_defs.specs.DiskFormat.{block_size, table_end, data_blocks, pointers_beside, pointer_blocks, leads_to, IsForFiles, inode_bytes, most_blocks}
 use Rattle.posix_defs.specs.SoundDisk.{block_bytes, table_block, table_bytes, HasInode, pointer_at, Place, Data, Pointers, HasPlace, named_at, bit_of, IsMarked, Sound, pointer_block}
 use Rattle.posix_defs.specs.NodeChange.{Names, Replaces, Resizes}
-use Rattle.disk_laws.proofs.FreeBlocks.{named_is_for_files, direct_at, behind_at, of_each}
+use Rattle.disk_laws.proofs.FreeBlocks.{named_is_for_files, direct_at, names_stay, same_names}
+use Rattle.disk_laws.proofs.Pointing.{pointers_are, unneeded}
 use Rattle.disk_laws.proofs.OneNode.{named_is_marked, this_has, changes_node, free_after}
 use Rattle.blk_map.specs.Growing.{GrowsBut}
 use Rattle.blk_map.specs.Named.{MayHaveSize}
 use Rattle.blk_map.proofs.Blocks.{in_table}
-use Rattle.blk_map.proofs.Inodes.{pointer_is, none_needed, Points, is_inode}
+use Rattle.blk_map.proofs.Inodes.{none_needed, Points, is_inode}
 
 pub record SameBlocks : Type 0 where
   pub number : ℕ
@@ -23,23 +23,23 @@ pub record SameBlocks : Type 0 where
   pub kind : MayHaveSize old.kind size
   pub same : data_blocks size ≡ data_blocks old.size
   pub count : length after ≡ length before
-  pub slot : table_bytes after number ≡ inode_bytes (record { kind = old.kind; nlink = old.nlink; size = size; direct = old.direct; indirect = old.indirect })
+  pub slot : table_bytes after number ≡ inode_bytes (record { kind = old.kind; nlink = old.nlink; size = size; direct = old.direct; indirect = old.indirect; double = old.double })
   pub slots : (node : ℕ) → 0 < node → node ≢ number → table_bytes after node ≡ table_bytes before node
   pub others : (block : ℕ) → block ≢ table_block number → block_bytes after block ≡ block_bytes before block
 
 abbrev pub resized : SameBlocks → Inode
-resized s = record { kind = s.old.kind; nlink = s.old.nlink; size = s.size; direct = s.old.direct; indirect = s.old.indirect }
+resized s = record { kind = s.old.kind; nlink = s.old.nlink; size = s.size; direct = s.old.direct; indirect = s.old.indirect; double = s.old.double }
 
 most : (s : SameBlocks) → data_blocks s.size ≤ most_blocks
 most s = omega (arith, s.same, s.had.valid.kind.size)
 
 was : (s : SameBlocks) (place : Place) → HasPlace s.size place → HasPlace s.old.size place
 was s (Data index) lt = omega (arith, lt, s.same)
-was s (Pointers block) lt = omega (arith, lt, s.same)
+was s (Pointers block) lt = subst (λ (n : ℕ). block < pointers_beside n) s.same lt
 
 is : (s : SameBlocks) (place : Place) → HasPlace s.old.size place → HasPlace s.size place
 is s (Data index) lt = omega (arith, lt, s.same)
-is s (Pointers block) lt = omega (arith, lt, s.same)
+is s (Pointers block) lt = subst (λ (n : ℕ). block < pointers_beside n) (sym s.same) lt
 
 files : (s : SameBlocks) (place : Place) → HasPlace s.old.size place → IsForFiles (length s.before) (named_at s.before s.old place)
 files s place within = named_is_for_files s.before s.sound s.number s.old place s.had within
@@ -55,14 +55,21 @@ bit_stays s block =
     let at = in_table (length s.before) s.number s.had.number.0 s.had.number.1 in
     ap (λ (map : List ℕ). bit_of map block) (s.others 0 (λ e. omega (arith, e, at.0)))
 
+-- it names what it named
 name : (s : SameBlocks) (place : Place) → HasPlace s.old.size place → named_at s.after (resized s) place ≡ named_at s.before s.old place
-name s (Data index) lt = elim (cases_lt index 10) [
-  | inl first ↦ direct_at s.after (resized s) index first ∙ sym (direct_at s.before s.old index first)
-  | inr behind ↦
-      let large : HasPlace s.old.size (Pointers 0) = omega (arith, lt, behind) in
-      behind_at s.after (resized s) index behind ∙ ap (λ (bytes : List ℕ). pointer_at bytes (index - 10)) (stays_there s s.old.indirect (files s (Pointers 0) large).0) ∙ sym (behind_at s.before s.old index behind)
-]
-name s (Pointers block) lt = refl
+name s place within =
+    same_names s.after s.old (resized s) refl refl refl place
+    ∙ names_stay s.before s.after s.old (λ block has. stays_there s (pointer_block s.before s.old block) (files s (Pointers block) has).0) place within
+
+files_now : (s : SameBlocks) (place : Place) → HasPlace s.old.size place → IsForFiles (length s.before) (named_at s.after (resized s) place)
+files_now s place within = subst (IsForFiles (length s.before)) (sym (name s place within)) (files s place within)
+
+rest_now : (s : SameBlocks) (block at : ℕ) → block < pointer_blocks s.size → at < 256 → data_blocks s.size ≤ leads_to block at → pointer_at (block_bytes s.after (pointer_block s.after (resized s) block)) at ≡ 0
+rest_now s block at has lt past =
+    let had : HasPlace s.old.size (Pointers block) = was s (Pointers block) has in
+    ap (λ (n : ℕ). pointer_at (block_bytes s.after n) at) (name s (Pointers block) had)
+    ∙ ap (λ (bytes : List ℕ). pointer_at bytes at) (stays_there s (pointer_block s.before s.old block) (files s (Pointers block) had).0)
+    ∙ unneeded s.before s.sound s.number s.old block at s.had had lt (omega (arith, past, s.same))
 
 points : (s : SameBlocks) → Points (length s.before) s.size (resized s)
 points s =
@@ -72,6 +79,8 @@ points s =
       none = λ k lt past. none_needed (length s.before) (get_or s.old.direct k 0) (k * block_size) s.old.size (omega (arith, past, s.same)) (s.had.valid.pointers.direct k lt);
       pointers = λ large. files s (Pointers 0) (omega (arith, large, s.same));
       no_pointers = λ few. none_needed (length s.before) s.old.indirect (10 * block_size) s.old.size (omega (arith, few, s.same)) s.had.valid.pointers.indirect;
+      double = λ large. files s (Pointers 1) (omega (arith, large, s.same));
+      no_double = λ few. none_needed (length s.before) s.old.double (266 * block_size) s.old.size (omega (arith, few, s.same)) s.had.valid.pointers.double;
     }
 
 still_names : (s : SameBlocks) (block : ℕ) → Names s.before s.old block → Names s.after (resized s) block
@@ -85,22 +94,7 @@ replaces s =
       inode = is_inode (length s.before) s.size s.old (resized s) s.sound.size.1 s.had.valid s.kind (most s) (refl, refl, refl) (points s);
       slot = s.slot;
       slots = λ node pos within other. s.slots node pos other;
-      pointers = λ block k large lt.
-          of_each (λ n. IsPointer (length s.before) (needs_pointer s.size n k) (pointer_at (block_bytes s.after (pointer_block (resized s) n)) k)) s.size block large (
-          let old_large : HasPlace s.old.size (Pointers 0) = omega (arith, large, s.same) in
-          let there = stays_there s s.old.indirect (files s (Pointers 0) old_large).0 in
-          let back : 10 + k - 10 ≡ k = omega arith in
-          pointer_is (length s.before) (pointer_at (block_bytes s.after s.old.indirect) k) ((10 + k) * block_size) s.size (
-          λ needed.
-          let within : HasPlace s.old.size (Data (10 + k)) = omega (arith, needed, s.same) in
-          subst (IsForFiles (length s.before)) (behind_at s.before s.old (10 + k) (omega arith) ∙ ap (λ (n : ℕ). pointer_at (block_bytes s.before s.old.indirect) n) back ∙ ap (λ (bytes : List ℕ). pointer_at bytes k) (sym there)) (
-          files s (Data (10 + k)) within
-          )
-          ) (
-          λ past.
-          ap (λ (bytes : List ℕ). pointer_at bytes k) there
-          ∙ none_needed (length s.before) (pointer_at (block_bytes s.before s.old.indirect) k) ((10 + k) * block_size) s.old.size (omega (arith, past, s.same)) (s.sound.pointers s.number s.old 0 k s.had old_large lt)
-          ));
+      pointers = pointers_are (length s.before) s.after (resized s) (λ place within. files_now s place (was s place within)) (rest_now s);
       once = λ i j at_i at_j same.
           (s.sound.once s.number s.number s.old s.old i j s.had s.had (was s i at_i) (was s j at_j) (sym (name s i (was s i at_i)) ∙ same ∙ name s j (was s j at_j))).1;
       taken = λ place within. inl (record { place = place; within = was s place within; same = name s place (was s place within) });

@@ -1,3 +1,5 @@
 pub mod Found
 pub mod Growing
 pub mod Named
+pub mod Pointing
+pub mod Runs

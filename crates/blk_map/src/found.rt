@@ -1,6 +1,6 @@
 //! Free blocks, found in a map and marked there.
 
-ghost use Rattle.std.specs.Prelude.{◌≡◌, ◌≢◌, ℕ, ◌*◌, ◌<◌, ◌≤◌, ◌⊎◌, min, length, slice_index};
+ghost use Rattle.std.specs.Prelude.{◌≡◌, ◌≢◌, ℕ, ◌+◌, ◌*◌, ◌<◌, ◌≤◌, ◌⊎◌, min, length, slice_index};
 ghost use Rattle.posix_defs.specs.DiskFormat.{block_size};
 ghost use Rattle.posix_defs.specs.SoundDisk.{bit_of};
 ghost use Rattle.blk_map.specs.Found.{free_below};
@@ -12,6 +12,19 @@ use disk_layout::{mark, next_free, unmark};
 pub struct Found {
     pub blocks: [u32; 267],
     pub count: usize,
+}
+
+impl Found {
+    /// Puts one more block behind the others.
+    pub fn push(&mut self, block: u32)
+        requires { self.old.count < 267 }
+        ensures count { self.new.count ≡ self.old.count + 1 }
+        ensures here { slice_index self.new.blocks self.old.count ≡ block }
+        ensures kept { (k : ℕ) → k < self.old.count → slice_index self.new.blocks k ≡ slice_index self.old.blocks k }
+    {
+        self.blocks[self.count] = block;
+        self.count += 1;
+    }
 }
 
 /// Finds the lowest free blocks of a map of so many blocks, up to as many as are wanted, and answers how many.

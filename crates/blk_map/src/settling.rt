@@ -1,11 +1,12 @@
-//! What a call writes at its end: new blocks as zeros, a node's block of pointers, and its inode in the table.
+//! What a call writes at its end: new blocks as zeros, a run of a node's pointers, and its inode in the table.
 
 ghost use Rattle.std.specs.Prelude.{◌≡◌, ◌≢◌, ℕ, ◌<◌, ◌≤◌, length, slice_index};
-ghost use Rattle.posix_defs.specs.DiskFormat.{direct_pointers, block_pointers, block_size, data_blocks, table_nodes, IsForFiles, inode_bytes};
+ghost use Rattle.posix_defs.specs.DiskFormat.{block_pointers, block_size, data_blocks, table_nodes, IsForFiles, inode_bytes};
 ghost use Rattle.posix_defs.specs.SoundDisk.{block_bytes, table_block, table_bytes, pointer_at};
 ghost use Rattle.posix_defs.specs.DiskContents.{zeros};
+ghost use Rattle.blk_map.specs.Runs.{run_start};
 
-use crate::counts::{DIRECT_POINTERS, data_count};
+use crate::counts::{data_count, run_start};
 use disk_layout::{block_of_pointers, put_inode};
 use kabi_types::Inode;
 use posix_defs::Blocks;
@@ -49,31 +50,40 @@ pub fn put_in_table<B: Blocks>(b: &mut B, number: u32, inode: &Inode)
     b.set(block, &bytes);
 }
 
-/// Writes a node's block of pointers, where its size needs one.
-fn put_pointers<B: Blocks>(b: &mut B, inode: &Inode, behind: &[u32; 256])
-    requires { direct_pointers < data_blocks inode.now.size → inode.now.indirect < length (B.blocks b.old) }
+/// Writes a run of a node's pointers, where its size needs one of them.
+fn put_pointers<B: Blocks>(b: &mut B, size: u32, pointers: u32, run: u32, behind: &[u32; 256])
+    requires few { run ≤ block_pointers }
+    requires within { run_start run < data_blocks size → pointers < length (B.blocks b.old) }
     ensures count { length (B.blocks b.new) ≡ length (B.blocks b.old) }
-    ensures named { direct_pointers < data_blocks inode.now.size → (k : ℕ) → k < block_pointers → pointer_at (block_bytes (B.blocks b.new) inode.now.indirect) k ≡ slice_index behind.now k }
-    ensures others { (block : ℕ) → (direct_pointers < data_blocks inode.now.size → block ≢ inode.now.indirect) → block_bytes (B.blocks b.new) block ≡ block_bytes (B.blocks b.old) block }
+    ensures named { run_start run < data_blocks size → (k : ℕ) → k < block_pointers → pointer_at (block_bytes (B.blocks b.new) pointers) k ≡ slice_index behind.now k }
+    ensures others { (block : ℕ) → (run_start run < data_blocks size → block ≢ pointers) → block_bytes (B.blocks b.new) block ≡ block_bytes (B.blocks b.old) block }
     ensures follows { B.follows b.old b.new }
 {
-    if data_count(inode.size) <= DIRECT_POINTERS {
+    if data_count(size) <= run_start(run) {
         return;
     }
-    b.set(inode.indirect, &block_of_pointers(behind));
+    b.set(pointers, &block_of_pointers(behind));
 }
 
-/// Writes a node's block of pointers, where its size needs one, and its inode.
-pub fn settle<B: Blocks>(b: &mut B, number: u32, inode: &Inode, behind: &[u32; 256])
+/// Writes a run of a node's pointers into its block, where the node's size needs one of them, and the node's inode.
+pub fn settle<B: Blocks>(
+    b: &mut B,
+    number: u32,
+    inode: &Inode,
+    pointers: u32,
+    run: u32,
+    behind: &[u32; 256],
+)
+    requires few { run ≤ block_pointers }
     requires number { (0 < number) × (number ≤ table_nodes (length (B.blocks b.old))) }
-    requires within { direct_pointers < data_blocks inode.now.size → IsForFiles (length (B.blocks b.old)) inode.now.indirect }
+    requires within { run_start run < data_blocks inode.now.size → IsForFiles (length (B.blocks b.old)) pointers }
     ensures count { length (B.blocks b.new) ≡ length (B.blocks b.old) }
     ensures slot { table_bytes (B.blocks b.new) number ≡ inode_bytes inode.now }
     ensures slots { (node : ℕ) → 0 < node → node ≤ table_nodes (length (B.blocks b.old)) → node ≢ number → table_bytes (B.blocks b.new) node ≡ table_bytes (B.blocks b.old) node }
-    ensures named { direct_pointers < data_blocks inode.now.size → (k : ℕ) → k < block_pointers → pointer_at (block_bytes (B.blocks b.new) inode.now.indirect) k ≡ slice_index behind.now k }
-    ensures others { (block : ℕ) → block ≢ table_block number → (direct_pointers < data_blocks inode.now.size → block ≢ inode.now.indirect) → block_bytes (B.blocks b.new) block ≡ block_bytes (B.blocks b.old) block }
+    ensures named { run_start run < data_blocks inode.now.size → (k : ℕ) → k < block_pointers → pointer_at (block_bytes (B.blocks b.new) pointers) k ≡ slice_index behind.now k }
+    ensures others { (block : ℕ) → block ≢ table_block number → (run_start run < data_blocks inode.now.size → block ≢ pointers) → block_bytes (B.blocks b.new) block ≡ block_bytes (B.blocks b.old) block }
     ensures follows { B.follows b.old b.new }
 {
-    put_pointers(b, inode, behind);
+    put_pointers(b, inode.size, pointers, run, behind);
     put_in_table(b, number, inode);
 }

@@ -1,13 +1,12 @@
 -- A block of a node's bytes that is written changes nothing else of the disk.
-use Rattle.std.proofs.Common.{◌≡◌, ◌≢◌, ℕ, ◌+◌, ◌-◌, ◌*◌, ◌<◌, ◌≤◌, inl, inr, List, length, set, ltb, refl, sym, ap, subst, ◌∙◌, arith}
-use Rattle.std.proofs.lemmas.Bool.{cases_lt}
+use Rattle.std.proofs.Common.{◌≡◌, ◌≢◌, ℕ, ◌<◌, ◌≤◌, inl, inr, List, length, set, sym, ap, subst, ◌∙◌, arith}
 use Rattle.std.proofs.lemmas.List.{length-set, get_or-set_same, get_or-set_other}
 use Rattle.kabi_types.specs.declared.inodes.Inode.{Inode}
-use Rattle.posix_defs.specs.DiskFormat.{block_size, table_end, table_nodes, data_blocks, IsForFiles, needs_pointer, IsPointer}
+use Rattle.posix_defs.specs.DiskFormat.{table_end, table_nodes, data_blocks, IsForFiles, needs_pointer, IsPointer}
 use Rattle.posix_defs.specs.SoundDisk.{block_bytes, table_block, table_slot, slot_bytes, table_bytes, HasInode, pointer_at, pointer_block, Place, Data, Pointers, HasPlace, named_at, bit_of, IsMarked, Sound}
 use Rattle.posix_defs.specs.DiskContents.{data_block}
 use Rattle.posix_defs.specs.NodeChange.{Replaces, WritesBlock}
-use Rattle.disk_laws.proofs.FreeBlocks.{named_is_for_files, direct_at, behind_at}
+use Rattle.disk_laws.proofs.FreeBlocks.{named_is_for_files, names_stay}
 use Rattle.disk_laws.proofs.OneNode.{named_is_marked, this_has, changes_node, free_after}
 
 record Written : Type 0 where
@@ -47,16 +46,11 @@ slot_stays w node pos within =
 named_apart : (w : Written) (place : Place) → HasPlace w.inode.size place → place ≢ Data w.index → named_at w.disk w.inode place ≢ place_of w
 named_apart w place has other = λ same. other (w.sound.once w.number w.number w.inode w.inode place (Data w.index) w.had w.had has w.within same).1
 
-pointers_stay : (w : Written) (block : ℕ) → HasPlace w.inode.size (Pointers block) → block_bytes (after_of w) (pointer_block w.inode block) ≡ block_bytes w.disk (pointer_block w.inode block)
-pointers_stay w block has = other_block w (pointer_block w.inode block) (named_apart w (Pointers block) has (λ e. cc))
+pointers_stay : (w : Written) (block : ℕ) → HasPlace w.inode.size (Pointers block) → block_bytes (after_of w) (pointer_block w.disk w.inode block) ≡ block_bytes w.disk (pointer_block w.disk w.inode block)
+pointers_stay w block has = other_block w (pointer_block w.disk w.inode block) (named_apart w (Pointers block) has (λ e. cc))
 
 name : (w : Written) (place : Place) → HasPlace w.inode.size place → named_at (after_of w) w.inode place ≡ named_at w.disk w.inode place
-name w (Data index) lt = elim (cases_lt index 10) [
-  | inl first ↦ direct_at (after_of w) w.inode index first ∙ sym (direct_at w.disk w.inode index first)
-  | inr behind ↦
-      behind_at (after_of w) w.inode index behind ∙ ap (λ (bytes : List ℕ). pointer_at bytes (index - 10)) (pointers_stay w 0 (omega (arith, lt, behind))) ∙ sym (behind_at w.disk w.inode index behind)
-]
-name w (Pointers block) lt = refl
+name w place within = names_stay w.disk (after_of w) w.inode (pointers_stay w) place within
 
 replaces : (w : Written) → Replaces w.number w.disk w.inode (after_of w) w.inode
 replaces w =
@@ -67,7 +61,9 @@ replaces w =
       slot = slot_stays w w.number w.had.number.0 w.had.number.1 ∙ w.had.bytes;
       slots = λ node pos within other. slot_stays w node pos within;
       pointers = λ block at large lt.
-          subst (λ (bytes : List ℕ). IsPointer (length w.disk) (needs_pointer w.inode.size block at) (pointer_at bytes at)) (sym (pointers_stay w block large)) (w.sound.pointers w.number w.inode block at w.had large lt);
+          subst (λ (bytes : List ℕ). IsPointer (length w.disk) (needs_pointer w.inode.size block at) (pointer_at bytes at)) (
+          sym (ap (block_bytes (after_of w)) (name w (Pointers block) large) ∙ pointers_stay w block large)
+          ) (w.sound.pointers w.number w.inode block at w.had large lt);
       once = λ i j at_i at_j same. (w.sound.once w.number w.number w.inode w.inode i j w.had w.had at_i at_j (sym (name w i at_i) ∙ same ∙ name w j at_j)).1;
       taken = λ place within. inl (record { place = place; within = within; same = name w place within });
       untouched = λ block above below marked none. other_block w block (λ e. none (record { place = Data w.index; within = w.within; same = e }));
@@ -86,7 +82,7 @@ writes w =
     record {
       changes = changes_node w.number w.disk w.inode (after_of w) w.inode w.sound change;
       has = this_has w.number w.disk w.inode (after_of w) w.inode change;
-      names = λ index lt. name w (Data index) lt;
+      names = name w;
       this = get_or-set_same {A = List ℕ} w.disk (place_of w) w.bytes _ (for_files w).1;
       others = λ index lt other. other_block w (data_block w.disk w.inode index) (named_apart w (Data index) lt (λ e. other (ap (λ (place : Place). index_in place) e)));
       free = omega (arith, free_after w.number w.disk w.inode (after_of w) w.inode w.sound change);

@@ -39,33 +39,36 @@ same_words (m ∷ ms) (n ∷ ns) len hm hn e =
     let others : ms ≡ ns = same_words ms ns (omega (arith, len)) (λ k. hm (suc k)) (λ k. hn (suc k)) parts.1 in
     ap (λ (k : ℕ). k ∷ ms) first ∙ ap (λ (ks : List ℕ). n ∷ ks) others
 
-made : ℕ → ℕ → ℕ → List ℕ → ℕ → Inode
-made kind nlink size direct indirect = record { kind = kind; nlink = nlink; size = size; direct = direct; indirect = indirect }
+made : ℕ → ℕ → ℕ → List ℕ → ℕ → ℕ → Inode
+made kind nlink size direct indirect double = record { kind = kind; nlink = nlink; size = size; direct = direct; indirect = indirect; double = double }
 
 pub same_inode : (i j : Inode) → Fits i → Fits j → inode_bytes i ≡ inode_bytes j → i ≡ j
 unfolding inode_bytes made
 same_inode i j fi fj e =
-    let zeros : List ℕ = replicate 12 0 in
-    let tail : Inode → List ℕ = λ n. to_be_bytes w32 n.indirect ++ zeros in
+    let zeros : List ℕ = replicate 8 0 in
+    let last : Inode → List ℕ = λ n. to_be_bytes w32 n.double ++ zeros in
+    let tail : Inode → List ℕ = λ n. to_be_bytes w32 n.indirect ++ last n in
     let p1 = split_same (i.kind ∷ 0 ∷ []) (j.kind ∷ 0 ∷ []) (to_be_bytes w16 i.nlink ++ (to_be_bytes w32 i.size ++ (words i.direct ++ tail i))) (to_be_bytes w16 j.nlink ++ (to_be_bytes w32 j.size ++ (words j.direct ++ tail j))) refl e in
     let p2 = split_same (to_be_bytes w16 i.nlink) (to_be_bytes w16 j.nlink) (to_be_bytes w32 i.size ++ (words i.direct ++ tail i)) (to_be_bytes w32 j.size ++ (words j.direct ++ tail j)) refl p1.1 in
     let p3 = split_same (to_be_bytes w32 i.size) (to_be_bytes w32 j.size) (words i.direct ++ tail i) (words j.direct ++ tail j) refl p2.1 in
     let len : length i.direct ≡ length j.direct = fi.count ∙ sym fj.count in
     let p4 = split_same (words i.direct) (words j.direct) (tail i) (tail j) (length-words i.direct ∙ ap (λ (n : ℕ). 4 * n) len ∙ sym (length-words j.direct)) p3.1 in
-    let p5 = split_same (to_be_bytes w32 i.indirect) (to_be_bytes w32 j.indirect) zeros zeros refl p4.1 in
+    let p5 = split_same (to_be_bytes w32 i.indirect) (to_be_bytes w32 j.indirect) (last i) (last j) refl p4.1 in
+    let p6 = split_same (to_be_bytes w32 i.double) (to_be_bytes w32 j.double) zeros zeros refl p5.1 in
     let kind : i.kind ≡ j.kind = ap (λ (xs : List ℕ). get_or xs 0 0) p1.0 in
     let nlink : i.nlink ≡ j.nlink = same_2 i.nlink j.nlink fi.nlink fj.nlink p2.0 in
     let size : i.size ≡ j.size = same_4 i.size j.size fi.size fj.size p3.0 in
     let direct : i.direct ≡ j.direct = same_words i.direct j.direct len fi.direct fj.direct p4.0 in
     let indirect : i.indirect ≡ j.indirect = same_4 i.indirect j.indirect fi.indirect fj.indirect p5.0 in
-    ap (λ (x : ℕ). made x i.nlink i.size i.direct i.indirect) kind ∙ ap (λ (x : ℕ). made j.kind x i.size i.direct i.indirect) nlink
-    ∙ ap (λ (x : ℕ). made j.kind j.nlink x i.direct i.indirect) size ∙ ap (λ (x : List ℕ). made j.kind j.nlink j.size x i.indirect) direct
-    ∙ ap (λ (x : ℕ). made j.kind j.nlink j.size j.direct x) indirect
+    let double : i.double ≡ j.double = same_4 i.double j.double fi.double fj.double p6.0 in
+    ap (λ (x : ℕ). made x i.nlink i.size i.direct i.indirect i.double) kind ∙ ap (λ (x : ℕ). made j.kind x i.size i.direct i.indirect i.double) nlink
+    ∙ ap (λ (x : ℕ). made j.kind j.nlink x i.direct i.indirect i.double) size ∙ ap (λ (x : List ℕ). made j.kind j.nlink j.size x i.indirect i.double) direct
+    ∙ ap (λ (x : ℕ). made j.kind j.nlink j.size j.direct x i.double) indirect ∙ ap (λ (x : ℕ). made j.kind j.nlink j.size j.direct j.indirect x) double
 
 pub length-inode_bytes : (i : Inode) → Fits i → length (inode_bytes i) ≡ 64
 unfolding inode_bytes
 length-inode_bytes i fits =
-    let rest : List ℕ = to_be_bytes w32 i.indirect ++ replicate 12 0 in
+    let rest : List ℕ = to_be_bytes w32 i.indirect ++ (to_be_bytes w32 i.double ++ replicate 8 0) in
     let many : length (words i.direct ++ rest) ≡ 56 = length-append (words i.direct) rest ∙ ap (λ (n : ℕ). n + 16) (length-words i.direct ∙ ap (λ (n : ℕ). 4 * n) fits.count) in
     omega (arith, many)
 

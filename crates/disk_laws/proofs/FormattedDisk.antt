@@ -60,11 +60,13 @@ no_inode_is blocks =
         count = refl;
         direct = λ k. omega (arith, zero_at 10 k);
         indirect = omega arith;
+        double = omega arith;
       };
       kind = record { kind = omega arith; links = omega arith; size = omega arith; free = λ _. (refl, refl); entries = λ _. refl; name = λ _. refl };
       pointers = record {
         direct = λ k lt. subst (λ (needed : Bool). IsPointer blocks needed (get_or (replicate 10 0) k 0)) (sym (le-ltb (k * block_size) 0 (omega arith))) (zero_at 10 k);
         indirect = refl;
+        double = refl;
       };
     }
 
@@ -86,9 +88,10 @@ new_root_is blocks enough most =
         count = refl;
         direct = λ k. root_fits blocks k most;
         indirect = omega arith;
+        double = omega arith;
       };
       kind = record { kind = omega arith; links = omega arith; size = omega arith; free = λ e. absurd (omega (arith, e)); entries = λ _. refl; name = λ e. absurd (omega (arith, e)) };
-      pointers = record { direct = λ k lt. root_pointer blocks k enough; indirect = refl };
+      pointers = record { direct = λ k lt. root_pointer blocks k enough; indirect = refl; double = refl };
     }
 
 -- zeros are cut from zeros

@@ -1,5 +1,5 @@
 -- The free blocks of a sound disk are those that no node names, and as many as the sizes of its nodes leave.
-use Rattle.std.proofs.Common.{◌≡◌, ◌≢◌, ℕ, zero, suc, ◌+◌, ◌-◌, ◌*◌, ◌<◌, ◌≤◌, Bool, true, false, not, ◌&&◌, cond, eqb, ltb, ◌⊎◌, inl, inr, List, [], ◌∷◌, ◌++◌, map, length, get_or, sum_by, count_by, Option, None, Some, refl, sym, ap, subst, ◌∙◌, arith}
+use Rattle.std.proofs.Common.{◌≡◌, ◌≢◌, ℕ, zero, suc, ◌+◌, ◌-◌, ◌*◌, ◌%◌, ◌<◌, ◌≤◌, Bool, true, false, not, ◌&&◌, cond, eqb, ltb, ◌⊎◌, inl, inr, List, [], ◌∷◌, ◌++◌, map, length, get_or, sum_by, count_by, None, Some, refl, sym, ap, subst, ◌∙◌, arith}
 use Rattle.std.specs.List.{range_with_len, flat_map}
 use Rattle.std.proofs.lemmas.Bool.{cases_lt, cases_eq, lt-ltb, le-ltb, cond-true, cond-false, eqb-true, eq-eqb, ne_eqb, false_from_ne_true, false≢true}
 use Rattle.std.proofs.lemmas.List.{length-append, get_or_append_left, get_or_at}
@@ -7,8 +7,8 @@ use Rattle.std.proofs.lemmas.List.Concat.{flat_map-cons}
 use Rattle.std.proofs.lemmas.List.FromFn.{length-map-range_with_len}
 use Rattle.std.proofs.lemmas.List.Sums.{sum_by-cons}
 use Rattle.kabi_types.specs.declared.inodes.Inode.{Inode}
-use Rattle.posix_defs.specs.DiskFormat.{block_size, table_end, table_nodes, data_blocks, pointer_blocks, blocks_of, IsForFiles, IsPointer}
-use Rattle.posix_defs.specs.SoundDisk.{block_bytes, HasInode, pointer_at, Place, Data, Pointers, HasPlace, Way, led_to, named_at, way_to, IsNamed, map_bit, Sound, IsTable, free_in_map, free_blocks}
+use Rattle.posix_defs.specs.DiskFormat.{block_size, table_end, table_nodes, data_blocks, blocks_of, leads_to, needs_pointer, IsForFiles, IsPointer}
+use Rattle.posix_defs.specs.SoundDisk.{block_bytes, HasInode, pointer_at, Place, Data, Pointers, HasPlace, Way, block_of_run, run_of, led_to, named_at, way_to, pointer_block, IsNamed, map_bit, Sound, IsTable, free_in_map, free_blocks}
 use Rattle.disk_laws.proofs.FormattedDisk.{one_inode}
 
 -- ---- how many numbers of a range pass a test
@@ -162,56 +162,112 @@ distinct_values f from (suc n) apart = (
 is_needed : (blocks place size pointer : ℕ) → place < size → IsPointer blocks (ltb place size) pointer → IsForFiles blocks pointer
 is_needed blocks place size pointer lt is = subst (λ (b : Bool). IsPointer blocks b pointer) (lt-ltb place size lt) is
 
--- the way to a block of bytes: none to the first ten, and through the block of pointers to every other
+-- the way to a block of bytes: none to the first ten, and through a run of pointers to every other
 pub way_within : (index : ℕ) → index < 10 → way_to index ≡ None
 way_within index lt = cond-true (ltb index 10) _ _ (lt-ltb index 10 lt)
 
-pub way_behind : (index : ℕ) → 10 ≤ index → way_to index ≡ Some (record { block = 0; at = index - 10 })
+pub way_behind : (index : ℕ) → 10 ≤ index → way_to index ≡ Some (record { block = block_of_run (run_of index); at = (index - 10) % 256 })
 way_behind index past = cond-false (ltb index 10) _ _ (le-ltb index 10 past)
+
+-- two runs have one block only where they are one
+pub same_run : (one other : ℕ) → block_of_run one ≡ block_of_run other → one ≡ other
+same_run zero zero same = refl
+same_run zero (suc run) same = absurd (omega (arith, same))
+same_run (suc run) zero same = absurd (omega (arith, same))
+same_run (suc one) (suc other) same = omega (arith, same)
 
 -- two blocks behind the first ten have one way only where they are one
 pub same_way : (one other : ℕ) → 10 ≤ one → 10 ≤ other → way_to one ≡ way_to other → one ≡ other
 same_way one other past also same =
-    let places : one - 10 ≡ other - 10 = some_at (record { block = 0; at = one - 10 }) (record { block = 0; at = other - 10 }) (sym (way_behind one past) ∙ same ∙ way_behind other also) in
-    omega (arith, places, past, also)
+    let a : Way = record { block = block_of_run (run_of one); at = (one - 10) % 256 } in
+    let b : Way = record { block = block_of_run (run_of other); at = (other - 10) % 256 } in
+    let both = some_ways a b (sym (way_behind one past) ∙ same ∙ way_behind other also) in
+    omega (arith, past, also, both.1, same_run (run_of one) (run_of other) both.0)
   where
-    some_at : (a b : Way) → Some a ≡ Some b → a.at ≡ b.at
-    some_at a b e = cc
+    some_ways : (a b : Way) → Some a ≡ Some b → (a.block ≡ b.block) × (a.at ≡ b.at)
+    some_ways a b e = let same : a ≡ b = cc in (ap (λ (w : Way). w.block) same, ap (λ (w : Way). w.at) same)
 
--- where a node has a block of pointers it has more than ten blocks of bytes, and only one such block
-pub large_of : (size block : ℕ) → HasPlace size (Pointers block) → 10 < data_blocks size
-large_of size block lt = omega (arith, lt)
+-- where a pointer of a run leads
+pub leads_behind : (run at : ℕ) → leads_to (block_of_run run) at ≡ 10 + 256 * run + at
+leads_behind zero at = omega arith
+leads_behind (suc run) at = omega arith
 
-pub first_of : (size block : ℕ) → HasPlace size (Pointers block) → block ≡ 0
-first_of size block lt = omega (arith, lt)
+-- a node has the block of a run just where it has a block of bytes in it
+pub has_run : (size run : ℕ) → 10 + 256 * run < data_blocks size → HasPlace size (Pointers (block_of_run run))
+has_run size zero large = omega (arith, large)
+has_run size (suc run) large = omega (arith, large)
 
-pub has_pointers : (size : ℕ) → 10 < data_blocks size → HasPlace size (Pointers 0)
-has_pointers size large = omega (arith, large)
+pub run_needed : (size run : ℕ) → HasPlace size (Pointers (block_of_run run)) → 10 + 256 * run < data_blocks size
+run_needed size zero has = omega (arith, has)
+run_needed size (suc run) has = omega (arith, has)
 
--- what holds of the first block of pointers holds of each that a node of this size has
-pub of_each : (P : ℕ → Type 0) (size block : ℕ) → block < pointer_blocks size → P 0 → P block
-of_each P size block lt first = subst P (sym (first_of size block lt)) first
+pub has_way : (size index : ℕ) → 10 ≤ index → index < data_blocks size → HasPlace size (Pointers (block_of_run (run_of index)))
+has_way size index past lt = has_run size (run_of index) (omega (arith, past, lt))
+
+-- and where the double block names one it has that one too
+pub has_double : (size block : ℕ) → HasPlace size (Pointers (suc (suc block))) → HasPlace size (Pointers 1)
+has_double size block has = omega (arith, has)
+
+pub double_needed : (size : ℕ) → HasPlace size (Pointers 1) → 266 < data_blocks size
+double_needed size has = omega (arith, has)
 
 pub direct_at : (disk : List (List ℕ)) (inode : Inode) (index : ℕ) → index < 10 → named_at disk inode (Data index) ≡ get_or inode.direct index 0
 direct_at disk inode index lt = ap (led_to disk inode index) (way_within index lt)
 
-pub behind_at : (disk : List (List ℕ)) (inode : Inode) (index : ℕ) → 10 ≤ index → named_at disk inode (Data index) ≡ pointer_at (block_bytes disk inode.indirect) (index - 10)
+pub behind_at : (disk : List (List ℕ)) (inode : Inode) (index : ℕ) → 10 ≤ index
+    → named_at disk inode (Data index) ≡ pointer_at (block_bytes disk (pointer_block disk inode (block_of_run (run_of index)))) ((index - 10) % 256)
 behind_at disk inode index past = ap (led_to disk inode index) (way_behind index past)
 
--- a block of bytes is named as it was said before there was a way: by the inode, or in the one block of pointers
-pub named_is : (disk : List (List ℕ)) (inode : Inode) (index : ℕ)
-    → named_at disk inode (Data index) ≡ cond (ltb index 10) (get_or inode.direct index 0) (pointer_at (block_bytes disk inode.indirect) (index - 10))
-named_is disk inode index = elim (cases_lt index 10) [
-  | inl lt ↦ direct_at disk inode index lt ∙ sym (cond-true (ltb index 10) _ _ (lt-ltb index 10 lt))
-  | inr past ↦ behind_at disk inode index past ∙ sym (cond-false (ltb index 10) _ _ (le-ltb index 10 past))
-]
+-- the block of bytes at a place of a run
+pub in_run : (disk : List (List ℕ)) (inode : Inode) (run at : ℕ) → at < 256 → named_at disk inode (Data (10 + 256 * run + at)) ≡ pointer_at (block_bytes disk (pointer_block disk inode (block_of_run run))) at
+in_run disk inode run at lt =
+    let index : ℕ = 10 + 256 * run + at in
+    let here : run_of index ≡ run = omega (arith, lt) in
+    let there : (index - 10) % 256 ≡ at = omega (arith, lt) in
+    behind_at disk inode index (omega arith) ∙ ap (λ (r : ℕ). pointer_at (block_bytes disk (pointer_block disk inode (block_of_run r))) ((index - 10) % 256)) here
+    ∙ ap (pointer_at (block_bytes disk (pointer_block disk inode (block_of_run run)))) there
 
--- and a node has one block of pointers just where it has more than ten of bytes
-pub pointer_blocks_are : (size : ℕ) → pointer_blocks size ≡ cond (ltb 10 (data_blocks size)) 1 0
-pointer_blocks_are size = elim (cases_lt 10 (data_blocks size)) [
-  | inl large ↦ (let one : pointer_blocks size ≡ 1 = omega (arith, large) in one ∙ sym (ap (λ (b : Bool). cond b 1 0) (lt-ltb 10 (data_blocks size) large)))
-  | inr few ↦ (let none : pointer_blocks size ≡ 0 = omega (arith, few) in none ∙ sym (ap (λ (b : Bool). cond b 1 0) (le-ltb 10 (data_blocks size) few)))
+-- what a node names goes by its pointers alone
+same_pointers : (disk : List (List ℕ)) (old new : Inode) → new.indirect ≡ old.indirect → new.double ≡ old.double → (block : ℕ) → pointer_block disk new block ≡ pointer_block disk old block
+same_pointers disk old new indirect double zero = indirect
+same_pointers disk old new indirect double (suc zero) = double
+same_pointers disk old new indirect double (suc (suc block)) = ap (λ (n : ℕ). pointer_at (block_bytes disk n) block) double
+
+pub same_names : (disk : List (List ℕ)) (old new : Inode) → new.direct ≡ old.direct → new.indirect ≡ old.indirect → new.double ≡ old.double → (place : Place) → named_at disk new place ≡ named_at disk old place
+same_names disk old new direct indirect double (Data index) = elim (cases_lt index 10) [
+  | inl first ↦ direct_at disk new index first ∙ ap (λ (l : List ℕ). get_or l index 0) direct ∙ sym (direct_at disk old index first)
+  | inr past ↦
+      behind_at disk new index past
+      ∙ ap (λ (n : ℕ). pointer_at (block_bytes disk n) ((index - 10) % 256)) (same_pointers disk old new indirect double (block_of_run (run_of index)))
+      ∙ sym (behind_at disk old index past)
 ]
+same_names disk old new direct indirect double (Pointers block) = same_pointers disk old new indirect double block
+
+-- and by the bytes of its blocks of pointers
+abbrev PointersStay : List (List ℕ) → List (List ℕ) → Inode → Type 0
+PointersStay before after inode = (block : ℕ) → HasPlace inode.size (Pointers block) → block_bytes after (pointer_block before inode block) ≡ block_bytes before (pointer_block before inode block)
+
+pointers_stay : (before after : List (List ℕ)) (inode : Inode) → PointersStay before after inode → (block : ℕ) → HasPlace inode.size (Pointers block) → pointer_block after inode block ≡ pointer_block before inode block
+pointers_stay before after inode stay zero has = refl
+pointers_stay before after inode stay (suc zero) has = refl
+pointers_stay before after inode stay (suc (suc block)) has = ap (λ (bytes : List ℕ). pointer_at bytes block) (stay 1 (has_double inode.size block has))
+
+pub names_stay : (before after : List (List ℕ)) (inode : Inode) → PointersStay before after inode → (place : Place) → HasPlace inode.size place → named_at after inode place ≡ named_at before inode place
+names_stay before after inode stay (Data index) lt = elim (cases_lt index 10) [
+  | inl first ↦ direct_at after inode index first ∙ sym (direct_at before inode index first)
+  | inr past ↦
+      let block : ℕ = block_of_run (run_of index) in
+      let has : HasPlace inode.size (Pointers block) = has_way inode.size index past lt in
+      behind_at after inode index past
+      ∙ ap (λ (n : ℕ). pointer_at (block_bytes after n) ((index - 10) % 256)) (pointers_stay before after inode stay block has)
+      ∙ ap (λ (bytes : List ℕ). pointer_at bytes ((index - 10) % 256)) (stay block has)
+      ∙ sym (behind_at before inode index past)
+]
+names_stay before after inode stay (Pointers block) has = pointers_stay before after inode stay block has
+
+-- a pointer that a size needs, as a function of where it leads
+needed_at : (blocks size block at pointer : ℕ) → leads_to block at * block_size < size → IsPointer blocks (needs_pointer size block at) pointer → IsForFiles blocks pointer
+needed_at blocks size block at pointer lt is = is_needed blocks (leads_to block at * block_size) size pointer lt is
 
 -- what a node names is a block for files
 pub named_is_for_files : (disk : List (List ℕ)) → Sound disk → (node : ℕ) (inode : Inode) (place : Place) → HasInode disk node inode → HasPlace inode.size place → IsForFiles (length disk) (named_at disk inode place)
@@ -219,14 +275,22 @@ named_is_for_files disk sound node inode (Data index) has lt =
     elim (cases_lt index 10) [
       | inl first ↦
           subst (IsForFiles (length disk)) (sym (direct_at disk inode index first)) (is_needed (length disk) (index * block_size) inode.size (get_or inode.direct index 0) (omega (arith, lt)) (has.valid.pointers.direct index first))
-      | inr behind ↦
-          let large : 10 * block_size < inode.size = omega (arith, lt, behind) in
-          let within : index - 10 < 256 = omega (arith, lt, has.valid.kind.size) in
-          let needed : (10 + (index - 10)) * block_size < inode.size = omega (arith, lt, behind) in
-          let is = sound.pointers node inode 0 (index - 10) has (omega (arith, large)) within in
-          subst (IsForFiles (length disk)) (sym (behind_at disk inode index behind)) (is_needed (length disk) ((10 + (index - 10)) * block_size) inode.size (pointer_at (block_bytes disk inode.indirect) (index - 10)) needed is)
+      | inr past ↦
+          let block : ℕ = block_of_run (run_of index) in
+          let at : ℕ = (index - 10) % 256 in
+          let leads : leads_to block at ≡ index = leads_behind (run_of index) at ∙ omega (arith, past) in
+          let is = sound.pointers node inode block at has (has_way inode.size index past lt) (omega arith) in
+          subst (IsForFiles (length disk)) (sym (behind_at disk inode index past)) (
+          needed_at (length disk) inode.size block at (pointer_at (block_bytes disk (pointer_block disk inode block)) at) (subst (λ (n : ℕ). n * block_size < inode.size) (sym leads) (omega (arith, lt))) is
+          )
     ]
-named_is_for_files disk sound node inode (Pointers block) has lt = is_needed (length disk) (10 * block_size) inode.size inode.indirect (omega (arith, lt)) has.valid.pointers.indirect
+named_is_for_files disk sound node inode (Pointers zero) has lt = is_needed (length disk) (10 * block_size) inode.size inode.indirect (omega (arith, lt)) has.valid.pointers.indirect
+named_is_for_files disk sound node inode (Pointers (suc zero)) has lt =
+    is_needed (length disk) (266 * block_size) inode.size inode.double (omega (arith, double_needed inode.size lt)) has.valid.pointers.double
+named_is_for_files disk sound node inode (Pointers (suc (suc block))) has lt =
+    let needed : 10 + 256 * suc block < data_blocks inode.size = run_needed inode.size (suc block) lt in
+    let within : block < 256 = omega (arith, needed, has.valid.kind.size) in
+    needed_at (length disk) inode.size 1 block (pointer_at (block_bytes disk inode.double) block) (omega (arith, needed)) (sound.pointers node inode 1 block has (has_double inode.size block lt) within)
 
 pub is_for_files : (disk : List (List ℕ)) (number : ℕ) → Sound disk → IsNamed disk number → IsForFiles (length disk) number
 is_for_files disk number sound named = subst (IsForFiles (length disk)) (sym named.same) (named_is_for_files disk sound named.node named.inode named.place named.has named.within)
@@ -240,12 +304,6 @@ front_place size k lt = cond-true (ltb k (data_blocks size)) _ _ (lt-ltb k (data
 
 last_place : (size k : ℕ) → data_blocks size ≤ k → nth_place size k ≡ Pointers (k - data_blocks size)
 last_place size k le = cond-false (ltb k (data_blocks size)) _ _ (le-ltb k (data_blocks size) le)
-
-pub one_for_pointers : (size : ℕ) → 10 < data_blocks size → pointer_blocks size ≡ 1
-one_for_pointers size large = omega (arith, large)
-
-pub none_for_pointers : (size : ℕ) → data_blocks size ≤ 10 → pointer_blocks size ≡ 0
-none_for_pointers size few = omega (arith, few)
 
 has_nth : (size k : ℕ) → k < blocks_of size → HasPlace size (nth_place size k)
 has_nth size k lt = elim (cases_lt k (data_blocks size)) [

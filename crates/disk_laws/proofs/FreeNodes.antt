@@ -54,7 +54,7 @@ some_block_is_free disk = (
 pub some_node_is_free : (disk : List (List ℕ)) (inodes : List Inode) → IsTable disk inodes → (0 < free_inodes inodes) ↔ ((node : ℕ) × IsFreeNode disk node)
 some_node_is_free disk inodes table = (
   λ some.
-      let any : Inode = record { kind = 0; nlink = 0; size = 0; direct = []; indirect = 0 } in
+      let any : Inode = record { kind = 0; nlink = 0; size = 0; direct = []; indirect = 0; double = 0 } in
       let at = found (λ (inode : Inode). eqb inode.kind 0) inodes any some in
       (at.0 + 1, (get_or inodes at.0 any, table.each at.0 any at.1, eqb-true _ 0 at.2)),
   λ free.

@@ -2,6 +2,8 @@ pub mod DiskSpelling
 pub mod FormattedDisk
 pub mod FreeBlocks
 pub mod OneNode
+pub mod Pointing
+pub mod Leading
 pub mod BlockWritten
 pub mod DirectoryEntries
 pub mod FreeNodes

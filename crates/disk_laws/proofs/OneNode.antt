@@ -1,7 +1,7 @@
 -- A disk on which one node was replaced is sound, and every other node is as it was.
-use Rattle.std.proofs.Common.{◌≡◌, ◌≢◌, ℕ, zero, suc, ◌+◌, ◌-◌, ◌*◌, ◌/◌, ◌%◌, ◌<◌, ◌≤◌, ◌⊎◌, inl, inr, List, ◌∷◌, map, length, get_or, set, ltb, refl, sym, ap, subst, ◌∙◌, arith}
+use Rattle.std.proofs.Common.{◌≡◌, ◌≢◌, ℕ, zero, suc, ◌+◌, ◌-◌, ◌/◌, ◌%◌, ◌<◌, ◌≤◌, ◌⊎◌, inl, inr, List, ◌∷◌, map, length, get_or, set, refl, sym, ap, subst, ◌∙◌, arith}
 use Rattle.std.specs.List.{range_with_len}
-use Rattle.std.proofs.lemmas.Bool.{cases_lt, cases_eq}
+use Rattle.std.proofs.lemmas.Bool.{cases_eq}
 use Rattle.std.proofs.lemmas.List.{length-set, get_or-set_same, get_or-set_other}
 use Rattle.std.proofs.lemmas.List.Sums.{sum_by-set}
 use Rattle.kabi_types.specs.declared.inodes.Inode.{Inode}
@@ -11,7 +11,7 @@ use Rattle.posix_defs.specs.DiskContents.{data_block, byte_at, node_bytes}
 use Rattle.posix_defs.specs.NodeChange.{Names, Replaces}
 use Rattle.posix_defs.specs.DiskTree.{ChangesNode}
 use Rattle.disk_laws.proofs.FormattedDisk.{one_inode}
-use Rattle.disk_laws.proofs.FreeBlocks.{named_is_for_files, direct_at, behind_at, has_table, used_and_free}
+use Rattle.disk_laws.proofs.FreeBlocks.{named_is_for_files, names_stay, has_table, used_and_free}
 
 -- ---- what another node names
 
@@ -36,15 +36,8 @@ untouched_of number before old after new sound change node inode place other has
 -- it names the same blocks as before
 same_named : (number : ℕ) (before : List (List ℕ)) (old : Inode) (after : List (List ℕ)) (new : Inode) → Sound before → Replaces number before old after new
     → (node : ℕ) (inode : Inode) (place : Place) → node ≢ number → HasInode before node inode → HasPlace inode.size place → named_at after inode place ≡ named_at before inode place
-same_named number before old after new sound change node inode (Data index) other has within =
-    elim (cases_lt index 10) [
-      | inl first ↦ direct_at after inode index first ∙ sym (direct_at before inode index first)
-      | inr behind ↦
-          let large : HasPlace inode.size (Pointers 0) = omega (arith, behind, within) in
-          let block : block_bytes after inode.indirect ≡ block_bytes before inode.indirect = untouched_of number before old after new sound change node inode (Pointers 0) other has large in
-          behind_at after inode index behind ∙ ap (λ (bytes : List ℕ). pointer_at bytes (index - 10)) block ∙ sym (behind_at before inode index behind)
-    ]
-same_named number before old after new sound change node inode (Pointers block) other has within = refl
+same_named number before old after new sound change node inode place other has within =
+    names_stay before after inode (λ block has_block. untouched_of number before old after new sound change node inode (Pointers block) other has has_block) place within
 
 -- ---- the table
 
@@ -107,14 +100,16 @@ sound_table number before old after new sound change node pos within =
 
 sound_pointers : (number : ℕ) (before : List (List ℕ)) (old : Inode) (after : List (List ℕ)) (new : Inode) → Sound before → Replaces number before old after new
     → (node : ℕ) (inode : Inode) (block at : ℕ) → HasInode after node inode → block < pointer_blocks inode.size → at < 256
-    → IsPointer (length after) (needs_pointer inode.size block at) (pointer_at (block_bytes after (pointer_block inode block)) at)
+    → IsPointer (length after) (needs_pointer inode.size block at) (pointer_at (block_bytes after (pointer_block after inode block)) at)
 sound_pointers number before old after new sound change node inode block at has large lt =
-    let Right : ℕ → Inode → Type 0 = λ n i. IsPointer n (needs_pointer i.size block at) (pointer_at (block_bytes after (pointer_block i block)) at) in
+    let Right : ℕ → Inode → Type 0 = λ n i. IsPointer n (needs_pointer i.size block at) (pointer_at (block_bytes after (pointer_block after i block)) at) in
     subst (λ (n : ℕ). Right n inode) (sym change.count) (
     elim (who number before old after new change node inode has) [
       | inl this ↦ subst (λ (i : Inode). Right (length before) i) (sym this.1) (change.pointers block at (subst (λ (i : Inode). block < pointer_blocks i.size) this.1 large) lt)
       | inr other ↦
-          let bytes_stay : block_bytes after (pointer_block inode block) ≡ block_bytes before (pointer_block inode block) = untouched_of number before old after new sound change node inode (Pointers block) other.0 other.1 large in
+          let same : pointer_block after inode block ≡ pointer_block before inode block = same_named number before old after new sound change node inode (Pointers block) other.0 other.1 large in
+          let bytes_stay : block_bytes after (pointer_block after inode block) ≡ block_bytes before (pointer_block before inode block) =
+          ap (block_bytes after) same ∙ untouched_of number before old after new sound change node inode (Pointers block) other.0 other.1 large in
           subst (λ (bytes : List ℕ). IsPointer (length before) (needs_pointer inode.size block at) (pointer_at bytes at)) (sym bytes_stay) (sound.pointers node inode block at other.1 large lt)
     ]
     )

@@ -4,6 +4,7 @@
 
 mod disk_trees;
 mod disks;
+mod ways;
 
 pub use disk_trees::{
     a_change_of_one_node_stands_for_the_changed_tree, a_disk_stands_for_one_tree,
@@ -16,4 +17,7 @@ pub use disks::{
     a_formatted_disk_is_sound, a_name_leads_to_one_node, a_sound_disk_has_a_table,
     bytes_of_a_disk_say_one_thing, free_blocks_are_those_that_no_node_names, one_node_is_replaced,
     what_is_free_is_counted,
+};
+pub use ways::{
+    a_node_has_the_blocks_of_pointers_that_it_needs, every_block_of_bytes_has_its_own_way,
 };

@@ -3,6 +3,7 @@ pub mod InodeBytes
 pub mod EntryBytes
 pub mod MapBits
 pub mod NewDisk
+pub mod OldInodes
 pub mod RegionBlocks
 pub mod FullBytes
 pub mod TableBlocks

@@ -20,8 +20,11 @@ const DIRECT_POINTERS: u32 = 10;
 /// How many blocks a block of pointers names.
 const BLOCK_POINTERS: u32 = 256;
 
+/// How many blocks of bytes a node can name without a double block.
+const NEAR_BLOCKS: u32 = DIRECT_POINTERS + BLOCK_POINTERS;
+
 /// The greatest size of a node: as many blocks of bytes as it can name.
-pub const GREATEST_SIZE: u32 = BLOCK_SIZE * (DIRECT_POINTERS + BLOCK_POINTERS);
+pub const GREATEST_SIZE: u32 = BLOCK_SIZE * (NEAR_BLOCKS + BLOCK_POINTERS * BLOCK_POINTERS);
 
 /// The big-endian numbers of an inode's direct pointers.
 fn pointers_of(bytes: &[u8]) -> [u32; 10]
@@ -43,6 +46,7 @@ fn fields_of(bytes: &[u8; 64]) -> Inode
     ensures size { to_be_bytes w32 result.size ≡ take 4 (drop 4 bytes.now) }
     ensures direct { flat_map (to_be_bytes w32) result.direct ≡ take 40 (drop 8 bytes.now) }
     ensures indirect { to_be_bytes w32 result.indirect ≡ take 4 (drop 48 bytes.now) }
+    ensures double { to_be_bytes w32 result.double ≡ take 4 (drop 52 bytes.now) }
 {
     Inode {
         kind: bytes[0],
@@ -50,6 +54,7 @@ fn fields_of(bytes: &[u8; 64]) -> Inode
         size: word_at(bytes, 4),
         direct: pointers_of(&bytes[8..48]),
         indirect: word_at(bytes, 48),
+        double: word_at(bytes, 52),
     }
 }
 
@@ -58,7 +63,7 @@ fn spelled_in(bytes: &[u8; 64]) -> Option<Inode>
     ensures spelled { IfSome result (λ inode. Fits inode × (bytes.now ≡ inode_bytes inode)) }
     ensures none { IfNone result ((inode : Inode) → Fits inode → ¬ (bytes.now ≡ inode_bytes inode)) }
 {
-    if bytes[1] != 0 || !all_zero(&bytes[52..]) {
+    if bytes[1] != 0 || !all_zero(&bytes[56..]) {
         return None;
     }
     Some(fields_of(bytes))
@@ -103,8 +108,11 @@ fn are_direct_pointers(inode: &Inode, blocks: u32) -> bool
 fn has_pointers(inode: &Inode, blocks: u32) -> bool
     ensures { IsTrue result ↔ HasPointers blocks inode.now }
 {
-    let is_large = DIRECT_POINTERS * BLOCK_SIZE < inode.size;
-    are_direct_pointers(inode, blocks) && is_pointer(inode.indirect, is_large, blocks)
+    let has_indirect = DIRECT_POINTERS * BLOCK_SIZE < inode.size;
+    let has_double = NEAR_BLOCKS * BLOCK_SIZE < inode.size;
+    are_direct_pointers(inode, blocks)
+        && is_pointer(inode.indirect, has_indirect, blocks)
+        && is_pointer(inode.double, has_double, blocks)
 }
 
 /// The inode that the bytes spell on a disk of so many blocks.
@@ -135,5 +143,6 @@ pub fn bytes_of(inode: &Inode) -> [u8; 64]
     put(&mut bytes, 4, &inode.size.to_be_bytes());
     put_words(&mut bytes, 8, &inode.direct);
     put(&mut bytes, 48, &inode.indirect.to_be_bytes());
+    put(&mut bytes, 52, &inode.double.to_be_bytes());
     bytes
 }

@@ -10,8 +10,10 @@ pub struct Inode {
     pub size: u32,
     /// The numbers of the first ten blocks; 0 where the size doesn't need one.
     pub direct: [u32; 10],
-    /// The number of the block that has the further pointers; 0 where the size doesn't need one.
+    /// The number of the block that has the next 256 pointers; 0 where the size doesn't need one.
     pub indirect: u32,
+    /// The number of the block that names the blocks of all further pointers; 0 where the size doesn't need one.
+    pub double: u32,
 }
 
 /// An entry of a directory: a name, and the number of its node.

@@ -254,12 +254,12 @@ cut_and_grown =
     ∷ gets 1 (call.OpenFile (codes "/f") (pos 0)) (reply.Val (pos 2))
     ∷ fails 1 (call.Ftruncate (pos 2) (pos 0)) errno.EBADF
     ∷ fails 1 (call.Ftruncate (pos 2) (negsuc 0)) errno.EINVAL
-    ∷ fails 1 (call.Ftruncate (pos 2) (pos 272385)) errno.EBADF
-    ∷ fails 1 (call.Ftruncate (pos 1) (pos 272385)) errno.EFBIG
+    ∷ fails 1 (call.Ftruncate (pos 2) (pos 67381249)) errno.EBADF
+    ∷ fails 1 (call.Ftruncate (pos 1) (pos 67381249)) errno.EFBIG
     ∷ fails 1 (call.Ftruncate (pos 1) (pos 9223372036854775807)) errno.EFBIG
     ∷ gets 1 (call.OpenFile (codes "/") (pos 0)) (reply.Val (pos 3))
     ∷ fails 1 (call.Ftruncate (pos 3) (pos 0)) errno.EINVAL
-    ∷ fails 1 (call.Ftruncate (pos 3) (pos 272385)) errno.EINVAL
+    ∷ fails 1 (call.Ftruncate (pos 3) (pos 67381249)) errno.EINVAL
     ∷ fails 1 (call.Ftruncate (pos 9) (pos 0)) errno.EBADF
     ∷ ends 1 (call.Exit (pos 0)) 0
     ∷ []

@@ -1,19 +1,20 @@
 -- A look through the entries of a directory, block by block.
-use Rattle.std.proofs.Common.{◌≡◌, ◌≢◌, ℕ, suc, ◌+◌, ◌-◌, ◌*◌, ◌/◌, ◌%◌, ◌<◌, ◌≤◌, Bool, true, false, cond, ltb, eqb, List, [], ◌∷◌, ◌++◌, map, length, get_or, inl, inr, Some, None, refl, sym, ap, subst, ◌∙◌, arith}
-use Rattle.std.specs.List.{position_or_len}
+use Rattle.std.proofs.Common.{◌≡◌, ◌≢◌, ℕ, zero, suc, ◌+◌, ◌-◌, ◌*◌, ◌/◌, ◌%◌, ◌<◌, ◌≤◌, ◌⊎◌, true, false, cond, ltb, eqb, List, [], ◌∷◌, ◌++◌, map, length, get_or, inl, inr, Some, None, refl, sym, ap, subst, ◌∙◌, arith}
+use Rattle.std.specs.List.{position_or_len, range_with_len}
 use Rattle.std.proofs.lemmas.Bool.{cases_lt, lt-ltb, le-ltb, ne_eqb, cond-true, cond-false, false_from_ne_true}
 use Rattle.std.proofs.lemmas.List.Sums.{position_or_len_is}
 use Rattle.std.proofs.lemmas.Slice.Eq.{bytes_eq-Decides}
 use Rattle.kabi_types.specs.declared.inodes.Inode.{Inode}
 use Rattle.kabi_types.specs.declared.inodes.DirEntry.{DirEntry}
 use Rattle.posix_defs.specs.Asking.{AskedInTurn}
-use Rattle.posix_defs.specs.SoundDisk.{block_bytes, Place, Data, Pointers, named_at}
+use Rattle.posix_defs.specs.DiskFormat.{pointers_beside}
+use Rattle.posix_defs.specs.SoundDisk.{block_bytes, block_of_run, Place, Data, Pointers, named_at, pointer_block}
 use Rattle.posix_defs.specs.DiskContents.{data_block, HasEntries}
 use Rattle.posix_defs.specs.Tree.{has_name}
 use Rattle.posix_defs.specs.TreeChanges.{no_entry}
 use Rattle.disk_laws.proofs.FreeBlocks.{direct_at}
 use Rattle.memfs_dir.specs.Slots.{Spells, IsCalled}
-use Rattle.memfs_dir.specs.Looking.{IsLookOf, looked_at, looked_through}
+use Rattle.memfs_dir.specs.Looking.{IsLookOf, blocks_at, entered, looked_at, looked_through}
 use Rattle.memfs_dir.specs.Listed.{place_called}
 use Rattle.memfs_dir.proofs.SlotBytes.{one_entry}
 use Rattle.memfs_dir.proofs.DirectoryBytes.{spelled}
@@ -88,7 +89,7 @@ look_found disk inode entries index slot node block name has lt within is before
 
 -- ---- what was asked for
 
-asked_append : {Thing Question : Type 0} (asked : Thing → Question → Thing → Type 0) (first second third : Thing) (xs ys : List Question) → AskedInTurn asked first xs second → AskedInTurn asked second ys third
+pub asked_append : {Thing Question : Type 0} (asked : Thing → Question → Thing → Type 0) (first second third : Thing) (xs ys : List Question) → AskedInTurn asked first xs second → AskedInTurn asked second ys third
     → AskedInTurn asked first (xs ++ ys) third
 asked_append {Thing} {Question} asked first second third [] ys one other = subst (λ (thing : Thing). AskedInTurn asked thing ys third) one other
 asked_append {Thing} {Question} asked first second third (x ∷ xs) ys one other = (one.0, one.1, asked_append asked one.0 second third xs ys one.2 other)
@@ -97,26 +98,54 @@ map_both : (f : Place → ℕ) (xs ys : List Place) → map f (xs ++ ys) ≡ map
 map_both f [] ys = refl
 map_both f (x ∷ xs) ys = ap (λ (rest : List ℕ). f x ∷ rest) (map_both f xs ys)
 
-abbrev pub blocks_at : List (List ℕ) → Inode → List Place → List ℕ
-blocks_at disk inode places = map (λ there. named_at disk inode there) places
-
 -- one block more
-asked_one : {Thing : Type 0} (asked : Thing → ℕ → Thing → Type 0) (disk : List (List ℕ)) (inode : Inode) (index number : ℕ) (far : Bool) (first second third : Thing) → number ≡ data_block disk inode index
-    → AskedInTurn asked first (cond far (inode.indirect ∷ []) []) second → asked second number third
-    → AskedInTurn asked first (blocks_at disk inode (cond far (Pointers 0 ∷ Data index ∷ []) (Data index ∷ []))) third
-asked_one {Thing} asked disk inode index number true first second third is pointers block =
-    (pointers.0, pointers.1, (third, subst (λ (thing : Thing). asked thing (data_block disk inode index) third) pointers.2 (subst (λ (n : ℕ). asked second n third) is block), refl))
-asked_one {Thing} asked disk inode index number false first second third is none block =
-    (third, subst (λ (thing : Thing). asked thing (data_block disk inode index) third) none (subst (λ (n : ℕ). asked second n third) is block), refl)
+asked_one : {Thing : Type 0} (asked : Thing → ℕ → Thing → Type 0) (disk : List (List ℕ)) (inode : Inode) (index number : ℕ) (first second third : Thing) → number ≡ data_block disk inode index
+    → AskedInTurn asked first (blocks_at disk inode (entered index)) second → asked second number third → AskedInTurn asked first (blocks_at disk inode (looked_at index)) third
+asked_one {Thing} asked disk inode index number first second third is pointers block =
+    subst (λ (numbers : List ℕ). AskedInTurn asked first numbers third) (sym (map_both (λ there. named_at disk inode there) (entered index) (Data index ∷ [])))
+    (asked_append asked first second third (blocks_at disk inode (entered index)) (data_block disk inode index ∷ []) pointers (third, subst (λ (n : ℕ). asked second n third) is block, refl))
 
 pub asked_further : {Thing : Type 0} (asked : Thing → ℕ → Thing → Type 0) (disk : List (List ℕ)) (inode : Inode) (index number count : ℕ) (start first second third : Thing) → number ≡ data_block disk inode index → count ≡ suc index
-    → AskedInTurn asked start (blocks_at disk inode (looked_through index)) first → AskedInTurn asked first (cond (eqb index 10) (inode.indirect ∷ []) []) second → asked second number third
+    → AskedInTurn asked start (blocks_at disk inode (looked_through index)) first → AskedInTurn asked first (blocks_at disk inode (entered index)) second → asked second number third
     → AskedInTurn asked start (blocks_at disk inode (looked_through count)) third
 asked_further {Thing} asked disk inode index number count start first second third is next before pointers block =
     subst (λ (n : ℕ). AskedInTurn asked start (blocks_at disk inode (looked_through n)) third) (sym next) (
     subst (λ (numbers : List ℕ). AskedInTurn asked start numbers third) (sym (map_both (λ there. named_at disk inode there) (looked_through index) (looked_at index)))
-    (asked_append asked start first third (blocks_at disk inode (looked_through index)) (blocks_at disk inode (looked_at index)) before (asked_one asked disk inode index number (eqb index 10) first second third is pointers block))
+    (asked_append asked start first third (blocks_at disk inode (looked_through index)) (blocks_at disk inode (looked_at index)) before (asked_one asked disk inode index number first second third is pointers block))
     )
+
+-- ---- the blocks of pointers on the way
+
+-- those that a block of entries more takes, by their numbers
+entered_are : (index from count : ℕ) → pointers_beside index ≡ from → pointers_beside (index + 1) - pointers_beside index ≡ count → entered index ≡ map Pointers (range_with_len from count)
+entered_are index from count begins many =
+    ap (λ (n : ℕ). map Pointers (range_with_len n (pointers_beside (index + 1) - pointers_beside index))) begins ∙ ap (λ (n : ℕ). map Pointers (range_with_len from n)) many
+
+-- none within a run
+pub none_entered : (index : ℕ) → (index < 10) ⊎ ((index - 10) % 256 ≢ 0) → entered index ≡ []
+none_entered index (inl first) = entered_are index 0 0 (omega (arith, first)) (omega (arith, first))
+none_entered index (inr inside) = entered_are index (pointers_beside index) 0 refl (omega (arith, inside))
+
+-- at the first of a run its block, and with the second run the double block before
+pub run_entered : (disk : List (List ℕ)) (inode : Inode) (run index : ℕ) → index ≡ 10 + 256 * run
+    → blocks_at disk inode (entered index) ≡ cond (eqb run 1) (inode.double ∷ []) [] ++ pointer_block disk inode (block_of_run run) ∷ []
+run_entered disk inode zero index is = ap (blocks_at disk inode) (entered_are index 0 1 (omega (arith, is)) (omega (arith, is)))
+run_entered disk inode (suc zero) index is = ap (blocks_at disk inode) (entered_are index 1 2 (omega (arith, is)) (omega (arith, is)))
+run_entered disk inode (suc (suc run)) index is =
+    ap (blocks_at disk inode) (entered_are index (suc (suc (suc run))) 1 (omega (arith, is)) (omega (arith, is)))
+    ∙ ap (λ (xs : List ℕ). xs ++ pointer_block disk inode (suc (suc (suc run))) ∷ []) (sym (cond-false (eqb (suc (suc run)) 1) (inode.double ∷ []) [] (ne_eqb (suc (suc run)) 1 (λ e. omega (arith, e)))))
+
+-- where a run's block was asked for behind what was asked for before it
+pub asked_for_run : {Thing : Type 0} (asked : Thing → ℕ → Thing → Type 0) (disk : List (List ℕ)) (inode : Inode) (run index number : ℕ) (first second third : Thing) → index ≡ 10 + 256 * run
+    → number ≡ pointer_block disk inode (block_of_run run) → AskedInTurn asked first (cond (eqb run 1) (inode.double ∷ []) []) second → asked second number third
+    → AskedInTurn asked first (blocks_at disk inode (entered index)) third
+asked_for_run {Thing} asked disk inode run index number first second third is named double pointers =
+    subst (λ (numbers : List ℕ). AskedInTurn asked first numbers third) (sym (run_entered disk inode run index is))
+    (asked_append asked first second third (cond (eqb run 1) (inode.double ∷ []) []) (pointer_block disk inode (block_of_run run) ∷ []) double (third, subst (λ (n : ℕ). asked second n third) named pointers, refl))
+
+pub asked_for_none : {Thing : Type 0} (asked : Thing → ℕ → Thing → Type 0) (disk : List (List ℕ)) (inode : Inode) (index : ℕ) (thing : Thing) → (index < 10) ⊎ ((index - 10) % 256 ≢ 0)
+    → AskedInTurn asked thing (blocks_at disk inode (entered index)) thing
+asked_for_none {Thing} asked disk inode index thing inside = subst (λ (places : List Place). AskedInTurn asked thing (blocks_at disk inode places) thing) (sym (none_entered index inside)) refl
 
 -- ---- a block that the inode names itself
 
@@ -124,5 +153,5 @@ pub direct : (disk : List (List ℕ)) (inode : Inode) (index : ℕ) → index < 
 direct disk inode index lt number is = is ∙ sym (direct_at disk inode index lt)
 
 -- no block of pointers is asked for on the way to it
-pub near_asked : {Thing : Type 0} (asked : Thing → ℕ → Thing → Type 0) (inode : Inode) (index : ℕ) (thing : Thing) → index < 10 → AskedInTurn asked thing (cond (eqb index 10) (inode.indirect ∷ []) []) thing
-near_asked {Thing} asked inode index thing lt = subst (λ (far : Bool). AskedInTurn asked thing (cond far (inode.indirect ∷ []) []) thing) (sym (ne_eqb index 10 (λ same. omega (arith, same, lt)))) refl
+pub near_asked : {Thing : Type 0} (asked : Thing → ℕ → Thing → Type 0) (disk : List (List ℕ)) (inode : Inode) (index : ℕ) (thing : Thing) → index < 10 → AskedInTurn asked thing (blocks_at disk inode (entered index)) thing
+near_asked {Thing} asked disk inode index thing lt = asked_for_none asked disk inode index thing (inl lt)

@@ -6,7 +6,7 @@ use Rattle.std.proofs.lemmas.List.Elements.{All-set}
 use Rattle.kabi_types.specs.declared.inodes.Inode.{Inode}
 use Rattle.kabi_types.specs.declared.inodes.DirEntry.{DirEntry}
 use Rattle.posix_defs.specs.DiskFormat.{data_blocks, IsForFiles, IsEntry, entry_bytes}
-use Rattle.posix_defs.specs.SoundDisk.{block_bytes, HasNode}
+use Rattle.posix_defs.specs.SoundDisk.{block_bytes, Data, HasNode}
 use Rattle.posix_defs.specs.DiskContents.{data_block, byte_at, HasEntries}
 use Rattle.posix_defs.specs.NodeChange.{WritesBlock}
 use Rattle.posix_defs.specs.TreeChanges.{no_entry}
@@ -20,7 +20,7 @@ byte_of disk inode at index block where_ is = ap (λ (n : ℕ). get_or (block_by
 
 block_after : (number : ℕ) (before : List (List ℕ)) (inode : Inode) (index : ℕ) (bytes : List ℕ) (after : List (List ℕ)) → WritesBlock number before inode index bytes after → index < data_blocks inode.size
     → block_bytes after (data_block after inode index) ≡ bytes
-block_after number before inode index bytes after w lt = ap (λ (n : ℕ). block_bytes after n) (w.names index lt) ∙ w.this
+block_after number before inode index bytes after w lt = ap (λ (n : ℕ). block_bytes after n) (w.names (Data index) lt) ∙ w.this
 
 -- a block for files isn't the map
 pub map_stays : (disk : List (List ℕ)) (number : ℕ) (block : List ℕ) → IsForFiles (length disk) number → block_bytes (set disk number block) 0 ≡ block_bytes disk 0
@@ -44,7 +44,7 @@ puts number before inode place entry block after node within w here map beside =
         | inl same ↦ byte_of after inode at (place / 32) block same is ∙ beside at lt same aside
         | inr other ↦
             let at_lt : at / 1024 < data_blocks inode.size = omega (arith, lt) in
-            ap (λ (n : ℕ). get_or (block_bytes after n) (at % 1024) 0) (w.names (at / 1024) at_lt)
+            ap (λ (n : ℕ). get_or (block_bytes after n) (at % 1024) 0) (w.names (Data (at / 1024)) at_lt)
             ∙ ap (λ (bytes : List ℕ). get_or bytes (at % 1024) 0) (w.others (at / 1024) at_lt other)
       ];
     }

@@ -14,7 +14,7 @@ use posix_defs::Blocks;
 /// Puts an entry behind all others of a directory. The blocks that it takes are the lowest of those that are free, and it
 /// frees none.
 ///
-/// ENOSPC exactly where the directory has the greatest size, or fewer blocks are free than it grows by, its block of
+/// ENOSPC exactly where the directory has the greatest size, or fewer blocks are free than it grows by, its blocks of
 /// pointers among them; nothing is written then.
 pub fn dir_add<B: Blocks>(
     b: &mut B,

@@ -17,7 +17,8 @@ use posix_defs::Blocks;
 
 /// The entry at a place of a directory, counted from 0.
 ///
-/// One of the first 320 costs a `get` of its block, every other also one of the directory's block of pointers.
+/// One of the first 320 costs a `get` of its block, one of the first 8512 also one of the directory's block of pointers, and
+/// every other one of the double block and one of the pointers that this one names.
 pub fn dir_entry<B: Blocks>(b: &mut B, dir: &Inode, place: u32) -> DirEntry
     requires sound { Sound (B.blocks b.old) }
     requires node { IsInUse (B.blocks b.old) dir.now }
@@ -27,7 +28,7 @@ pub fn dir_entry<B: Blocks>(b: &mut B, dir: &Inode, place: u32) -> DirEntry
     ensures valid { IsEntry result }
     ensures kept { B.blocks b.new ≡ B.blocks b.old }
     ensures asked { let index = place / entries_in_block in
-        AskedInTurn B.asked b.old (asked_for dir.now index ++ data_block (B.blocks b.old) dir.now index ∷ []) b.new }
+        AskedInTurn B.asked b.old (asked_for (B.blocks b.old) dir.now index ++ data_block (B.blocks b.old) dir.now index ∷ []) b.new }
     ensures follows { B.follows b.old b.new }
 {
     let number = block_at(b, dir, place / ENTRIES_IN_BLOCK);

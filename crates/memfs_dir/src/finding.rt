@@ -1,20 +1,19 @@
-ghost use Rattle.std.specs.Prelude.{◌≡◌, ◌≢◌, ℕ, ◌+◌, ◌*◌, ◌<◌, ◌≤◌, ◌^◌, ◌==◌, if◌then◌else◌, List, [], ◌∷◌, None, IfSome, length, slice_index};
+ghost use Rattle.std.specs.Prelude.{◌≡◌, ◌≢◌, ℕ, ◌+◌, ◌*◌, ◌<◌, ◌≤◌, ◌^◌, ◌==◌, if◌then◌else◌, List, [], ◌∷◌, None, IfSome, length};
 ghost use Rattle.kabi_types.specs.declared.inodes.DirEntry.{DirEntry};
 ghost use Rattle.posix_defs.specs.Asking.{AskedInTurn};
-ghost use Rattle.posix_defs.specs.DiskFormat.{direct_pointers, block_pointers, data_blocks};
-ghost use Rattle.posix_defs.specs.SoundDisk.{Sound, block_bytes, pointer_at};
+ghost use Rattle.posix_defs.specs.DiskFormat.{data_blocks};
+ghost use Rattle.posix_defs.specs.SoundDisk.{Sound, block_bytes, block_of_run, pointer_block};
 ghost use Rattle.posix_defs.specs.DiskContents.{HasEntries, data_block};
 ghost use Rattle.memfs_dir.specs.Slots.{entry_size, entries_in_block, IsCalled, Spells};
-ghost use Rattle.memfs_dir.specs.Looking.{FoundIn, IsLookOf, asked_to_find, found_place};
+ghost use Rattle.blk_map.specs.Runs.{run_start};
+ghost use Rattle.memfs_dir.specs.Looking.{FoundIn, HasDouble, HasRun, IsLookOf, asked_to_find, blocks_at, entered, found_place};
 ghost use Rattle.memfs_dir.specs.Listed.{IsDirectory, IsInUse, place_called};
 
 use crate::slots::{ENTRIES_IN_BLOCK, ENTRY_SIZE, node_in, slot_called};
+use blk_map::{BLOCK_POINTERS, DIRECT_POINTERS, run_of};
 use disk_layout::pointers_in;
 use kabi_types::Inode;
 use posix_defs::Blocks;
-
-/// How many blocks an inode names itself.
-const DIRECT_POINTERS: u32 = 10;
 
 /// The greatest size of a directory whose inode names all its blocks itself.
 const DIRECT_SIZE: u32 = 10_240;
@@ -155,10 +154,11 @@ fn look_far<B: LookedBlocks>(b: &mut B, dir: &Inode, name: &[u8]) -> Option<Foun
 {
     let count = dir.size / ENTRY_SIZE;
     let mut pointers = [0; 256];
+    let mut double = [0; 256];
     for index in 0..count.div_ceil(ENTRIES_IN_BLOCK) {
         let first = ENTRIES_IN_BLOCK * index;
         let here = (count - first).min(ENTRIES_IN_BLOCK);
-        let block = block_in_turn(b, dir, &mut pointers, index);
+        let block = block_in_turn(b, dir, &mut pointers, &mut double, index);
         if let Some(found) = b.look(block, here, name) {
             return Some(behind(first, found));
         }
@@ -166,25 +166,56 @@ fn look_far<B: LookedBlocks>(b: &mut B, dir: &Inode, name: &[u8]) -> Option<Foun
     None
 }
 
-/// The block that has the bytes of a node from `index` blocks on. The node's pointers behind the direct ones are copied
-/// out when the first of them is wanted.
-fn block_in_turn<B: Blocks>(b: &mut B, inode: &Inode, behind: &mut [u32; 256], index: u32) -> u32
+/// The block that has the bytes of a node from `index` blocks on, where those before were asked for one after another. A run
+/// of pointers is copied out when the first of it is wanted, and so are those of the double block.
+fn block_in_turn<B: Blocks>(
+    b: &mut B,
+    inode: &Inode,
+    pointers: &mut [u32; 256],
+    double: &mut [u32; 256],
+    index: u32,
+) -> u32
     requires sound { Sound (B.blocks b.old) }
     requires node { IsInUse (B.blocks b.old) inode.now }
     requires within { index < data_blocks inode.now.size }
-    requires pointers { direct_pointers < index → (k : ℕ) → k < block_pointers → slice_index behind.old k ≡ pointer_at (block_bytes (B.blocks b.old) inode.now.indirect) k }
+    requires pointers { HasRun (B.blocks b.old) inode.now pointers.old index }
+    requires double { HasDouble (B.blocks b.old) inode.now double.old index }
     ensures value { result ≡ data_block (B.blocks b.old) inode.now index }
     ensures on_disk { result < length (B.blocks b.old) }
-    ensures pointers { direct_pointers ≤ index → (k : ℕ) → k < block_pointers → slice_index behind.new k ≡ pointer_at (block_bytes (B.blocks b.old) inode.now.indirect) k }
+    ensures pointers { HasRun (B.blocks b.old) inode.now pointers.new (index + 1) }
+    ensures double { HasDouble (B.blocks b.old) inode.now double.new (index + 1) }
     ensures kept { B.blocks b.new ≡ B.blocks b.old }
-    ensures asked { AskedInTurn B.asked b.old (if index == direct_pointers then inode.now.indirect ∷ [] else []) b.new }
+    ensures asked { AskedInTurn B.asked b.old (blocks_at (B.blocks b.old) inode.now (entered index)) b.new }
     ensures follows { B.follows b.old b.new }
 {
     if index < DIRECT_POINTERS {
         return inode.direct[index as usize];
     }
-    if index == DIRECT_POINTERS {
-        *behind = pointers_in(&b.get(inode.indirect));
+    let place = (index - DIRECT_POINTERS) % BLOCK_POINTERS;
+    if place == 0 {
+        let number = run_in_turn(b, inode, double, run_of(index));
+        *pointers = pointers_in(&b.get(number));
     }
-    behind[(index - DIRECT_POINTERS) as usize]
+    pointers[place as usize]
+}
+
+/// The block that has a run of a node's pointers, where those before were asked for one after another.
+fn run_in_turn<B: Blocks>(b: &mut B, inode: &Inode, double: &mut [u32; 256], run: u32) -> u32
+    requires sound { Sound (B.blocks b.old) }
+    requires node { IsInUse (B.blocks b.old) inode.now }
+    requires within { run_start run < data_blocks inode.now.size }
+    requires double { HasDouble (B.blocks b.old) inode.now double.old (run_start run) }
+    ensures value { result ≡ pointer_block (B.blocks b.old) inode.now (block_of_run run) }
+    ensures double { HasDouble (B.blocks b.old) inode.now double.new (run_start run + 1) }
+    ensures kept { B.blocks b.new ≡ B.blocks b.old }
+    ensures asked { AskedInTurn B.asked b.old (if run == 1 then inode.now.double ∷ [] else []) b.new }
+    ensures follows { B.follows b.old b.new }
+{
+    if run == 0 {
+        return inode.indirect;
+    }
+    if run == 1 {
+        *double = pointers_in(&b.get(inode.double));
+    }
+    double[run as usize - 1]
 }

@@ -16,7 +16,7 @@ use kabi_types::{DirEntry, Inode};
 use posix_defs::Blocks;
 
 /// Takes the entry at a place out of a directory, and answers its node. The last entry moves to that place, and a block
-/// that no entry needs any more is free, as is the block of pointers; none is taken.
+/// that no entry needs any more is free, as are the blocks of pointers; none is taken.
 pub fn dir_remove<B: Blocks>(b: &mut B, number: u32, dir: &mut Inode, place: u32) -> u32
     requires sound { Sound (B.blocks b.old) }
     requires node { HasNode (B.blocks b.old) number dir.old }

@@ -7,6 +7,7 @@ pub mod Parts
 pub mod Pointers
 pub mod ReadBack
 pub mod Rewriting
+pub mod Runs
 pub mod Written
 pub mod Lowest
 pub mod Whole

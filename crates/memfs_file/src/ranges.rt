@@ -1,10 +1,9 @@
 //! A range of bytes, of which a block has a part.
 
-ghost use Rattle.std.specs.Prelude.{◌≡◌, ◌≢◌, ℕ, ◌+◌, ◌-◌, ◌*◌, ◌/◌, ◌%◌, ◌^◌, ◌<◌, ◌≤◌, ◌⊎◌, MatchOption, length, slice_index};
+ghost use Rattle.std.specs.Prelude.{◌≡◌, ◌≢◌, ℕ, ◌+◌, ◌-◌, ◌*◌, ◌/◌, ◌%◌, ◌^◌, ◌<◌, ◌≤◌, ◌⊎◌, ◌==◌, if◌then◌else◌, MatchOption, length, slice_index};
 ghost use Rattle.posix_defs.specs.Asking.{AskedInTurn};
-ghost use Rattle.posix_defs.specs.DiskFormat.{block_size, direct_pointers, block_pointers, most_blocks};
+ghost use Rattle.posix_defs.specs.DiskFormat.{block_size, direct_pointers, block_pointers};
 ghost use Rattle.posix_defs.specs.SoundDisk.{block_bytes, pointer_at};
-ghost use Rattle.blk_map.specs.Named.{pointer_to};
 ghost use Rattle.memfs_file.specs.Ranges.{shared, pointers_for};
 
 use crate::counts::BLOCK_SIZE;
@@ -86,29 +85,28 @@ pub fn whole_block(index: u32, at: u32, bytes: &[u8]) -> Option<&[u8; 1024]>
     bytes[from..].first_chunk::<1024>()
 }
 
-/// Copies the pointers of a node's block of pointers out, where one of the first blocks of bytes is named there.
-pub fn pointers_behind<B: Blocks>(b: &mut B, inode: &Inode, blocks: u32, behind: &mut [u32; 256])
-    requires { direct_pointers < blocks → inode.now.indirect < length (B.blocks b.old) }
-    ensures pointers { direct_pointers < blocks → (k : ℕ) → k < block_pointers → slice_index behind.new k ≡ pointer_at (block_bytes (B.blocks b.old) inode.now.indirect) k }
+/// Copies a run of pointers out of its block, where one of the first blocks of bytes is named there.
+pub fn pointers_behind<B: Blocks>(b: &mut B, pointers: u32, blocks: u32, behind: &mut [u32; 256])
+    requires { direct_pointers < blocks → pointers < length (B.blocks b.old) }
+    ensures pointers { direct_pointers < blocks → (k : ℕ) → k < block_pointers → slice_index behind.new k ≡ pointer_at (block_bytes (B.blocks b.old) pointers) k }
     ensures kept { B.blocks b.new ≡ B.blocks b.old }
-    ensures asked { AskedInTurn B.asked b.old (pointers_for inode.now blocks) b.new }
+    ensures asked { AskedInTurn B.asked b.old (pointers_for pointers blocks) b.new }
     ensures follows { B.follows b.old b.new }
 {
     if blocks <= DIRECT_POINTERS {
         return;
     }
-    let block = b.get(inode.indirect);
+    let block = b.get(pointers);
     *behind = pointers_in(&block);
 }
 
-/// The block that these pointers name for the bytes from `index` blocks on.
-pub fn block_named(direct: &[u32; 10], behind: &[u32; 256], index: u32) -> u32
-    requires { index < most_blocks }
-    ensures { result ≡ pointer_to direct.now behind.now index }
+/// The block that has a run of a node's pointers, by those of the double block.
+pub fn pointers_of(inode: &Inode, double: &[u32; 256], run: u32) -> u32
+    requires { run ≤ block_pointers }
+    ensures { result ≡ (if run == 0 then inode.now.indirect else slice_index double.now (run - 1)) }
 {
-    if index < DIRECT_POINTERS {
-        direct[index as usize]
-    } else {
-        behind[(index - DIRECT_POINTERS) as usize]
+    if run == 0 {
+        return inode.indirect;
     }
+    double[run as usize - 1]
 }

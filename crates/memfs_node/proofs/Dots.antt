@@ -76,7 +76,7 @@ written p =
     subst (λ (disk : List (List ℕ)). WritesBlock p.number p.grown p.new 0 p.block disk) (sym is) (block_written p.grown p.number p.new 0 p.block p.grows.resizes.changes.sound p.grows.resizes.has (omega (arith, size_is p)))
 
 there : (p : Putting) → block_bytes p.after (data_block p.after p.new 0) ≡ p.block
-there p = let w = written p in ap (λ (n : ℕ). block_bytes p.after n) (w.names 0 (omega (arith, size_is p))) ∙ w.this
+there p = let w = written p in ap (λ (n : ℕ). block_bytes p.after n) (w.names (Data 0) (omega (arith, size_is p))) ∙ w.this
 
 spelled : (p : Putting) (k j : ℕ) → k < 2 → j < 32 → byte_at p.after p.new (32 * k + j) ≡ get_or (entry_bytes (get_or (two p) k no_entry)) j 0
 spelled p zero j lt within = byte_at_slot p.after p.new 0 j p.block within (there p) ∙ p.dots.first j within

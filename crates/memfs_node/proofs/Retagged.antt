@@ -1,11 +1,10 @@
 -- A node of which the table has another kind and other links, and all else as before.
-use Rattle.std.proofs.Common.{◌≡◌, ◌≢◌, ℕ, ◌-◌, ◌<◌, inl, inr, List, length, refl, sym, ap, subst, ◌∙◌, arith}
-use Rattle.std.proofs.lemmas.Bool.{cases_lt}
+use Rattle.std.proofs.Common.{◌≡◌, ◌≢◌, ℕ, ◌<◌, inl, inr, List, length, refl, sym, ap, subst, ◌∙◌, arith}
 use Rattle.kabi_types.specs.declared.inodes.Inode.{Inode}
 use Rattle.posix_defs.specs.DiskFormat.{table_end, IsForFiles, IsOfKind, IsPointer, IsInode, inode_bytes, needs_pointer}
 use Rattle.posix_defs.specs.SoundDisk.{block_bytes, table_block, table_bytes, HasInode, pointer_at, Place, Data, Pointers, HasPlace, named_at, bit_of, IsMarked, Sound, pointer_block}
 use Rattle.posix_defs.specs.NodeChange.{Names, Replaces}
-use Rattle.disk_laws.proofs.FreeBlocks.{named_is_for_files, direct_at, behind_at}
+use Rattle.disk_laws.proofs.FreeBlocks.{named_is_for_files, names_stay, same_names}
 use Rattle.disk_laws.proofs.OneNode.{named_is_marked, this_has, changes_node, free_after, same_bytes}
 use Rattle.blk_map.proofs.Blocks.{in_table}
 use Rattle.memfs_node.specs.NodeOnDisk.{Retags}
@@ -45,16 +44,11 @@ map_stays t =
 bit_stays : (t : Tagged) (block : ℕ) → bit_of (block_bytes t.after 0) block ≡ bit_of (block_bytes t.before 0) block
 bit_stays t block = ap (λ (map : List ℕ). bit_of map block) (map_stays t)
 
-pointers_stay : (t : Tagged) (block : ℕ) → HasPlace t.old.size (Pointers block) → block_bytes t.after (pointer_block t.old block) ≡ block_bytes t.before (pointer_block t.old block)
-pointers_stay t block large = stays_there t (pointer_block t.old block) (files t (Pointers block) large).0
+pointers_stay : (t : Tagged) (block : ℕ) → HasPlace t.old.size (Pointers block) → block_bytes t.after (pointer_block t.before t.old block) ≡ block_bytes t.before (pointer_block t.before t.old block)
+pointers_stay t block large = stays_there t (pointer_block t.before t.old block) (files t (Pointers block) large).0
 
 name : (t : Tagged) (place : Place) → HasPlace t.old.size place → named_at t.after (tagged t) place ≡ named_at t.before t.old place
-name t (Data index) lt = elim (cases_lt index 10) [
-  | inl first ↦ direct_at t.after (tagged t) index first ∙ sym (direct_at t.before t.old index first)
-  | inr behind ↦
-      behind_at t.after (tagged t) index behind ∙ ap (λ (bytes : List ℕ). pointer_at bytes (index - 10)) (pointers_stay t 0 (omega (arith, lt, behind))) ∙ sym (behind_at t.before t.old index behind)
-]
-name t (Pointers block) lt = refl
+name t place within = same_names t.after t.old (tagged t) refl refl refl place ∙ names_stay t.before t.after t.old (pointers_stay t) place within
 
 is_inode : (t : Tagged) → IsInode (length t.before) (tagged t)
 is_inode t =
@@ -67,9 +61,10 @@ is_inode t =
         count = was.fits.count;
         direct = was.fits.direct;
         indirect = was.fits.indirect;
+        double = was.fits.double;
       };
       kind = t.valid;
-      pointers = record { direct = was.pointers.direct; indirect = was.pointers.indirect };
+      pointers = record { direct = was.pointers.direct; indirect = was.pointers.indirect; double = was.pointers.double };
     }
 
 still_names : (t : Tagged) (block : ℕ) → Names t.before t.old block → Names t.after (tagged t) block
@@ -84,7 +79,9 @@ replaces t =
       slot = t.slot;
       slots = λ node pos within other. t.slots node pos other;
       pointers = λ block at large lt.
-          subst (λ (bytes : List ℕ). IsPointer (length t.before) (needs_pointer t.old.size block at) (pointer_at bytes at)) (sym (pointers_stay t block large)) (t.sound.pointers t.number t.old block at t.had large lt);
+          subst (λ (bytes : List ℕ). IsPointer (length t.before) (needs_pointer t.old.size block at) (pointer_at bytes at)) (
+          sym (ap (block_bytes t.after) (name t (Pointers block) large) ∙ pointers_stay t block large)
+          ) (t.sound.pointers t.number t.old block at t.had large lt);
       once = λ i j at_i at_j same. (t.sound.once t.number t.number t.old t.old i j t.had t.had at_i at_j (sym (name t i at_i) ∙ same ∙ name t j at_j)).1;
       taken = λ place within. inl (record { place = place; within = within; same = name t place within });
       untouched = λ block above below marked none. stays_there t block above;

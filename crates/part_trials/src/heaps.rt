@@ -63,6 +63,7 @@ fn vnode_of(number: u32) -> Vnode {
             size: 0,
             direct: [0; 10],
             indirect: 0,
+            double: 0,
         },
         pins: 0,
     }

@@ -9,7 +9,7 @@ use Rattle.posix_defs.specs.Tree.{directory}
 
 -- a free inode, without links, bytes and pointers
 abbrev pub blank_inode : Inode
-blank_inode = record { kind = 0; nlink = 0; size = 0; direct = replicate direct_pointers 0; indirect = 0 }
+blank_inode = record { kind = 0; nlink = 0; size = 0; direct = replicate direct_pointers 0; indirect = 0; double = 0 }
 
 -- the block that holds the bytes of a node from `index` blocks on
 abbrev pub data_block : List (List ℕ) → Inode → ℕ → ℕ

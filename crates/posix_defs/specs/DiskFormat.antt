@@ -1,5 +1,5 @@
 -- How a disk is divided, and how an inode and a directory entry are spelled there. Numbers are big-endian.
-use Rattle.std.specs.Prelude.{ℕ, ◌+◌, ◌-◌, ◌*◌, ◌/◌, ◌%◌, ◌^◌, ◌<◌, ◌≤◌, ◌≡◌, ◌≢◌, Bool, true, false, List, ◌∷◌, ◌++◌, length, min, replicate, slice_index, nat_lt}
+use Rattle.std.specs.Prelude.{ℕ, zero, suc, ◌+◌, ◌-◌, ◌*◌, ◌/◌, ◌%◌, ◌^◌, ◌<◌, ◌≤◌, ◌≡◌, ◌≢◌, Bool, true, false, List, ◌∷◌, ◌++◌, length, min, replicate, slice_index, nat_lt}
 use Rattle.std.specs.Int.{w16, w32, to_be_bytes}
 use Rattle.std.specs.List.{flat_map}
 use Rattle.kabi_types.specs.declared.inodes.Inode.{Inode}
@@ -17,7 +17,7 @@ inode_size = 64
 abbrev pub inodes_in_block : ℕ
 inodes_in_block = block_size / inode_size
 
--- how many blocks an inode names itself, before the one block of pointers that it names
+-- how many blocks an inode names itself
 abbrev pub direct_pointers : ℕ
 direct_pointers = 10
 
@@ -25,9 +25,13 @@ direct_pointers = 10
 abbrev pub block_pointers : ℕ
 block_pointers = 256
 
--- how many blocks of bytes a node can name
+-- how many blocks of bytes a node can name itself and in the one block of pointers that its inode names
+abbrev pub near_blocks : ℕ
+near_blocks = direct_pointers + block_pointers
+
+-- how many it can name at all: behind these each pointer of its double block names a block of pointers
 abbrev pub most_blocks : ℕ
-most_blocks = direct_pointers + block_pointers
+most_blocks = near_blocks + block_pointers * block_pointers
 
 -- the greatest size of a node
 abbrev pub greatest_size : ℕ
@@ -35,7 +39,7 @@ greatest_size = block_size * most_blocks
 
 -- the bytes at the end of an inode that are kept zero, behind 8 bytes of numbers and the pointers
 abbrev pub spare_bytes : ℕ
-spare_bytes = inode_size - (8 + 4 * (direct_pointers + 1))
+spare_bytes = inode_size - (8 + 4 * (direct_pointers + 2))
 
 -- the last block of the table of inodes, which begins at block 1: it takes a sixteenth of the disk
 abbrev pub table_end : ℕ → ℕ
@@ -53,13 +57,25 @@ IsForFiles blocks number = (table_end blocks < number) × (number < blocks)
 abbrev pub data_blocks : ℕ → ℕ
 data_blocks size = (size + (block_size - 1)) / block_size
 
--- how many blocks of pointers it has: one, where it has more blocks of bytes than the inode names itself
-abbrev pub pointer_blocks : ℕ → ℕ
-pointer_blocks size = min 1 (data_blocks size - direct_pointers)
+-- how many blocks of pointers go with so many blocks of bytes: one for each 256 behind those that the inode names itself, the last of
+-- them for what is left, and where there is more than one the double block
+abbrev pub pointers_beside : ℕ → ℕ
+pointers_beside blocks = (blocks + (block_pointers - 1 - direct_pointers)) / block_pointers + min 1 (blocks / (near_blocks + 1))
 
--- whether a node of this size needs the pointer at a place of one of its blocks of pointers, these counted from 0
+-- how many blocks of pointers a node of this size has
+abbrev pub pointer_blocks : ℕ → ℕ
+pointer_blocks size = pointers_beside (data_blocks size)
+
+-- the first block of bytes that the pointer at a place of a block of pointers leads to. The blocks of pointers are counted from 0: that
+-- which the inode names, the double block, and those that the double block names
+abbrev pub leads_to : ℕ → ℕ → ℕ
+leads_to zero at = direct_pointers + at
+leads_to (suc zero) at = direct_pointers + block_pointers * (at + 1)
+leads_to (suc (suc block)) at = direct_pointers + block_pointers * (block + 1) + at
+
+-- whether a node of this size needs that pointer
 abbrev pub needs_pointer : ℕ → ℕ → ℕ → Bool
-needs_pointer size block at = nat_lt ((direct_pointers + block_pointers * block + at) * block_size) size
+needs_pointer size block at = nat_lt (leads_to block at * block_size) size
 
 -- how many blocks it takes
 abbrev pub blocks_of : ℕ → ℕ
@@ -78,6 +94,7 @@ pub record Fits (inode : Inode) : Type 0 where
   pub count : length inode.direct ≡ direct_pointers
   pub direct : (k : ℕ) → slice_index inode.direct k < 2 ^ 32
   pub indirect : inode.indirect < 2 ^ 32
+  pub double : inode.double < 2 ^ 32
 
 -- the kind (0 free, 1 a file, 2 a directory, 3 a socket's name), the links and the size go together
 pub record IsOfKind (inode : Inode) : Type 0 where
@@ -92,6 +109,7 @@ pub record IsOfKind (inode : Inode) : Type 0 where
 pub record HasPointers (blocks : ℕ) (inode : Inode) : Type 0 where
   pub direct : (k : ℕ) → k < direct_pointers → IsPointer blocks (nat_lt (k * block_size) inode.size) (slice_index inode.direct k)
   pub indirect : IsPointer blocks (nat_lt (direct_pointers * block_size) inode.size) inode.indirect
+  pub double : IsPointer blocks (nat_lt (near_blocks * block_size) inode.size) inode.double
 
 -- an inode of a disk of so many blocks
 pub record IsInode (blocks : ℕ) (inode : Inode) : Type 0 where
@@ -103,7 +121,7 @@ pub record IsInode (blocks : ℕ) (inode : Inode) : Type 0 where
 unfoldable pub inode_bytes : Inode → List ℕ
 inode_bytes inode =
     inode.kind ∷ 0 ∷ (to_be_bytes w16 inode.nlink ++ (to_be_bytes w32 inode.size
-    ++ (flat_map (to_be_bytes w32) inode.direct ++ (to_be_bytes w32 inode.indirect ++ replicate spare_bytes 0))))
+    ++ (flat_map (to_be_bytes w32) inode.direct ++ (to_be_bytes w32 inode.indirect ++ (to_be_bytes w32 inode.double ++ replicate spare_bytes 0)))))
 
 -- a name of an entry: 1 to 27 bytes, none of them zero or a slash
 pub record IsName (name : List ℕ) : Type 0 where

@@ -20,7 +20,7 @@ pub record Replaces (number : ℕ) (before : List (List ℕ)) (old : Inode) (aft
   pub slot : table_bytes after number ≡ inode_bytes new
   pub slots : (node : ℕ) → 0 < node → node ≤ table_nodes (length before) → node ≢ number → table_bytes after node ≡ table_bytes before node
   pub pointers : (block at : ℕ) → block < pointer_blocks new.size → at < block_pointers
-      → IsPointer (length before) (needs_pointer new.size block at) (pointer_at (block_bytes after (pointer_block new block)) at)
+      → IsPointer (length before) (needs_pointer new.size block at) (pointer_at (block_bytes after (pointer_block after new block)) at)
   pub once : (i j : Place) → HasPlace new.size i → HasPlace new.size j → named_at after new i ≡ named_at after new j → i ≡ j
   pub taken : (place : Place) → HasPlace new.size place → Names before old (named_at after new place) ⊎ IsFreeBlock before (named_at after new place)
   pub untouched : (block : ℕ) → table_end (length before) < block → block < length before → IsMarked before block → ¬ (Names before old block)
@@ -50,7 +50,7 @@ pub record Grows (number : ℕ) (before : List (List ℕ)) (old : Inode) (size :
 pub record WritesBlock (number : ℕ) (before : List (List ℕ)) (inode : Inode) (index : ℕ) (bytes : List ℕ) (after : List (List ℕ)) : Type 0 where
   pub changes : ChangesNode before after number
   pub has : HasInode after number inode
-  pub names : (other : ℕ) → other < data_blocks inode.size → data_block after inode other ≡ data_block before inode other
+  pub names : (place : Place) → HasPlace inode.size place → named_at after inode place ≡ named_at before inode place
   pub this : block_bytes after (data_block before inode index) ≡ bytes
   pub others : (other : ℕ) → other < data_blocks inode.size → other ≢ index → block_bytes after (data_block before inode other) ≡ block_bytes before (data_block before inode other)
   pub free : free_in_map after ≡ free_in_map before

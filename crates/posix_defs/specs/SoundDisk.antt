@@ -1,5 +1,5 @@
 -- What the blocks of a disk say: its map, its table of inodes, which blocks a node names, and when all of it goes together.
-use Rattle.std.specs.Prelude.{ℕ, ◌+◌, ◌-◌, ◌*◌, ◌/◌, ◌%◌, ◌<◌, ◌≤◌, ◌≡◌, ◌≢◌, ◌⊎◌, ◌↔◌, not, if◌then◌else◌, List, [], length, take, drop, slice_index, slice_index_or, Option, None, Some, nat_lt, nat_eq}
+use Rattle.std.specs.Prelude.{ℕ, zero, suc, ◌+◌, ◌-◌, ◌*◌, ◌/◌, ◌%◌, ◌<◌, ◌≤◌, ◌≡◌, ◌≢◌, ◌⊎◌, ◌↔◌, not, if◌then◌else◌, List, [], ◌∷◌, length, take, drop, slice_index, slice_index_or, Option, None, Some, nat_lt, nat_eq}
 use Rattle.std.specs.Int.{w32, from_be_bytes, bit_at}
 use Rattle.std.specs.List.{range_with_len, sum_by, count_by}
 use Rattle.kabi_types.specs.declared.inodes.Inode.{Inode}
@@ -54,23 +54,41 @@ pub record Way : Type 0 where
   pub block : ℕ
   pub at : ℕ
 
+-- which block of pointers has a run of 256 pointers behind the direct ones, these runs counted from 0; the double block has none
+abbrev pub block_of_run : ℕ → ℕ
+block_of_run zero = 0
+block_of_run (suc run) = suc (suc run)
+
+-- the run that the pointer to a block of bytes is in; those that the inode names itself go with the first
+abbrev pub run_of : ℕ → ℕ
+run_of index = (index - direct_pointers) / block_pointers
+
 -- the way to a block of bytes; None where the inode names it itself
 abbrev pub way_to : ℕ → Option Way
-way_to index = if nat_lt index direct_pointers then None else Some (record { block = 0; at = index - direct_pointers })
+way_to index =
+    if nat_lt index direct_pointers then None
+    else Some (record { block = block_of_run (run_of index); at = (index - direct_pointers) % block_pointers })
 
--- the block that a node has for pointers
-abbrev pub pointer_block : Inode → ℕ → ℕ
-pointer_block inode block = inode.indirect
+-- the block that a node has for pointers: two are named by the inode, all others by the second of these, the double block
+abbrev pub pointer_block : List (List ℕ) → Inode → ℕ → ℕ
+pointer_block disk inode zero = inode.indirect
+pointer_block disk inode (suc zero) = inode.double
+pointer_block disk inode (suc (suc block)) = pointer_at (block_bytes disk inode.double) block
+
+-- the blocks of pointers on the way to a run of pointers: that which has it, and before it the double block where that one names it
+abbrev pub on_way : ℕ → List Place
+on_way zero = Pointers 0 ∷ []
+on_way (suc run) = Pointers 1 ∷ Pointers (suc (suc run)) ∷ []
 
 -- the block of bytes that a way leads to
 abbrev pub led_to : List (List ℕ) → Inode → ℕ → Option Way → ℕ
 led_to disk inode index None = slice_index inode.direct index
-led_to disk inode index (Some way) = pointer_at (block_bytes disk (pointer_block inode way.block)) way.at
+led_to disk inode index (Some way) = pointer_at (block_bytes disk (pointer_block disk inode way.block)) way.at
 
 -- the block that a node names for this: the first blocks of bytes in its inode, those behind them in its blocks of pointers
 abbrev pub named_at : List (List ℕ) → Inode → Place → ℕ
 named_at disk inode (Data index) = led_to disk inode index (way_to index)
-named_at disk inode (Pointers block) = pointer_block inode block
+named_at disk inode (Pointers block) = pointer_block disk inode block
 
 -- a node names this block
 pub record IsNamed (disk : List (List ℕ)) (number : ℕ) : Type 0 where
@@ -99,7 +117,7 @@ pub record Sound (disk : List (List ℕ)) : Type 0 where
   pub size : (16 ≤ length disk) × (length disk ≤ 4096)
   pub table : (node : ℕ) → 0 < node → node ≤ table_nodes (length disk) → (inode : Inode) × HasInode disk node inode
   pub pointers : (node : ℕ) (inode : Inode) (block at : ℕ) → HasInode disk node inode → block < pointer_blocks inode.size → at < block_pointers
-      → IsPointer (length disk) (needs_pointer inode.size block at) (pointer_at (block_bytes disk (pointer_block inode block)) at)
+      → IsPointer (length disk) (needs_pointer inode.size block at) (pointer_at (block_bytes disk (pointer_block disk inode block)) at)
   pub once : (first second : ℕ) (one other : Inode) (i j : Place) → HasInode disk first one → HasInode disk second other → HasPlace one.size i → HasPlace other.size j
       → named_at disk one i ≡ named_at disk other j → (first ≡ second) × (i ≡ j)
   pub map : (number : ℕ) → number < length disk → IsMarked disk number ↔ ((number ≤ table_end (length disk)) ⊎ IsNamed disk number)

@@ -19,6 +19,7 @@ pub fn blank_inode() -> Inode
         size: 0,
         direct: [0; 10],
         indirect: 0,
+        double: 0,
     }
 }
 

@@ -1,11 +1,10 @@
 -- How long a file is after a write or a change of its size, and how many bytes so many blocks hold.
-use Rattle.std.proofs.Common.{◌≡◌, ℕ, ◌+◌, ◌-◌, ◌*◌, ◌/◌, ◌^◌, ◌<◌, ◌≤◌, Bool, cond, inl, inr, List, ◌++◌, length, min, take, drop, replicate, ltb, ap, arith, length-append, length-drop, length-take}
+use Rattle.std.proofs.Common.{◌≡◌, ℕ, ◌+◌, ◌-◌, ◌*◌, ◌/◌, ◌^◌, ◌<◌, ◌≤◌, List, ◌++◌, length, min, take, drop, replicate, arith, length-append, length-drop, length-take}
 use Rattle.std.specs.List.{All}
-use Rattle.std.proofs.lemmas.Bool.{cases_lt, lt-ltb, le-ltb}
 use Rattle.std.proofs.lemmas.List.{length-replicate}
 use Rattle.std.proofs.lemmas.List.Elements.{All-append, All-take, All-drop, All-replicate}
-use Rattle.posix_defs.specs.DiskFormat.{greatest_size, blocks_of}
-use Rattle.posix_defs.specs.FileBytes.{resized, overwritten, capacity}
+use Rattle.posix_defs.specs.DiskFormat.{greatest_size, data_blocks, pointers_beside, blocks_of}
+use Rattle.posix_defs.specs.FileBytes.{resized, overwritten, held_blocks, capacity}
 
 pub length-resized : (size : ℕ) (bytes : List ℕ) → length (resized size bytes) ≡ size
 length-resized size bytes =
@@ -27,19 +26,23 @@ bytes_overwritten at new old are_new are =
 
 -- ---- how much so many blocks hold
 
--- as it was said before: beside the block of pointers that goes with more than ten
-pub capacity_is : (blocks : ℕ) → capacity blocks ≡ min greatest_size (1024 * cond (ltb 10 blocks) (blocks - 1) blocks)
-capacity_is blocks = elim (cases_lt 10 blocks) [
-  | inl many ↦
-      let room : 1024 * cond (ltb 10 blocks) (blocks - 1) blocks ≡ 1024 * (blocks - 1) = ap (λ (b : Bool). 1024 * cond b (blocks - 1) blocks) (lt-ltb 10 blocks many) in omega (arith, room, many)
-  | inr few ↦
-      let room : 1024 * cond (ltb 10 blocks) (blocks - 1) blocks ≡ 1024 * blocks = ap (λ (b : Bool). 1024 * cond b (blocks - 1) blocks) (le-ltb 10 blocks few) in omega (arith, room, few)
-]
+-- so many blocks of bytes go into so many in all, with those of pointers
+held_fits : (held blocks : ℕ) → held ≤ held_blocks blocks → held + pointers_beside held ≤ blocks
+held_fits held blocks le = omega (arith, le)
+
+fits_held : (held blocks : ℕ) → held + pointers_beside held ≤ blocks → held ≤ held_blocks blocks
+fits_held held blocks le = omega (arith, le)
 
 -- what fits takes no more blocks
 pub capacity_fits : (blocks size : ℕ) → size ≤ capacity blocks → blocks_of size ≤ blocks
-capacity_fits blocks size le = omega (arith, le)
+capacity_fits blocks size le = held_fits (data_blocks size) blocks (whole size (held_blocks blocks) (omega (arith, le)))
+  where
+    whole : (size held : ℕ) → size ≤ 1024 * held → data_blocks size ≤ held
+    whole size held le = omega (arith, le)
 
 -- and what takes no more blocks fits
 pub fits_capacity : (blocks size : ℕ) → size ≤ greatest_size → blocks_of size ≤ blocks → size ≤ capacity blocks
-fits_capacity blocks size most le = omega (arith, most, le)
+fits_capacity blocks size most le = both size (held_blocks blocks) most (fits_held (data_blocks size) blocks le)
+  where
+    both : (size held : ℕ) → size ≤ greatest_size → data_blocks size ≤ held → size ≤ min greatest_size (1024 * held)
+    both size held most le = omega (arith, most, le)

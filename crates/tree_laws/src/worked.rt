@@ -15,12 +15,16 @@ ghost use Rattle.posix_defs.specs.Paths.{resolve};
 ghost use Rattle.posix_defs.specs.PathCalls.{exec_path, link_path, list_node, mkdir_path, open_path, read_node, rename_path, rmdir_path, stat_path, unlink_path};
 ghost use Rattle.tree_laws.specs.WorkedTrees.{one_file, four_files, three_directories, with_a, with_b, with_f, with_g, with_script, two_programs, nowhere, to_write};
 
-/// How many blocks a size takes, and what so many blocks hold: beyond ten there is a block of pointers.
+/// How many blocks a size takes, and what so many blocks hold: beyond ten there is a block of pointers, beyond 266 there are
+/// the double block and one of pointers more, beyond 522 a further one.
 pub fn sizes_take_these_blocks()
     ensures taken { map blocks_of (0 ∷ 1 ∷ 1024 ∷ 1025 ∷ 10239 ∷ 10240 ∷ 10241 ∷ 11264 ∷ 12288 ∷ 12289 ∷ 272384 ∷ [])
         ≡ 0 ∷ 1 ∷ 1 ∷ 2 ∷ 10 ∷ 10 ∷ 12 ∷ 12 ∷ 13 ∷ 14 ∷ 267 ∷ [] }
+    ensures far { map blocks_of (272385 ∷ 273408 ∷ 534528 ∷ 534529 ∷ 3913728 ∷ 67381248 ∷ []) ≡ 270 ∷ 270 ∷ 525 ∷ 527 ∷ 3838 ∷ 66060 ∷ [] }
     ensures held { map capacity (0 ∷ 1 ∷ 9 ∷ 10 ∷ 11 ∷ 12 ∷ 13 ∷ 266 ∷ 267 ∷ 268 ∷ [])
         ≡ 0 ∷ 1024 ∷ 9216 ∷ 10240 ∷ 10240 ∷ 11264 ∷ 12288 ∷ 271360 ∷ 272384 ∷ 272384 ∷ [] }
+    ensures held_far { map capacity (269 ∷ 270 ∷ 525 ∷ 526 ∷ 527 ∷ 3838 ∷ 66059 ∷ 66060 ∷ 70000 ∷ [])
+        ≡ 272384 ∷ 273408 ∷ 534528 ∷ 534528 ∷ 535552 ∷ 3913728 ∷ 67380224 ∷ 67381248 ∷ 67381248 ∷ [] }
 {}
 
 /// How many of 2000 bytes fit at a place with 0, 1 and 2 free blocks: a full file of ten blocks at its last byte and at its
@@ -44,8 +48,8 @@ pub fn a_small_disk_is_full_at_12288_bytes()
     ensures free { free_blocks one_file ≡ 13 }
     ensures above { resize one_file 2 12289 ≡ Err ENOSPC }
     ensures most { is_ok (resize one_file 2 12288) ≡ true }
-    ensures greatest { resize one_file 2 272385 ≡ Err EFBIG }
-    ensures written { write one_file 2 272384 (1 ∷ []) ≡ Err EFBIG }
+    ensures greatest { resize one_file 2 67381249 ≡ Err EFBIG }
+    ensures written { write one_file 2 67381248 (1 ∷ []) ≡ Err EFBIG }
     ensures far { write one_file 2 12288 (1 ∷ []) ≡ Err ENOSPC }
     ensures opened { (links_at (unlink one_file 1 (codes "f") 2 true) 2 ≡ 0) × (free_node (unlink one_file 1 (codes "f") 2 true) ≡ Some 3) }
     ensures closed { free_node (closed (unlink one_file 1 (codes "f") 2 true) 2) ≡ Some 2 }

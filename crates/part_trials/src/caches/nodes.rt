@@ -45,6 +45,7 @@ fn file(size: u32) -> Inode {
         size,
         direct: [0; 10],
         indirect: 0,
+        double: 0,
     }
 }
 

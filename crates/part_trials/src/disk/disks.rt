@@ -24,7 +24,7 @@ const ROOT: [u8; 64] = [
     0,
 ];
 
-/// A file of 272384 bytes, the greatest size, with blocks 2 to 11 and its block of pointers 12.
+/// A file of 272384 bytes, the greatest size without a double block, with blocks 2 to 11 and its block of pointers 12.
 const FULL: [u8; 64] = [
     1, 0, 0, 127, 0, 4, 0x28, 0, 0, 0, 0, 2, 0, 0, 0, 3, 0, 0, 0, 4, 0, 0, 0, 5, 0, 0, 0, 6, 0, 0,
     0, 7, 0, 0, 0, 8, 0, 0, 0, 9, 0, 0, 0, 10, 0, 0, 0, 11, 0, 0, 0, 12, 0, 0, 0, 0, 0, 0, 0, 0, 0,
@@ -60,14 +60,15 @@ const KIND: Option<BadInode> = Some(BadInode::BadKind);
 
 const POINTER: Option<BadInode> = Some(BadInode::BadPointer);
 
-/// Whose bytes are changed: a free node's, a file's of one block, the root's, a file's of the greatest size, or a file's of ten blocks,
-/// without a block of pointers and with one.
+/// Whose bytes are changed: a free node's, a file's of one block, the root's, a file's of 266 blocks, a file's of the greatest
+/// size, or a file's of ten blocks, without a block of pointers and with one.
 #[derive(Clone, Copy)]
 enum Node {
     Free,
     File,
     Root,
     Full,
+    Far,
     Ten,
     Pointed,
 }
@@ -78,6 +79,12 @@ fn bytes_for(node: Node) -> [u8; 64] {
         Node::File => FILE,
         Node::Root => ROOT,
         Node::Full => FULL,
+        Node::Far => {
+            let mut bytes = FULL;
+            bytes[4] = 4;
+            bytes[55] = 13;
+            bytes
+        }
         Node::Ten => TEN,
         Node::Pointed => {
             let mut bytes = TEN;
@@ -94,7 +101,7 @@ type Row = (Node, &'static str, usize, u8, Option<BadInode>);
 /// blocks for files.
 const INODES: &[Row] = &[
     (Node::File, "behind the kind", 1, 1, KIND),
-    (Node::File, "the first at the end", 52, 1, KIND),
+    (Node::File, "the first at the end", 56, 1, KIND),
     (Node::File, "the last", 63, 255, KIND),
     (Node::File, "a directory", 0, 2, None),
     (Node::File, "kind 4", 0, 4, KIND),
@@ -106,7 +113,8 @@ const INODES: &[Row] = &[
     (Node::Free, "a socket's name", 0, 3, None),
     (Node::Free, "a free one with a link", 3, 1, KIND),
     (Node::Free, "a free one of a byte", 7, 1, KIND),
-    (Node::Full, "272385 bytes", 7, 1, KIND),
+    (Node::Far, "the greatest size", 55, 14, None),
+    (Node::Far, "67381249 bytes", 7, 1, KIND),
     (Node::Root, "65 bytes", 7, 0x41, KIND),
     (Node::Root, "80 bytes", 7, 0x50, KIND),
     (Node::Root, "one entry", 7, 0x20, None),
@@ -125,6 +133,19 @@ const INODES: &[Row] = &[
         3,
         POINTER,
     ),
+    (Node::File, "a double block for 1024 bytes", 55, 3, POINTER),
+    (Node::File, "16777216 as double block", 52, 1, POINTER),
+    (Node::Full, "272385 bytes", 7, 1, POINTER),
+    (
+        Node::Full,
+        "a double block for 272384 bytes",
+        55,
+        13,
+        POINTER,
+    ),
+    (Node::Far, "no double block", 55, 0, POINTER),
+    (Node::Far, "the table as double block", 55, 1, POINTER),
+    (Node::Far, "a double block behind the last", 55, 16, POINTER),
     (Node::Full, "the tenth", 47, 16, POINTER),
     (Node::Full, "the table as block of pointers", 51, 1, POINTER),
     (Node::Full, "no block of pointers", 51, 0, POINTER),
@@ -267,6 +288,7 @@ fn inodes_are_read_and_written(rt: HostRuntime) {
         size: 1024,
         direct: [2, 0, 0, 0, 0, 0, 0, 0, 0, 0],
         indirect: 0,
+        double: 0,
     };
     let full = Inode {
         kind: 1,
@@ -274,11 +296,19 @@ fn inodes_are_read_and_written(rt: HostRuntime) {
         size: 272_384,
         direct: [2, 3, 4, 5, 6, 7, 8, 9, 10, 11],
         indirect: 12,
+        double: 0,
+    };
+    let far = Inode {
+        size: 67_381_248,
+        double: 13,
+        ..full
     };
     assert!(rt; inode_of(&FILE, 16) == Ok(file));
     assert!(rt; inode_of(&FULL, 16) == Ok(full));
+    assert!(rt; inode_of(&bytes_for(Node::Far), 16) == Ok(far));
     assert!(rt; bytes_of(&file) == FILE);
     assert!(rt; bytes_of(&full) == FULL);
+    assert!(rt; bytes_of(&far) == bytes_for(Node::Far));
     assert!(rt; inode_of(&[0; 64], 16).is_ok());
 }
 
@@ -341,6 +371,7 @@ fn slots_of_the_table(rt: HostRuntime) {
         size: 0,
         direct: [0; 10],
         indirect: 0,
+        double: 0,
     };
     put_inode(&mut block, 2, &free);
     assert!(rt; inode_in(&block, 2, 16) == Ok(free));

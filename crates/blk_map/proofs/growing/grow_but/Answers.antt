@@ -1,60 +1,20 @@
-use Rattle.std.proofs.Common.{◌≡◌, ◌≢◌, ℕ, ◌<◌, ◌-◌, inl, inr, List, length, get_or, take, sym, ap, ◌≤◌, ◌∙◌, arith}
-use Rattle.std.proofs.lemmas.List.{get_or-take, length-take-le}
-use Rattle.posix_defs.specs.DiskFormat.{blocks_of}
-use Rattle.posix_defs.specs.SoundDisk.{bit_of, block_bytes, free_in_map}
-use Rattle.blk_map.specs.Found.{free_below}
-use Rattle.blk_map.proofs.Blocks.{got, in_table}
-use Rattle.blk_map.proofs.Counted.{given_none, one_more_at_most}
-use Rattle.blk_map.proofs.SameBlocks.{same_grows}
+use Rattle.std.proofs.Common.{◌≡◌, ◌≢◌, ℕ, ◌+◌, ◌-◌, ◌*◌, ◌/◌, ◌<◌, ◌≤◌, Result, Ok, Err, IfErr, ap, ◌∙◌, arith}
+use Rattle.kabi_types.specs.declared.errnos.Errno.{Errno}
+use Rattle.kabi_types.specs.declared.errnos.Errno.TheVariants.{EFBIG, ENOSPC}
+use Rattle.posix_defs.specs.DiskFormat.{data_blocks, most_blocks}
 use Rattle.blk_map.proofs.growing.grow_but.Goals as goal
 
-pub returns-then-need-eq0-clause-ok : goal.returns-then-need-eq0-clause-ok
-returns-then-need-eq0-clause-ok g c =
-    let none : blocks_of c.args.size - blocks_of c.args.inode.now.size ≡ 0 = omega (arith, c.if-need-eq0.true, c.block_count.ensures, c.block_count-2.ensures) in
-    same_grows c.args.from c.args.to (
-    record {
-      number = c.args.number;
-      before = g.B.Blocks.blocks c.args.b.now;
-      old = c.args.inode.now;
-      size = c.args.size;
-      after = g.B.Blocks.blocks c.put_in_table.new.b;
-      sound = c.requires.sound;
-      had = c.requires.node.0;
-      kind = c.requires.kind;
-      same = given_none c.args.inode.now.size c.args.size c.requires.size none;
-      count = c.put_in_table.ensures.count;
-      slot = c.put_in_table.ensures.slot;
-      slots = c.put_in_table.ensures.slots;
-      others = c.put_in_table.ensures.others;
-    }
-    )
+-- where there is no room for it the answer isn't that it is too big
+not_big : (answer : Result (Unit {0}) Errno) (One Other : Type 0) → IfErr answer (λ fault. (fault ≡ ENOSPC) × One × Other) → answer ≢ Err EFBIG
+not_big (Ok done) One Other err = λ e. absurd cc
+not_big (Err fault) One Other err = λ e. let full : fault ≡ ENOSPC = err.0 in absurd cc
 
-pub returns-then-need-eq0-clause-frees_none : goal.returns-then-need-eq0-clause-frees_none
-returns-then-need-eq0-clause-frees_none g c = λ block is.
-    let table = in_table (length (g.B.Blocks.blocks c.args.b.now)) c.args.number c.requires.node.0.number.0 c.requires.node.0.number.1 in
-    ap (λ (map : List ℕ). bit_of map block) (c.put_in_table.ensures.others 0 (λ e. omega (arith, e, table.0))) ∙ is
+within_run : (n size run_size : ℕ) → run_size ≡ 1024 * (10 + 256 * ((n - 10) / 256 + 1)) → size ≤ run_size → (size + 1023) / 1024 ≤ 10 + 256 * ((n - 10) / 256 + 1)
+within_run n size run_size is le = omega (arith, is, le)
 
-pub take_blocks-requires-clause-lowest : goal.take_blocks-requires-clause-lowest
-take_blocks-requires-clause-lowest g c = λ block free.
-    let need : ℕ = c.block_count.result - c.block_count-2.result in
-    let found : List ℕ = c.lowest_free-count.new.found in
-    let full : c.lowest_free-count.result ≡ need = omega (arith, c.lowest_free-count.ensures.many, c.if-count-need.false) in
-    let long : length found ≡ 267 = c.lowest_free-count.array_long in
-    let within : need ≤ length found = omega (arith, long, one_more_at_most c.args.size, c.data_count.ensures, c.block_count.ensures) in
-    let len : length (take need found) ≡ need = length-take-le need found within in
-    let at : (k : ℕ) → k < need → get_or (take need found) k 0 ≡ get_or found k 0 = λ k lt. get_or-take need found k 0 lt in
-    let map : block_bytes (g.B.Blocks.blocks c.get-map.new.self) 0 ≡ c.get-map.result =
-    ap (λ (disk : List (List ℕ)). block_bytes disk 0) c.get-map.ensures.kept ∙ got (g.B.Blocks.blocks c.args.b.now) 0 c.get-map.result c.get-map.ensures.value in
-    let unmarked : bit_of c.get-map.result block ≢ 1 = λ is. free.1 (ap (λ (bytes : List ℕ). bit_of bytes block) map ∙ is) in
-    elim (c.lowest_free-count.ensures.lowest block (omega (arith, free.0, c.count.ensures)) unmarked) [
-      | inl there ↦ inl (there.0, omega (arith, there.1, full, len), at there.0 (omega (arith, there.1, full)) ∙ there.2)
-      | inr below ↦ inr (λ k lt. omega (arith, at k (omega (arith, lt, len)), below k (omega (arith, lt, len, full))))
-    ]
+pub size_in_run-requires : goal.size_in_run-requires
+size_in_run-requires g c = omega (arith, c.requires.node.0.valid.kind.size, c.data_count-2.ensures)
 
-pub returns-clause-full : goal.returns-clause-full
-returns-clause-full g c = λ most.
-    let disk : List (List ℕ) = g.B.Blocks.blocks c.args.b.now in
-    let map : c.get-map.result ≡ block_bytes disk 0 = sym (got disk 0 c.get-map.result c.get-map.ensures.value) in
-    let count : c.count.result ≡ length disk = c.count.ensures ∙ ap length c.get-map.ensures.kept in
-    let same : free_below c.get-map.result c.count.result ≡ free_in_map disk = ap (λ (n : ℕ). free_below c.get-map.result n) count ∙ ap (λ (bytes : List ℕ). free_below bytes (length disk)) map in
-    (λ e. absurd cc, λ few. absurd (omega (arith, few, same, c.lowest_free-count.ensures.many, c.if-count-need.false, c.block_count.ensures, c.block_count-2.ensures)))
+pub grow_in_run-requires-clause-run : goal.grow_in_run-requires-clause-run
+grow_in_run-requires-clause-run g c =
+    within_run (data_blocks c.args.inode.now.size) c.args.size c.size_in_run.result (c.size_in_run.ensures ∙ ap (λ (n : ℕ). 1024 * (10 + 256 * ((n - 10) / 256 + 1))) c.data_count-2.ensures) (omega arith)

@@ -1,9 +1,9 @@
-use Rattle.std.proofs.Common.{◌≡◌, ℕ, ◌+◌, ◌-◌, ◌/◌, ◌<◌, List, [], ◌∷◌, ◌++◌, subst, arith, rules}
+use Rattle.std.proofs.Common.{◌≡◌, ℕ, ◌+◌, ◌-◌, ◌/◌, ◌<◌, List, subst, arith, rules}
 use Rattle.std.specs.List.{AllByRecursion}
 use Rattle.posix_defs.specs.Asking.{AskedInTurn}
-use Rattle.posix_defs.specs.DiskFormat.{block_size, data_blocks}
+use Rattle.posix_defs.specs.DiskFormat.{block_size}
 use Rattle.posix_defs.specs.DiskContents.{data_block}
-use Rattle.memfs_file.specs.Ranges.{asked_to_read, blocks_between, pointers_for}
+use Rattle.memfs_file.specs.Ranges.{asked_to_read}
 use Rattle.cached_disk.specs.Lent.{Parts, parts, Asked, IsCached, IsReordered}
 use Rattle.cached_disk.specs.declared.blocks.CachedBlocks.{CachedBlocks}
 use Rattle.cached_disk.proofs.InTurn.{asked_through, nothing_read, last_cached}
@@ -29,6 +29,6 @@ returns-clause-last c =
     let before = parts c.args.heap.now c.args.purse.now c.args.cache.now c.args.disk.now in
     let asked : AskedInTurn Asked before (asked_to_read disk inode c.args.at count) (of c.read_at.new.b) = asked_through of Asked _ (asked_to_read disk inode c.args.at count) c.read_at.new.b c.read_at.ensures.asked in
     let last : 0 < count → IsCached c.read_at.new.b.cache.now (data_block disk inode ((c.args.at + count - 1) / block_size)) = λ some.
-    last_cached (pointers_for inode (data_blocks (c.args.at + count)) ++ blocks_between disk inode (c.args.at / block_size) ((c.args.at + count - 1) / block_size)) (data_block disk inode ((c.args.at + count - 1) / block_size)) before (of c.read_at.new.b)
-    (subst (λ (l : List ℕ). AskedInTurn Asked before l (of c.read_at.new.b)) (read_ends disk inode c.args.at count (λ none. omega arith)) asked) in
+    let ends = read_ends disk inode c.args.at count (λ none. omega arith) in
+    last_cached ends.0 (data_block disk inode ((c.args.at + count - 1) / block_size)) before (of c.read_at.new.b) (subst (λ (l : List ℕ). AskedInTurn Asked before l (of c.read_at.new.b)) ends.1 asked) in
     search rules

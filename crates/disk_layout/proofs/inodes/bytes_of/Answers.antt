@@ -24,4 +24,8 @@ returns c =
     let d48 : c.put_words.new.out ≡ direct ++ drop 48 zeros = d ∙ ap (λ (n : ℕ). direct ++ drop (8 + 4 * n) zeros) ten in
     let full : length direct ≡ 48 = length-append size (words i.direct) ∙ ap (λ (n : ℕ). 8 + n) many ∙ ap (λ (n : ℕ). 8 + 4 * n) ten in
     let e : c.put-3.new.out ≡ (direct ++ to_be_bytes w32 i.indirect) ++ drop 52 zeros = put_on direct zeros (to_be_bytes w32 i.indirect) c.put_words.new.out c.put-3.new.out 48 4 full refl d48 (rw c.to_be_bytes-3.ensures at c.put-3.ensures) in
-    e ∙ append_assoc direct (to_be_bytes w32 i.indirect) (replicate 12 0) ∙ append_assoc size (words i.direct) (to_be_bytes w32 i.indirect ++ replicate 12 0)
+    let indirect : List ℕ = direct ++ to_be_bytes w32 i.indirect in
+    let longer : length indirect ≡ 52 = length-append direct (to_be_bytes w32 i.indirect) ∙ ap (λ (n : ℕ). n + 4) full in
+    let last : List ℕ = to_be_bytes w32 i.double ++ replicate 8 0 in
+    let f : c.put-4.new.out ≡ (indirect ++ to_be_bytes w32 i.double) ++ drop 56 zeros = put_on indirect zeros (to_be_bytes w32 i.double) c.put-3.new.out c.put-4.new.out 52 4 longer refl e (rw c.to_be_bytes-4.ensures at c.put-4.ensures) in
+    f ∙ append_assoc indirect (to_be_bytes w32 i.double) (replicate 8 0) ∙ append_assoc direct (to_be_bytes w32 i.indirect) last ∙ append_assoc size (words i.direct) (to_be_bytes w32 i.indirect ++ last)

@@ -1,11 +1,11 @@
 use Rattle.std.proofs.Common.{◌≡◌, ℕ, suc, ◌+◌, ◌*◌, ◌/◌, ◌<◌, List, length, get_or, Some, refl, sym, ap, subst, ◌∙◌, arith}
 use Rattle.kabi_types.specs.declared.inodes.DirEntry.{DirEntry}
 use Rattle.posix_defs.specs.Asking.{AskedInTurn}
-use Rattle.posix_defs.specs.SoundDisk.{block_bytes, pointer_at}
+use Rattle.posix_defs.specs.SoundDisk.{block_bytes}
 use Rattle.posix_defs.specs.DiskContents.{data_block}
 use Rattle.posix_defs.specs.TreeChanges.{no_entry}
 use Rattle.disk_laws.proofs.DirectoryEntries.{size_of_entries}
-use Rattle.memfs_dir.specs.Looking.{IsLookOf, asked_to_find, found_place}
+use Rattle.memfs_dir.specs.Looking.{HasDouble, HasRun, IsLookOf, asked_to_find, blocks_at, entered, found_place}
 use Rattle.memfs_dir.specs.declared.finding.FoundEntry.{FoundEntry}
 use Rattle.memfs_dir.proofs.DirectoryBytes.{block_is}
 use Rattle.memfs_dir.proofs.Found.{none_called, look_found, missing_on, spelled_in, asked_further}
@@ -54,7 +54,7 @@ returns-in-Some-clause-asked g c =
     let count : (32 * index + found.place) / 32 + 1 ≡ suc index = omega (arith, slot) in
     subst (λ (entry : FoundEntry). AskedInTurn g.B.Blocks.asked c.args.b.now (asked_to_find disk dir (found_place (Some entry))) c.look.new.self) (sym c.behind.ensures)
     (asked_further g.B.Blocks.asked disk dir index c.block_in_turn-block.result ((32 * index + found.place) / 32 + 1) c.args.b.now c.loop-index.b c.block_in_turn-block.new.b c.look.new.self number count
-    c.loop-index.invariant.asked c.block_in_turn-block.ensures.asked c.look.ensures.asked)
+    c.loop-index.invariant.asked (subst (λ (d : List (List ℕ)). AskedInTurn g.B.Blocks.asked c.loop-index.b (blocks_at d dir (entered index)) c.block_in_turn-block.new.b) same c.block_in_turn-block.ensures.asked) c.look.ensures.asked)
 
 pub loop-index-preserved : goal.loop-index-preserved
 loop-index-preserved g c =
@@ -70,11 +70,11 @@ loop-index-preserved g c =
     record {
       kept = c.look.ensures.kept ∙ c.block_in_turn-block.ensures.kept ∙ same;
       follows = trans c.args.b.now c.block_in_turn-block.new.b c.look.new.self (trans c.args.b.now c.loop-index.b c.block_in_turn-block.new.b c.loop-index.invariant.follows c.block_in_turn-block.ensures.follows) c.look.ensures.follows;
-      pointers = λ past k lt.
-          c.block_in_turn-block.ensures.pointers (omega (arith, past)) k lt ∙ ap (λ (d : List (List ℕ)). pointer_at (block_bytes d dir.indirect) k) same;
+      pointers = subst (λ (d : List (List ℕ)). HasRun d dir c.block_in_turn-block.new.pointers (index + 1)) same c.block_in_turn-block.ensures.pointers;
+      double = subst (λ (d : List (List ℕ)). HasDouble d dir c.block_in_turn-block.new.double (index + 1)) same c.block_in_turn-block.ensures.double;
       asked =
           asked_further g.B.Blocks.asked disk dir index c.block_in_turn-block.result (index + 1) c.args.b.now c.loop-index.b c.block_in_turn-block.new.b c.look.new.self number next
-          c.loop-index.invariant.asked c.block_in_turn-block.ensures.asked c.look.ensures.asked;
+          c.loop-index.invariant.asked (subst (λ (d : List (List ℕ)). AskedInTurn g.B.Blocks.asked c.loop-index.b (blocks_at d dir (entered index)) c.block_in_turn-block.new.b) same c.block_in_turn-block.ensures.asked) c.look.ensures.asked;
       missing = λ entries has k k_lt below.
           let size = size_of_entries disk dir entries has in
           missing_on disk dir entries index c.min-here.result bytes c.args.name.now has (omega (arith, c.min-here.ensures)) is (c.loop-index.invariant.missing entries has)

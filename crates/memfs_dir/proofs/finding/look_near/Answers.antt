@@ -57,7 +57,7 @@ returns-in-Some-clause-asked g c =
     let count : (32 * index + found.place) / 32 + 1 ≡ suc index = omega (arith, slot) in
     subst (λ (entry : FoundEntry). AskedInTurn g.B.Blocks.asked c.args.b.now (asked_to_find disk dir (found_place (Some entry))) c.look.new.self) (sym c.behind.ensures)
     (asked_further g.B.Blocks.asked disk dir index block ((32 * index + found.place) / 32 + 1) c.args.b.now c.loop-index.b c.loop-index.b c.look.new.self number count
-    c.loop-index.invariant.asked (near_asked g.B.Blocks.asked dir index c.loop-index.b (omega (arith, c.loop-index-test.true, c.div_ceil-index-end.ensures, c.requires.near))) c.look.ensures.asked)
+    c.loop-index.invariant.asked (near_asked g.B.Blocks.asked disk dir index c.loop-index.b (omega (arith, c.loop-index-test.true, c.div_ceil-index-end.ensures, c.requires.near))) c.look.ensures.asked)
 
 pub loop-index-preserved : goal.loop-index-preserved
 loop-index-preserved g c =
@@ -76,7 +76,7 @@ loop-index-preserved g c =
       follows = trans c.args.b.now c.loop-index.b c.look.new.self c.loop-index.invariant.follows c.look.ensures.follows;
       asked =
           asked_further g.B.Blocks.asked disk dir index block (index + 1) c.args.b.now c.loop-index.b c.loop-index.b c.look.new.self number next
-          c.loop-index.invariant.asked (near_asked g.B.Blocks.asked dir index c.loop-index.b (omega (arith, c.loop-index-test.true, c.div_ceil-index-end.ensures, c.requires.near))) c.look.ensures.asked;
+          c.loop-index.invariant.asked (near_asked g.B.Blocks.asked disk dir index c.loop-index.b (omega (arith, c.loop-index-test.true, c.div_ceil-index-end.ensures, c.requires.near))) c.look.ensures.asked;
       missing = λ entries has k k_lt below.
           let size = size_of_entries disk dir entries has in
           missing_on disk dir entries index c.min-here.result bytes c.args.name.now has (omega (arith, c.min-here.ensures)) is (c.loop-index.invariant.missing entries has)

@@ -3,8 +3,7 @@ use Rattle.kabi_types.specs.declared.inodes.DirEntry.{DirEntry}
 use Rattle.posix_defs.specs.Asking.{AskedInTurn}
 use Rattle.posix_defs.specs.DiskContents.{HasEntries}
 use Rattle.posix_defs.specs.TreeChanges.{no_entry}
-use Rattle.memfs_dir.specs.Looking.{looked_through}
-use Rattle.memfs_dir.proofs.Found.{blocks_at}
+use Rattle.memfs_dir.specs.Looking.{blocks_at, looked_through}
 use Rattle.memfs_dir.proofs.finding.look_near.Given as goal
 
 abbrev pub invariant-loop-index : goal.invariant-loop-index

@@ -1,73 +1,18 @@
-use Rattle.std.proofs.Common.{◌≡◌, ℕ, ◌+◌, ◌%◌, ◌<◌, List, length, get_or, set, sym, ap, subst, ◌∙◌, arith}
+use Rattle.std.proofs.Common.{◌≡◌, ℕ, ◌+◌, ◌/◌, ◌<◌, ◌≤◌, List, length, sym, ap, arith}
 use Rattle.posix_defs.specs.DiskFormat.{block_size, data_blocks}
-use Rattle.posix_defs.specs.SoundDisk.{block_bytes, HasNode, Sound}
-use Rattle.posix_defs.specs.DiskContents.{data_block}
-use Rattle.memfs_file.specs.FileChange.{Puts}
-use Rattle.memfs_file.proofs.Pointers.{pointer_names, few_blocks, on_disk}
-use Rattle.memfs_file.proofs.Written.{none_put, put_more, all_put}
+use Rattle.posix_defs.specs.SoundDisk.{block_of_run, pointer_block, run_of}
+use Rattle.memfs_file.proofs.Written.{all_put}
 use Rattle.memfs_file.proofs.putting.put_bytes.Goals as goal
 
-pub put_part-requires-clause-on_disk : goal.put_part-requires-clause-on_disk
-put_part-requires-clause-on_disk g c =
-    let was : List (List ℕ) = g.B.Blocks.blocks c.args.b.now in
-    let disk : List (List ℕ) = g.B.Blocks.blocks c.pointers_behind.new.b in
-    let inode = c.args.inode.now in
-    let index : ℕ = c.loop-index.index in
-    let number : ℕ = c.requires.node.0 in
-    let has : HasNode was number inode = c.requires.node.1 in
-    let few = few_blocks has.0 (c.args.at + length c.args.bytes.now) c.requires.within in
-    let end : c.data_count-end.result ≡ data_blocks (c.args.at + length c.args.bytes.now) = c.data_count-end.ensures in
-    let lt : index < data_blocks inode.size = omega (arith, end, few.0) in
-    let named : c.block_named-block.result ≡ data_block was inode index =
-    c.block_named-block.ensures ∙ pointer_names was inode c.pointers_behind.new.behind c.data_count-end.result index c.pointers_behind.ensures.pointers (omega arith) (omega (arith, end, few.0, few.1)) in
-    let puts = c.loop-index.invariant.puts number (subst (λ (d : List (List ℕ)). HasNode d number inode) (sym c.pointers_behind.ensures.kept) has) in
-    let same : length (g.B.Blocks.blocks c.loop-index.b) ≡ length was = puts.changes.blocks ∙ ap length c.pointers_behind.ensures.kept in
-    omega (arith, named, same, on_disk was number inode index c.requires.sound has.0 lt)
+pub returns-then-end-gt-NEAR_BLOCKS-clause-puts : goal.returns-then-end-gt-NEAR_BLOCKS-clause-puts
+returns-then-end-gt-NEAR_BLOCKS-clause-puts g c = λ number has.
+    all_put number (g.B.Blocks.blocks c.args.b.now) c.args.inode.now c.args.at c.args.bytes.now (c.args.at / block_size) c.data_count-end.result (g.B.Blocks.blocks c.put_far.new.b) (omega arith) c.data_count-end.ensures (c.put_far.ensures.puts number has)
 
-pub loop-index-init : goal.loop-index-init
-loop-index-init g c =
-    let disk : List (List ℕ) = g.B.Blocks.blocks c.pointers_behind.new.b in
-    let sound : Sound disk = subst (λ (d : List (List ℕ)). Sound d) (sym c.pointers_behind.ensures.kept) c.requires.sound in
-    record {
-      puts = λ number has. none_put number disk c.args.inode.now c.args.at c.args.bytes.now sound has.0;
-      follows = g.met.B.Blocks.follows_refl c.pointers_behind.new.b;
-    }
-
-pub loop-index-preserved : goal.loop-index-preserved
-loop-index-preserved g c =
-    let was : List (List ℕ) = g.B.Blocks.blocks c.args.b.now in
-    let disk : List (List ℕ) = g.B.Blocks.blocks c.pointers_behind.new.b in
-    let now : List (List ℕ) = g.B.Blocks.blocks c.loop-index.b in
-    let after : List (List ℕ) = g.B.Blocks.blocks c.put_part.new.b in
-    let inode = c.args.inode.now in
-    let index : ℕ = c.loop-index.index in
-    let few = few_blocks c.requires.node.1.0 (c.args.at + length c.args.bytes.now) c.requires.within in
-    let end : c.data_count-end.result ≡ data_blocks (c.args.at + length c.args.bytes.now) = c.data_count-end.ensures in
-    let named : c.block_named-block.result ≡ data_block disk inode index =
-    c.block_named-block.ensures ∙ pointer_names was inode c.pointers_behind.new.behind c.data_count-end.result index c.pointers_behind.ensures.pointers (omega arith) (omega (arith, end, few.0, few.1))
-    ∙ ap (λ (d : List (List ℕ)). data_block d inode index) (sym c.pointers_behind.ensures.kept) in
-    let put = c.put_part.ensures in
-    record {
-      puts = λ number has.
-          put_more number disk inode c.args.at c.args.bytes.now index now after (
-          record {
-            sofar = c.loop-index.invariant.puts number has;
-            fits = c.requires.within;
-            within = omega (arith, end, few.0);
-            block = put.set.0;
-            is_set = put.set.1 ∙ ap (λ (n : ℕ). set now n put.set.0) named;
-            here = λ place le lt e. ap (λ (n : ℕ). get_or (block_bytes after n) (place % block_size) 0) (sym named) ∙ put.here place le lt e;
-            off = λ place e outside. ap (λ (n : ℕ). get_or (block_bytes after n) (place % block_size) 0) (sym named) ∙ put.rest place e outside ∙ ap (λ (n : ℕ). get_or (block_bytes now n) (place % block_size) 0) named;
-          }
-          );
-      follows = g.met.B.Blocks.follows_trans c.pointers_behind.new.b c.loop-index.b c.put_part.new.b c.loop-index.invariant.follows put.follows;
-    }
+pub put_run-requires-clause-pointers : goal.put_run-requires-clause-pointers
+put_run-requires-clause-pointers g c =
+    let near : run_of (c.args.at / block_size) ≡ 0 = omega (arith, c.data_count-end.ensures, c.requires.some) in
+    ap (λ (r : ℕ). pointer_block (g.B.Blocks.blocks c.args.b.now) c.args.inode.now (block_of_run r)) (sym near)
 
 pub returns-clause-puts : goal.returns-clause-puts
 returns-clause-puts g c = λ number has.
-    let disk : List (List ℕ) = g.B.Blocks.blocks c.pointers_behind.new.b in
-    let now : List (List ℕ) = g.B.Blocks.blocks c.loop-index.b in
-    let kept = c.pointers_behind.ensures.kept in
-    let there : HasNode disk number c.args.inode.now = subst (λ (d : List (List ℕ)). HasNode d number c.args.inode.now) (sym kept) has in
-    subst (λ (d : List (List ℕ)). Puts number d c.args.inode.now c.args.at c.args.bytes.now now) kept
-    (all_put number disk c.args.inode.now c.args.at c.args.bytes.now c.loop-index.index now (omega (arith, c.data_count-end.ensures)) (c.loop-index.invariant.puts number there))
+    all_put number (g.B.Blocks.blocks c.args.b.now) c.args.inode.now c.args.at c.args.bytes.now (c.args.at / block_size) c.data_count-end.result (g.B.Blocks.blocks c.put_run.new.b) (omega arith) c.data_count-end.ensures (c.put_run.ensures.puts number has)

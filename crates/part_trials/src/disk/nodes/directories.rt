@@ -244,16 +244,20 @@ const ON_16_BLOCKS: &[Row] = &[
     (Step::Add(416), Answer::Full, 1, 0, 0, 416),
 ];
 
-/// A directory of 272384 bytes has 8512 entries in 266 blocks, behind one of pointers.
+/// A directory of 272384 bytes has 8512 entries in 266 blocks, behind one of pointers. One entry more takes a block, the
+/// double block and one of pointers.
 const ON_4096_BLOCKS: &[Row] = &[
     (Step::Add(2), Answer::Done, 2, 2, 3838, 3),
     (Step::Find(2), Answer::Place(2), 1, 0, 3838, 3),
     (Step::Remove(2), Answer::Node(102), 2, 1, 3838, 2),
     (Step::Find(2), Answer::Missing, 1, 0, 3838, 2),
     (Step::Fill(8512), Answer::Done, 25467, 17806, 3572, 8512),
-    (Step::Add(8512), Answer::Full, 0, 0, 3572, 8512),
     (Step::Find(8511), Answer::Place(8511), 267, 0, 3572, 8512),
     (Step::Find(8512), Answer::Missing, 267, 0, 3572, 8512),
+    (Step::Add(8512), Answer::Done, 4, 6, 3569, 8513),
+    (Step::Find(8512), Answer::Place(8512), 270, 0, 3569, 8513),
+    (Step::Find(8513), Answer::Missing, 270, 0, 3569, 8513),
+    (Step::Remove(8512), Answer::Node(8612), 7, 2, 3572, 8512),
     (Step::Remove(8511), Answer::Node(8611), 3, 1, 3572, 8511),
     (Step::Add(8511), Answer::Done, 3, 2, 3572, 8512),
 ];

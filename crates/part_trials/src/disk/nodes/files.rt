@@ -126,7 +126,8 @@ const ON_16_BLOCKS: &[Row] = &[
     (Change::Write(6001, 32767), Ok(6287), 6, 10, 0),
     (Change::Write(12288, 1), Err(Errno::ENOSPC), 2, 0, 0),
     (Change::Write(12287, 2), Ok(1), 5, 2, 0),
-    (Change::Write(272_384, 1), Err(Errno::EFBIG), 0, 0, 0),
+    (Change::Write(272_384, 1), Err(Errno::ENOSPC), 2, 0, 0),
+    (Change::Write(67_381_248, 1), Err(Errno::EFBIG), 0, 0, 0),
     (Change::Size(12288), Ok(0), 1, 1, 0),
 ];
 
@@ -134,7 +135,9 @@ const ON_16_BLOCKS: &[Row] = &[
 const SIZES_ON_16_BLOCKS: &[Row] = &[
     (Change::Blocks(12288), Ok(0), 2, 15, 0),
     (Change::Blocks(12289), Err(Errno::ENOSPC), 1, 0, 0),
-    (Change::Blocks(272_385), Err(Errno::EFBIG), 0, 0, 0),
+    (Change::Blocks(272_385), Err(Errno::ENOSPC), 1, 0, 0),
+    (Change::Blocks(67_381_248), Err(Errno::ENOSPC), 1, 0, 0),
+    (Change::Blocks(67_381_249), Err(Errno::EFBIG), 0, 0, 0),
     (Change::Blocks(12288), Ok(0), 1, 1, 0),
     (Change::Blocks(10241), Ok(0), 3, 3, 1),
     (Change::Blocks(12288), Ok(0), 3, 4, 0),
@@ -152,8 +155,13 @@ const SIZES_ON_4096_BLOCKS: &[Row] = &[
     (Change::Blocks(10241), Ok(0), 2, 4, 3826),
     (Change::Blocks(11264), Ok(0), 1, 1, 3826),
     (Change::Blocks(272_384), Ok(0), 3, 258, 3571),
-    (Change::Blocks(272_385), Err(Errno::EFBIG), 0, 0, 3571),
     (Change::Blocks(10241), Ok(0), 3, 3, 3826),
+    (Change::Blocks(272_384), Ok(0), 3, 258, 3571),
+    (Change::Blocks(272_385), Ok(0), 2, 5, 3568),
+    (Change::Blocks(534_529), Ok(0), 8, 263, 3311),
+    (Change::Blocks(67_381_248), Err(Errno::ENOSPC), 1, 0, 3311),
+    (Change::Blocks(67_381_249), Err(Errno::EFBIG), 0, 0, 3311),
+    (Change::Blocks(10241), Ok(0), 12, 8, 3826),
     (Change::Blocks(10240), Ok(0), 3, 2, 3828),
     (Change::Blocks(0), Ok(0), 2, 2, 3838),
 ];
