@@ -1,7 +1,7 @@
 //! What an attempt to reserve answers.
 
 /// The answer of `Charge::try_reserve`, in bytes of the heap.
-#[derive(Clone, Copy, Debug, PartialEq, Eq)]
+#[derive(Clone, Copy, PartialEq)]
 pub enum Reserved {
     /// The seat holds what it asked for.
     Granted,

@@ -7,7 +7,7 @@ ghost use Rattle.posix_defs.specs.Pipe.{not_now as waiting};
 use kabi_types::Errno;
 
 /// What a read or a write of a pipe or a socket answers.
-#[derive(Clone, Copy, Debug, PartialEq, Eq)]
+#[derive(Clone, Copy)]
 pub enum Moved {
     /// So many bytes went.
     Bytes(u32),

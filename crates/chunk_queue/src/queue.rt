@@ -24,7 +24,7 @@ const EMPTY: QueueParts = QueueParts {
 };
 
 /// A queue of bytes whose chunks are in a heap.
-#[derive(Clone, Copy, Debug)]
+#[derive(Clone, Copy)]
 pub struct Queue {
     parts: QueueParts,
 }

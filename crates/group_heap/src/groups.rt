@@ -6,7 +6,7 @@ use kern_core::Core;
 use posix_defs::Turner;
 
 /// What has become of a group.
-#[derive(Debug, Clone, Copy, PartialEq, Eq)]
+#[derive(Clone, Copy)]
 pub enum GroupEnd {
     /// It hasn't run: nothing has, or the host had no memory for its report.
     NotRun,

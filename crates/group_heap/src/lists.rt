@@ -6,14 +6,14 @@ use kabi_types::{Name27, Script};
 use std::marker::Model;
 
 /// A section of a text of groups: the group's name, and its script.
-#[derive(Debug, Drop)]
+#[derive(Drop)]
 pub struct Section {
     pub name: Name27,
     pub script: Script,
 }
 
 /// The groups of a text, in their order, and how many bytes all heaps that run may have together.
-#[derive(Debug, Drop)]
+#[derive(Drop)]
 pub struct GroupList {
     pub(crate) whole: u64,
     pub(crate) sections: Vec<Section>,

@@ -150,7 +150,7 @@ pub enum Call {
 }
 
 /// Which call it is, without its operands.
-#[derive(Clone, Copy, Debug, PartialEq, Eq)]
+#[derive(Clone, Copy, PartialEq)]
 pub enum CallKind {
     Getpid,
     Getppid,

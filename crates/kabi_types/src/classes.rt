@@ -3,7 +3,7 @@ ghost use Rattle.kabi_types.specs.Class.{size};
 ghost use Rattle.kabi_types.specs.Counts.{counted, with_count};
 
 /// A class of kernel objects.
-#[derive(Clone, Copy, Debug, PartialEq, Eq)]
+#[derive(Clone, Copy)]
 pub enum Class {
     /// A process; after its end too, until its parent has waited for it.
     Proc,
@@ -61,7 +61,7 @@ impl Class {
 }
 
 /// How many objects of each class a call may make.
-#[derive(Clone, Copy, Debug, Default, PartialEq, Eq)]
+#[derive(Clone, Copy, Default)]
 pub struct Need {
     pub proc: u32,
     pub node: u32,
@@ -115,7 +115,7 @@ impl Need {
 }
 
 /// What a process weighs where a victim is chosen.
-#[derive(Clone, Copy, Debug, Default, PartialEq, Eq)]
+#[derive(Clone, Copy, Default)]
 pub struct Weight {
     pub pid: u32,
     /// How many of its page entries name a frame.

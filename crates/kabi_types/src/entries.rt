@@ -3,7 +3,7 @@ ghost use Rattle.std.specs.Prelude.{◌≡◌};
 use crate::{CallKind, Reply};
 
 /// Which of the three caches an evicted object was in.
-#[derive(Clone, Copy, Debug, PartialEq, Eq)]
+#[derive(Clone, Copy, PartialEq)]
 pub enum Cached {
     Name,
     Block,
@@ -112,7 +112,7 @@ impl Entry {
 }
 
 /// How a run ended.
-#[derive(Clone, Copy, Debug, PartialEq, Eq)]
+#[derive(Clone, Copy, PartialEq)]
 pub enum End {
     /// The first process has ended, and no call holds a reservation any more.
     Finished,
@@ -125,7 +125,7 @@ pub enum End {
 }
 
 /// One atomic step of the core.
-#[derive(Clone, Copy, Debug, PartialEq, Eq)]
+#[derive(Clone, Copy)]
 pub enum Event {
     /// The process asks for its next call.
     Ask(u32),

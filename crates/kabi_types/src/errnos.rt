@@ -4,7 +4,7 @@ ghost use Rattle.kabi_types.specs.Errno.{number_of, name_of};
 use thiserror::Error;
 
 /// Why a call failed, under the names of POSIX's errno.h. The numbers are this kernel's own.
-#[derive(Clone, Copy, Debug, PartialEq, Eq, Error)]
+#[derive(Clone, Copy, Debug, PartialEq, Error)]
 pub enum Errno {
     #[error("operation not permitted")]
     EPERM,

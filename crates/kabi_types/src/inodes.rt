@@ -1,7 +1,7 @@
 use crate::Name27;
 
 /// A node of the disk as its table has it.
-#[derive(Clone, Copy, Debug, PartialEq, Eq)]
+#[derive(Clone, Copy, PartialEq)]
 pub struct Inode {
     /// 0 free, 1 file, 2 directory, 3 socket name.
     pub kind: u8,
@@ -17,7 +17,7 @@ pub struct Inode {
 }
 
 /// An entry of a directory: a name, and the number of its node.
-#[derive(Debug, Drop, PartialEq, Eq)]
+#[derive(Drop, PartialEq)]
 pub struct DirEntry {
     pub node: u32,
     pub name: Name27,

@@ -4,7 +4,7 @@ use crate::{Entry, Operand, Program, Statement};
 use std::marker::Model;
 
 /// The programs of a script, as it gives them.
-#[derive(Debug, Drop)]
+#[derive(Drop)]
 pub struct Programs {
     programs: Vec<Program>,
 }
@@ -35,7 +35,7 @@ impl Programs {
 }
 
 /// A program's statements. The place of a statement counts from 0.
-#[derive(Debug, Drop)]
+#[derive(Drop)]
 pub struct Statements {
     statements: Vec<Statement>,
 }
@@ -66,7 +66,7 @@ impl Statements {
 }
 
 /// The numbers of a script's line of choices.
-#[derive(Debug, Drop)]
+#[derive(Drop)]
 pub struct Numbers {
     numbers: Vec<u32>,
 }
@@ -96,7 +96,7 @@ impl Numbers {
 }
 
 /// The operands of a call that are numbers, in the order of the call's fields.
-#[derive(Debug, Drop)]
+#[derive(Drop)]
 pub struct Operands {
     operands: Vec<Operand>,
 }
@@ -127,7 +127,7 @@ impl Operands {
 }
 
 /// The operands of a call that are texts: its paths, or the bytes of a `store`.
-#[derive(Debug, Drop)]
+#[derive(Drop)]
 pub struct Texts {
     texts: Vec<Text>,
 }
@@ -157,7 +157,7 @@ impl Texts {
 }
 
 /// A text of a script, without its quotes and with its escapes read.
-#[derive(Debug, Drop)]
+#[derive(Drop)]
 pub struct Text {
     bytes: Vec<u8>,
 }

@@ -3,7 +3,7 @@ ghost use Rattle.std.specs.Prelude.{⊤, ◌≡◌, [], ◌∷◌, codes, pos, i
 use bitflags::{Flag, Flags, bitflag_items};
 
 /// The flags of `open` and of an open description: the access mode in the two lowest bits, and `O_` flags above them.
-#[derive(Clone, Copy, Debug, PartialEq, Eq)]
+#[derive(Clone, Copy)]
 pub struct OpenFlags(u32);
 
 bitflag_items! {

@@ -4,7 +4,7 @@ ghost use Rattle.kabi_types.specs.Packed.{little_endian};
 use crate::{Bytes64, Errno, Revents};
 
 /// What a node or an open description is.
-#[derive(Clone, Copy, Debug, PartialEq, Eq)]
+#[derive(Clone, Copy)]
 pub enum NodeKind {
     File,
     Dir,
@@ -14,7 +14,7 @@ pub enum NodeKind {
 
 /// What `stat` and `fstat` tell: the node's number, its links and its size in bytes. A pipe or a socket that has no
 /// node has 0 in all three.
-#[derive(Clone, Copy, Debug, PartialEq, Eq)]
+#[derive(Clone, Copy)]
 pub struct StatInfo {
     pub kind: NodeKind,
     pub number: u32,
@@ -23,7 +23,7 @@ pub struct StatInfo {
 }
 
 /// What `poll` answers: how many of its entries have an event, and the events of each.
-#[derive(Debug, Drop, PartialEq, Eq)]
+#[derive(Drop)]
 pub struct PollHits {
     pub hits: u32,
     pub revents: Revents,
@@ -42,7 +42,7 @@ impl PollHits {
 }
 
 /// What a call answers its process.
-#[derive(Debug, Drop, PartialEq, Eq)]
+#[derive(Drop)]
 pub enum Reply {
     Val(i64),
     Pair(u32, u32),

@@ -2,7 +2,7 @@ use crate::{CallKind, Name27, Numbers, Operands, Programs, Statements, Texts};
 use thiserror::Error;
 
 /// How the score of a process is computed where one has to be killed.
-#[derive(Clone, Copy, Debug, PartialEq, Eq)]
+#[derive(Clone, Copy)]
 pub enum Policy {
     /// The process that holds the most heap goes.
     Heaviest,
@@ -11,7 +11,7 @@ pub enum Policy {
 }
 
 /// Who chooses among the enabled events.
-#[derive(Debug, Drop)]
+#[derive(Drop)]
 pub enum Chooser {
     /// The default event is always taken.
     Plain,
@@ -22,7 +22,7 @@ pub enum Chooser {
 }
 
 /// A value of a statement: a register's, or a number.
-#[derive(Clone, Copy, Debug, PartialEq, Eq)]
+#[derive(Clone, Copy)]
 pub enum Operand {
     /// One of the registers 0 to 15.
     Reg(u8),
@@ -30,7 +30,7 @@ pub enum Operand {
 }
 
 /// How an `if` compares its two values.
-#[derive(Clone, Copy, Debug, PartialEq, Eq)]
+#[derive(Clone, Copy)]
 pub enum Test {
     Eq,
     Ne,
@@ -39,7 +39,7 @@ pub enum Test {
 }
 
 /// A statement of a program. Registers are numbered 0 to 15 and a program's statements from 0; a place is such a number.
-#[derive(Debug, Drop)]
+#[derive(Drop)]
 pub enum Statement {
     Set(u8, Operand),
     Add(u8, Operand),
@@ -66,14 +66,14 @@ pub enum Statement {
 }
 
 /// A program of a script.
-#[derive(Debug, Drop)]
+#[derive(Drop)]
 pub struct Program {
     pub name: Name27,
     pub body: Statements,
 }
 
 /// A whole script: the sizes of heap and disk, the number of steps, how events and victims are chosen, and the programs.
-#[derive(Debug, Drop)]
+#[derive(Drop)]
 pub struct Script {
     /// In bytes.
     pub heap: u64,
@@ -87,7 +87,7 @@ pub struct Script {
 }
 
 /// Where a process stands in its program.
-#[derive(Clone, Copy, Debug, PartialEq, Eq)]
+#[derive(Clone, Copy)]
 pub struct Control {
     /// The place of the program in the script.
     pub program: u32,
@@ -99,7 +99,7 @@ pub struct Control {
 }
 
 /// What is wrong with a line of a script, in the order in which one is told before another.
-#[derive(Clone, Copy, Debug, PartialEq, Eq, Error)]
+#[derive(Clone, Copy, Debug, Error)]
 pub enum FaultKind {
     #[error("not utf-8")]
     NotUtf8,
@@ -124,7 +124,7 @@ pub enum FaultKind {
 }
 
 /// Why a text is no script: the line, from 1, or 0 where no line is at fault, and what is wrong there.
-#[derive(Clone, Copy, Debug, PartialEq, Eq, Error)]
+#[derive(Clone, Copy, Debug, Error)]
 #[error("line {line}: {what}")]
 pub struct ScriptFault {
     pub line: u32,

@@ -4,7 +4,7 @@ use arrayvec::ArrayVec;
 use std::marker::Model;
 
 /// A path as a call names it: at most 255 bytes. Those of a script have no zero byte, which `of` doesn't look for.
-#[derive(Debug, Drop, PartialEq, Eq)]
+#[derive(Drop)]
 pub struct Path {
     bytes: ArrayVec<u8, 255>,
 }
@@ -50,7 +50,7 @@ impl Path {
 }
 
 /// At most 64 bytes that `store` puts into memory or `load` takes out.
-#[derive(Debug, Drop, PartialEq, Eq)]
+#[derive(Drop)]
 pub struct Bytes64 {
     bytes: ArrayVec<u8, 64>,
 }
@@ -96,7 +96,7 @@ impl Bytes64 {
 }
 
 /// What `poll` answers for each of its entries, in their order: at most 8 sets of events.
-#[derive(Debug, Drop, PartialEq, Eq)]
+#[derive(Drop)]
 pub struct Revents {
     events: ArrayVec<u8, 8>,
 }
@@ -142,7 +142,7 @@ impl Revents {
 }
 
 /// A name of a directory entry, a program or a label: at most 27 bytes.
-#[derive(Debug, Drop, PartialEq, Eq, Hash)]
+#[derive(Drop, PartialEq, Eq, Hash)]
 pub struct Name27 {
     bytes: ArrayVec<u8, 27>,
 }
@@ -188,14 +188,14 @@ impl Name27 {
 }
 
 /// One descriptor that `poll` asks about, and the events that it asks for.
-#[derive(Clone, Copy, Debug, Default, PartialEq, Eq)]
+#[derive(Clone, Copy, Default)]
 pub struct PollEntry {
     pub fd: i64,
     pub events: i64,
 }
 
 /// The entries of one `poll`: at most 8.
-#[derive(Debug, Drop, PartialEq, Eq)]
+#[derive(Drop)]
 pub struct PollList {
     entries: ArrayVec<PollEntry, 8>,
 }

@@ -2,7 +2,7 @@ ghost use Rattle.std.specs.Prelude.{◌≡◌};
 ghost use Rattle.kept_places.specs.Rising.{AreRising, IsFoundAt};
 
 /// A thing that is there, and its place.
-#[derive(Debug, Drop)]
+#[derive(Drop)]
 pub struct Kept<X> {
     pub place: u32,
     pub what: X,

@@ -6,7 +6,7 @@ use kabi_types::Chooser;
 use posix_defs::{choice_of, next_state};
 
 /// Who chooses the events of a run that are still to come.
-#[derive(Clone, Copy, Debug)]
+#[derive(Clone, Copy)]
 pub enum Choosing<'a> {
     /// The default event is always taken.
     Default,

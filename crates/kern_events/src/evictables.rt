@@ -8,7 +8,7 @@ use kabi_types::Cached;
 use posix_defs::Turner;
 
 /// Of each cache whether it keeps something that isn't pinned.
-#[derive(Clone, Copy, Debug, PartialEq, Eq)]
+#[derive(Clone, Copy)]
 pub struct Evictables {
     name: bool,
     block: bool,

@@ -1,7 +1,7 @@
 use kabi_types::Cached;
 
 /// How calls that wait for room were helped.
-#[derive(Clone, Copy, Debug, PartialEq, Eq)]
+#[derive(Clone, Copy, PartialEq)]
 pub enum Relief {
     /// No call waits.
     NoneWaiting,

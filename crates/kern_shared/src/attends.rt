@@ -24,7 +24,7 @@ use std::mem;
 use turn_words::{Chronicle, Item};
 
 /// How a call of a held process was answered.
-#[derive(Debug, Drop, PartialEq, Eq)]
+#[derive(Drop)]
 pub enum Attended {
     /// The call is over.
     Done(Reply),

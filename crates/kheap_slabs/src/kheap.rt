@@ -90,11 +90,12 @@ impl FileShelves {
         ensures blocks { IfOk result (λ made. made.blocks
             ≡ replicate (heap / size class.Block) None) }
     {
+        // The shelf of names is made last: its drop would be the longest at the ways out.
         Ok(FileShelves {
             descs: shelf_of(alloc, heap, Class::Desc.bytes())?,
             vnodes: shelf_of(alloc, heap, Class::Vnode.bytes())?,
-            names: shelf_of(alloc, heap, Class::Name.bytes())?,
             blocks: shelf_of(alloc, heap, Class::Block.bytes())?,
+            names: shelf_of(alloc, heap, Class::Name.bytes())?,
         })
     }
 }
@@ -132,8 +133,8 @@ impl KHeap {
         ensures live { IfOk result (λ made. live_bytes made ≡ 0) }
     {
         let memory = MemoryShelves::boot(alloc, heap)?;
-        let files = FileShelves::boot(alloc, heap)?;
         let queues = QueueShelves::boot(alloc, heap)?;
+        let files = FileShelves::boot(alloc, heap)?;
         Ok(KHeap {
             memory,
             files,

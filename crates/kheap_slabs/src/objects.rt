@@ -1,7 +1,7 @@
 use kabi_types::{Control, Inode, Name27};
 
 /// A process. It stays after its end until its parent has waited for it.
-#[derive(Clone, Copy, Debug, PartialEq, Eq)]
+#[derive(Clone, Copy)]
 pub struct Proc {
     pub pid: u32,
     /// The parent's pid.
@@ -19,7 +19,7 @@ pub struct Proc {
 }
 
 /// An open descriptor of a process.
-#[derive(Clone, Copy, Debug, PartialEq, Eq)]
+#[derive(Clone, Copy)]
 pub struct Descriptor {
     /// The key of its Desc.
     pub desc: u32,
@@ -28,13 +28,13 @@ pub struct Descriptor {
 }
 
 /// 64 neighbouring page entries of an address space.
-#[derive(Clone, Copy, Debug, PartialEq, Eq)]
+#[derive(Clone, Copy)]
 pub struct Node {
     pub entries: [PageEntry; 64],
 }
 
 /// What an address space has at a page.
-#[derive(Clone, Copy, Debug, PartialEq, Eq)]
+#[derive(Clone, Copy, PartialEq)]
 pub enum PageEntry {
     Unmapped,
     /// Mapped, all zero, with no frame yet.
@@ -44,7 +44,7 @@ pub enum PageEntry {
 }
 
 /// A frame of memory.
-#[derive(Clone, Copy, Debug, PartialEq, Eq)]
+#[derive(Clone, Copy)]
 pub struct Page {
     pub bytes: [u8; 4096],
     /// How many page entries name it.
@@ -52,7 +52,7 @@ pub struct Page {
 }
 
 /// An open file description.
-#[derive(Clone, Copy, Debug, PartialEq, Eq)]
+#[derive(Clone, Copy)]
 pub struct Desc {
     pub target: Target,
     /// The offset in a file or a directory, in bytes.
@@ -64,7 +64,7 @@ pub struct Desc {
 }
 
 /// What a description is open on.
-#[derive(Clone, Copy, Debug, PartialEq, Eq)]
+#[derive(Clone, Copy)]
 pub enum Target {
     /// The number of a file or a directory.
     Inode(u32),
@@ -75,7 +75,7 @@ pub enum Target {
 }
 
 /// What a description is open for.
-#[derive(Clone, Copy, Debug, PartialEq, Eq)]
+#[derive(Clone, Copy)]
 pub enum Access {
     Read,
     Write,
@@ -83,7 +83,7 @@ pub enum Access {
 }
 
 /// The status flags of a description.
-#[derive(Clone, Copy, Debug, PartialEq, Eq)]
+#[derive(Clone, Copy)]
 pub struct DescFlags {
     /// O_APPEND.
     pub append: bool,
@@ -92,7 +92,7 @@ pub struct DescFlags {
 }
 
 /// A cached inode.
-#[derive(Clone, Copy, Debug, PartialEq, Eq)]
+#[derive(Clone, Copy)]
 pub struct Vnode {
     /// The number of its node.
     pub number: u32,
@@ -102,7 +102,7 @@ pub struct Vnode {
 }
 
 /// A cached directory entry.
-#[derive(Debug, Drop, PartialEq, Eq)]
+#[derive(Drop)]
 pub struct Name {
     /// The number of the directory.
     pub dir: u32,
@@ -112,7 +112,7 @@ pub struct Name {
 }
 
 /// A cached disk block.
-#[derive(Clone, Copy, Debug, PartialEq, Eq)]
+#[derive(Clone, Copy)]
 pub struct Block {
     /// Its number on the disk.
     pub number: u32,
@@ -120,7 +120,7 @@ pub struct Block {
 }
 
 /// A pipe.
-#[derive(Clone, Copy, Debug, PartialEq, Eq)]
+#[derive(Clone, Copy)]
 pub struct Pipe {
     pub queue: QueueParts,
     /// How many descriptions have its read end.
@@ -130,7 +130,7 @@ pub struct Pipe {
 }
 
 /// A queue of bytes, as its owner in the heap keeps it. The empty queue is None, None, 0, 0.
-#[derive(Clone, Copy, Debug, Default, PartialEq, Eq)]
+#[derive(Clone, Copy, Default)]
 pub struct QueueParts {
     /// The key of its first Chunk.
     pub first: Option<u32>,
@@ -143,7 +143,7 @@ pub struct QueueParts {
 }
 
 /// 512 bytes of a queue.
-#[derive(Clone, Copy, Debug, PartialEq, Eq)]
+#[derive(Clone, Copy)]
 pub struct Chunk {
     pub bytes: [u8; 512],
     /// The key of the next Chunk of the queue.
@@ -151,7 +151,7 @@ pub struct Chunk {
 }
 
 /// A socket. The bytes in its queue are those that it is to read.
-#[derive(Clone, Copy, Debug, PartialEq, Eq)]
+#[derive(Clone, Copy)]
 pub struct Sock {
     pub state: SockState,
     pub queue: QueueParts,
@@ -164,7 +164,7 @@ pub struct Sock {
 }
 
 /// How far a socket has come.
-#[derive(Clone, Copy, Debug, PartialEq, Eq)]
+#[derive(Clone, Copy)]
 pub enum SockState {
     /// Neither listening nor connected.
     Idle,

@@ -5,7 +5,7 @@ use crate::Failed;
 use std::marker::Model;
 
 /// The calls of a stream in memory: how many there were and failed, and the numbers of those that fail.
-#[derive(Debug, Drop)]
+#[derive(Drop)]
 pub struct Calls {
     fails: Vec<u64>,
     made: u64,

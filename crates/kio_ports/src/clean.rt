@@ -5,7 +5,7 @@ use crate::{Failed, Sink, Source};
 use std::marker::Model;
 
 /// A source in memory that never fails, and fills each buffer as far as its bytes go.
-#[derive(Debug, Drop)]
+#[derive(Drop)]
 pub struct CleanSource {
     unread: Unread,
 }
@@ -45,7 +45,7 @@ impl Source for CleanSource {
 }
 
 /// A sink that never fails: it takes each piece whole and keeps nothing of it.
-#[derive(Clone, Copy, Debug, Default, PartialEq, Eq)]
+#[derive(Clone, Copy, Default)]
 pub struct CleanSink;
 
 impl CleanSink {

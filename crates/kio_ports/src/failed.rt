@@ -4,7 +4,7 @@ use std::error::Error;
 use std::fmt;
 
 /// A stream couldn't move a byte. Its count of faults says that this happened.
-#[derive(Clone, Copy, Debug, PartialEq, Eq)]
+#[derive(Clone, Copy, Debug)]
 pub struct Failed;
 
 impl fmt::Display for Failed {

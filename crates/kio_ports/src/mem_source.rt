@@ -8,7 +8,7 @@ use crate::{Failed, Source};
 use std::marker::Model;
 
 /// A source in memory that fails at the calls that it is told, and gives few bytes at a time.
-#[derive(Debug, Drop)]
+#[derive(Drop)]
 pub struct MemSource {
     unread: Unread,
     most: usize,

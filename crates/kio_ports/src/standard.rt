@@ -12,7 +12,7 @@ pub type StdSource = ReadSource<Stdin>;
 pub type StdSink = WriteSink<Stdout>;
 
 /// The bytes of a reader. Every error of a read counts as a fault, an interrupted read too.
-#[derive(Debug, Drop)]
+#[derive(Drop)]
 pub struct ReadSource<R> {
     reader: R,
     faults: u64,
@@ -61,7 +61,7 @@ impl<R: Read> Source for ReadSource<R> {
 
 /// A writer to put bytes into. Every error of a write counts as a fault, an interrupted write too, and so does a write
 /// that takes nothing.
-#[derive(Debug, Drop)]
+#[derive(Drop)]
 pub struct WriteSink<W> {
     writer: W,
     faults: u64,

@@ -3,7 +3,7 @@ ghost use Rattle.std.specs.Prelude.{◌≡◌, ◌++◌, drop, length, min, take
 use std::marker::Model;
 
 /// Bytes in memory of which the first were given away; contracts see those that are left.
-#[derive(Debug, Drop)]
+#[derive(Drop)]
 pub struct Unread {
     bytes: Vec<u8>,
     given: usize,

@@ -3,7 +3,7 @@ ghost use Rattle.kres_tool.specs.declared.commands.Command.{Command};
 ghost use Rattle.kres_tool.specs.Words.{Asks, AsksNoThread, IsAllowed, command_by, most_workers, threaded_by, words_of};
 
 /// What is done with a script that is read from the source.
-#[derive(Clone, Copy, Debug, PartialEq, Eq)]
+#[derive(Clone, Copy)]
 pub enum Task {
     /// It is run, and its events are reported.
     Sim,
@@ -14,7 +14,7 @@ pub enum Task {
 }
 
 /// What the words after the program's name ask for.
-#[derive(Clone, Copy, Debug, PartialEq, Eq)]
+#[derive(Clone, Copy)]
 pub enum Command {
     /// Reads a script.
     OnScript(Task),
@@ -35,7 +35,7 @@ const MOST_ROUNDS: u32 = 1000;
 const MOST_WORKERS: u32 = 64;
 
 /// What the words want done in threads.
-#[derive(Clone, Copy, Debug, PartialEq, Eq)]
+#[derive(Clone, Copy)]
 pub enum Threaded {
     /// A script is run by so many workers.
     Script(u32),

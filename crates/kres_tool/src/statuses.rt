@@ -4,7 +4,7 @@ ghost use Rattle.kres_tool.specs.Status.{number_of, status_of};
 use kabi_types::End;
 
 /// How the program ends.
-#[derive(Clone, Copy, Debug, PartialEq, Eq)]
+#[derive(Clone, Copy)]
 pub enum Status {
     /// The run ended as its first process did, and the report is written.
     Finished,

@@ -1,5 +1,5 @@
 /// What was read of a source.
-#[derive(Debug, Drop)]
+#[derive(Drop)]
 pub enum Text {
     /// All that the source had, or one byte more than a script may have.
     Read(Vec<u8>),

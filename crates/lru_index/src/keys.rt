@@ -33,7 +33,7 @@ impl Key for u64 {
 
 /// A name in a directory: the number of the directory's node, the name's length in bytes, and its
 /// bytes with zeros behind them. `of` makes it, so that a name has one key.
-#[derive(Clone, Copy, Debug, Default, PartialEq, Eq, PartialOrd, Ord)]
+#[derive(Clone, Copy, Default, PartialEq, Eq, PartialOrd, Ord)]
 pub struct NameKey {
     pub dir: u32,
     pub len: u8,

@@ -19,7 +19,7 @@ use posix_defs::Blocks;
 const DIRECT_SIZE: u32 = 10_240;
 
 /// Where a directory has an entry, counted from 0, and the entry's node.
-#[derive(Clone, Copy, Debug, PartialEq, Eq)]
+#[derive(Clone, Copy)]
 pub struct FoundEntry {
     pub place: u32,
     pub node: u32,

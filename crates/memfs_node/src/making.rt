@@ -15,7 +15,7 @@ use memfs_dir::put_entry;
 use posix_defs::Blocks;
 
 /// What a new node is to hold.
-#[derive(Clone, Copy, Debug, PartialEq, Eq)]
+#[derive(Clone, Copy)]
 pub enum NewNode {
     /// A file without bytes.
     File,

@@ -30,7 +30,7 @@ use memfs_node::NewNode;
 use path_walk::Walked;
 
 /// What the flags of an open ask of the tree.
-#[derive(Clone, Copy, Debug, PartialEq, Eq)]
+#[derive(Clone, Copy)]
 pub struct Opening {
     /// To write, which no directory lets one.
     pub writes: bool,

@@ -1,14 +1,14 @@
 use kabi_types::CallKind;
 
 /// What a process has asked for: the kind of its call, and the kernel heap that the call may use, in bytes.
-#[derive(Clone, Copy, Debug, PartialEq, Eq)]
+#[derive(Clone, Copy)]
 pub struct Asked {
     pub kind: CallKind,
     pub bound: u64,
 }
 
 /// How far a process is with its next call.
-#[derive(Clone, Copy, Debug, PartialEq, Eq)]
+#[derive(Clone, Copy)]
 pub enum Phase {
     /// It has not asked for its call.
     User,
@@ -25,7 +25,7 @@ pub enum Phase {
 }
 
 /// A process that the core has to do with: it is alive, or it has ended and its call is admitted still.
-#[derive(Clone, Copy, Debug, PartialEq, Eq)]
+#[derive(Clone, Copy)]
 pub struct Task {
     pub pid: u32,
     pub phase: Phase,

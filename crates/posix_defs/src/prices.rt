@@ -1,5 +1,5 @@
 /// What a call may use of the kernel heap, as the price list has it. All numbers are bytes.
-#[derive(Clone, Copy, Debug, PartialEq, Eq)]
+#[derive(Clone, Copy)]
 pub enum Price {
     /// So many, whatever the operands.
     Always(u64),

@@ -3,7 +3,7 @@
 use kabi_types::{Chooser, FaultKind, Name27, Operand, Policy, Statement, Test, Text};
 
 /// A word of a line.
-#[derive(Debug, Drop)]
+#[derive(Drop)]
 pub enum Word {
     /// As it stands there.
     Bare(Text),
@@ -12,7 +12,7 @@ pub enum Word {
 }
 
 /// A statement as its line says it: a place is named by its label.
-#[derive(Debug, Drop)]
+#[derive(Drop)]
 pub enum Spoken {
     /// A statement without a place: `set`, `add`, or a call.
     Whole(Statement),
@@ -28,7 +28,7 @@ pub enum Spoken {
 }
 
 /// A line of a program that says something, or is at fault.
-#[derive(Debug, Drop)]
+#[derive(Drop)]
 pub struct Stated {
     /// Its number in the text, from 1.
     pub line: u32,
@@ -36,7 +36,7 @@ pub struct Stated {
 }
 
 /// What a line of a program says.
-#[derive(Debug, Drop)]
+#[derive(Drop)]
 pub enum InProgram {
     Silent,
     Says(Spoken),
@@ -45,7 +45,7 @@ pub enum InProgram {
 }
 
 /// A setting of a script.
-#[derive(Debug, Drop)]
+#[derive(Drop)]
 pub enum Setting {
     Heap(u64),
     Disk(u32),
@@ -55,7 +55,7 @@ pub enum Setting {
 }
 
 /// What a line outside programs says.
-#[derive(Debug, Drop)]
+#[derive(Drop)]
 pub enum AtTop {
     Silent,
     Sets(Setting),
@@ -64,7 +64,7 @@ pub enum AtTop {
 }
 
 /// The shape of a call's operands.
-#[derive(Clone, Copy, Debug, PartialEq, Eq)]
+#[derive(Clone, Copy, PartialEq)]
 pub enum Shape {
     /// So many values.
     Values(u32),

@@ -18,7 +18,7 @@ use crate::phases::Asked;
 use kabi_types::{Cached, Call, Need, Reply};
 
 /// What a turn of a call came to.
-#[derive(Debug, Drop, PartialEq, Eq)]
+#[derive(Drop)]
 pub enum Turned {
     /// The call is over.
     Done(Reply),

@@ -1,7 +1,7 @@
 use kabi_types::{Errno, Name27};
 
 /// Where a path leads.
-#[derive(Debug, Drop, PartialEq, Eq)]
+#[derive(Drop)]
 pub enum Walked {
     /// To a node that the path doesn't name in a directory: its last component is `.` or `..`, or it is only slashes.
     Node(u32),

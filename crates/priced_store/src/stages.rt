@@ -6,7 +6,7 @@ use kabi_types::{Call, Reply};
 use posix_defs::Turned;
 
 /// How far the process has come.
-#[derive(Clone, Copy, Debug, PartialEq, Eq)]
+#[derive(Clone, Copy)]
 pub enum Stage {
     /// It maps its pages next.
     Begun,

@@ -1,5 +1,5 @@
 /// What a parent that waits is answered.
-#[derive(Clone, Copy, Debug, PartialEq, Eq)]
+#[derive(Clone, Copy)]
 pub enum Reaped {
     /// It has no child that it may ask for.
     NoChild,

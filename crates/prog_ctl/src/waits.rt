@@ -2,7 +2,7 @@ use kabi_types::PollList;
 
 /// What a call may wait for, with the operands that tell whether it does: each call that may block has a case. They are as the
 /// script gave them, and aren't checked yet.
-#[derive(Debug, Drop, PartialEq, Eq)]
+#[derive(Drop)]
 pub enum Awaited {
     /// A child that has ended, for `waitpid`: its pid or -1 for any child, and the options.
     Child {

@@ -3,7 +3,7 @@ ghost use Rattle.std.specs.Prelude.{◌≡◌};
 use kabi_types::{Cached, Entry};
 
 /// What a process's call came to, without how it came out.
-#[derive(Clone, Copy, Debug, PartialEq, Eq)]
+#[derive(Clone, Copy, PartialEq)]
 pub enum Deed {
     /// The call is over, with some reply.
     Done,
@@ -20,7 +20,7 @@ pub enum Deed {
 }
 
 /// What somebody says that came next in a history: who did what, without how it came out. The machine knows the rest.
-#[derive(Clone, Copy, Debug, PartialEq, Eq)]
+#[derive(Clone, Copy, PartialEq)]
 pub enum Claim {
     /// The call of the process came to this.
     Did { pid: u32, deed: Deed },

@@ -12,7 +12,7 @@ use posix_defs::Turner;
 use std::alloc::Global;
 
 /// What came of a run: how it ended, and its report.
-#[derive(Debug, Drop)]
+#[derive(Drop)]
 pub struct Reported {
     pub end: End,
     pub text: String,

@@ -19,7 +19,7 @@ pub enum Ask {
 }
 
 /// What it is answered, as a row of a table has it.
-#[derive(Clone, Copy, PartialEq, Eq)]
+#[derive(Clone, Copy, PartialEq)]
 pub enum Told {
     Run(u32, CallKind),
     Idle,
@@ -165,7 +165,7 @@ pub fn step<R: Wait, T: Turner + Drop, L: RunName>(
 }
 
 /// An entry, as a row of a table has it.
-#[derive(Clone, Copy, PartialEq, Eq)]
+#[derive(Clone, Copy, PartialEq)]
 pub enum Line {
     Done(u32, CallKind),
     Refused(u32, CallKind, u64),

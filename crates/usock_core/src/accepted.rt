@@ -2,7 +2,7 @@
 use kabi_types::Errno;
 
 /// What `accept` answers.
-#[derive(Clone, Copy, Debug, PartialEq, Eq)]
+#[derive(Clone, Copy)]
 pub enum Accepted {
     /// The key of the socket that waited first.
     Took(u32),

@@ -1,7 +1,7 @@
 //! Where workers are watched, so that a test can hold one back.
 
 /// Where a worker is with a process.
-#[derive(Debug, Clone, Copy, PartialEq, Eq)]
+#[derive(Clone, Copy)]
 pub enum Point {
     /// It was given the process.
     Picked,
@@ -16,7 +16,7 @@ pub trait Door {
 }
 
 /// A door that holds nobody back.
-#[derive(Debug, Clone, Copy, Drop)]
+#[derive(Clone, Copy, Drop)]
 pub struct OpenDoor;
 
 impl Door for OpenDoor {

@@ -41,7 +41,7 @@ pub enum Step {
     Do(Change),
 }
 
-#[derive(Clone, Copy, PartialEq, Eq)]
+#[derive(Clone, Copy, PartialEq)]
 pub enum Answer {
     Done,
     Is(bool),

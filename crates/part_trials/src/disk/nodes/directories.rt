@@ -69,7 +69,7 @@ enum Step {
 }
 
 /// What it answers.
-#[derive(Clone, Copy, PartialEq, Eq)]
+#[derive(Clone, Copy, PartialEq)]
 enum Answer {
     Done,
     Full,
