@@ -26,12 +26,11 @@ ghost use Rattle.proc_files.specs.SocketGoing.{socket_going, unnamed};
 ghost use Rattle.proc_files.specs.NameHolding.{HoldNames, HoldSomeNames};
 
 use crate::naming::take_name;
-use crate::nodes::is_well_formed;
 use bound_table::BoundTable;
 use kabi_types::Errno;
 use kheap_slabs::{KHeap, Purse, Target};
 use memfs_ops::FileTree;
-use proc_numbers::{Named, close_one};
+use proc_numbers::{Named, close_one, named_at};
 use proc_table::{Place, ProcTable};
 
 /// A process closes a number, whatever it is open on. With the last descriptor that names it a description goes, and what it was
@@ -158,8 +157,7 @@ fn socket_going(heap: &KHeap, procs: &ProcTable, place: Place, fd: u32) -> Optio
     ensures going { result ≡ socket_going heap.now.descs (named_at heap.now procs.now place.pid fd) }
     ensures there { IfSome result (Contains (socks_named heap.now.descs)) }
 {
-    is_well_formed(heap);
-    let held = procs.at(heap, place).descriptors[fd as usize]?;
+    let held = named_at(heap, procs, place, fd)?;
     let desc = heap.get_desc(held.desc);
     if desc.count == 1 {
         socket_of(desc.target)
