@@ -10,7 +10,7 @@ use Rattle.kheap_slabs.specs.declared.objects.Target.{Target}
 use Rattle.kheap_slabs.specs.declared.objects.Target.TheVariants as target
 use Rattle.kheap_slabs.proofs.ObjectLemmas.{object_of}
 use Rattle.open_laws.specs.Described.{access_in}
-use Rattle.open_laws.specs.Owned.{desc_count_at, has_read_end, has_write_end, is_on_pipe, namings_of}
+use Rattle.open_laws.specs.Owned.{all_namings, desc_count_at, has_read_end, has_write_end, is_on_pipe}
 use Rattle.posix_defs.specs.Files.Descriptions.{may_read, may_write}
 use Rattle.store_objects.specs.declared.objects.Objects.{Objects}
 use Rattle.store_objects.specs.Objects.{AreKept}
@@ -57,7 +57,7 @@ some_of zero b some = inr (omega arith)
 some_of (suc a) b some = inl (omega arith)
 
 pub end_open : (script : Script) (objects : Objects) (pipe : ℕ) → AreKept script objects → InUse objects.heap.pipes pipe
-    → (key : ℕ) × (desc : Desc) × (object objects.heap.descs key ≡ Some desc) × (desc.target ≡ target.Pipe pipe) × (0 < namings_of objects.heap.procs key)
+    → (key : ℕ) × (desc : Desc) × (object objects.heap.descs key ≡ Some desc) × (desc.target ≡ target.Pipe pipe) × (0 < all_namings objects.heap key)
 end_open script objects pipe kept there =
     let held = object_of objects.heap.pipes pipe there in
     let ends = kept.owners.held.pipes pipe held.0 held.1 in
@@ -73,7 +73,7 @@ end_open script objects pipe kept there =
     no_more : (a b : ℕ) → a ≡ b + 0 → 0 < a → 0 < b
     no_more a b same some = omega arith
 
-    named : (key : ℕ) (desc : Desc) → object objects.heap.descs key ≡ Some desc → 0 < namings_of objects.heap.procs key
+    named : (key : ℕ) (desc : Desc) → object objects.heap.descs key ≡ Some desc → 0 < all_namings objects.heap key
     named key desc is =
-        no_more (desc_count_at objects.heap.descs key) (namings_of objects.heap.procs key) (kept.owners.named.counts key)
+        no_more (desc_count_at objects.heap.descs key) (all_namings objects.heap key) (kept.owners.named.counts key)
         (kept.owners.named.named key (let used : InUse objects.heap.descs key = rw is refl in used))

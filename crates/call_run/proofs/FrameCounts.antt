@@ -10,7 +10,7 @@ use Rattle.kheap_slabs.specs.declared.objects.PageEntry.TheVariants as entry
 use Rattle.kheap_slabs.specs.Spaces.{OwnsNodes, keys_in}
 use Rattle.page_space.specs.Accounts.{HasPlaces, place_of}
 use Rattle.page_space.specs.Entries.{entry_at}
-use Rattle.page_space.proofs.KeyPlaces.{key_there}
+use Rattle.kheap_laws.proofs.KeyPlaces.{key_there}
 use Rattle.page_space.proofs.TurnLemmas.{entry_known, entry_none}
 use Rattle.posix_defs.specs.Memory.{Places, Unmapped, frames_in, names_any}
 use Rattle.call_run.specs.Weights.{frames_under, has_frame}

@@ -1,7 +1,9 @@
 -- The purse of a call on files or on names of the tree, and what such a call needs of its operands.
-use Rattle.std.proofs.Common.{◌≡◌, ℕ, ◌+◌, ◌<◌, ◌≤◌, None, ap, sym, ◌∙◌, subst, arith}
-use Rattle.kabi_types.specs.Arguments.{argument_fault}
+use Rattle.std.proofs.Common.{◌≡◌, ℕ, ℤ, ◌+◌, ◌<◌, ◌≤◌, None, Some, ap, negsuc, pos, sym, ◌∙◌, subst, arith}
+use Rattle.kabi_types.specs.Arguments.{argument_fault, count_of}
 use Rattle.kabi_types.specs.declared.calls.Call.{Call}
+use Rattle.kabi_types.specs.declared.calls.Call.TheVariants as call
+use Rattle.kabi_types.specs.declared.errnos.Errno.TheVariants.{EINVAL}
 use Rattle.kabi_types.specs.declared.classes.Need.{Need}
 use Rattle.kabi_types.specs.Counts.{need_bytes}
 use Rattle.kheap_slabs.specs.Paid.{CanPay}
@@ -46,6 +48,11 @@ room_kept heap which room = less (live_bytes heap) (bound which) heap.heap room
 -- a purse within the bound of its call pays
 pub pays : (heap : Heap) (purse : Purse) (which : Call) → left_bytes purse ≤ bound which → live_bytes heap + bound which + reserve ≤ heap.heap → CanPay heap purse
 pays heap purse which within room = can_pay heap purse which within (room_less heap which room)
+
+-- F_DUPFD has a Leaf: a command below 0 isn't right
+pub leaf_where : (fd cmd arg : ℤ) → argument_fault (call.Fcntl fd cmd arg) ≡ None → count_of cmd ≡ 0 → 0 < (objects_of (call.Fcntl fd cmd arg)).leaf
+leaf_where fd (pos n) arg right is = subst (λ m. 0 < (objects_of (call.Fcntl fd (pos m) arg)).leaf) (sym is) (omega arith)
+leaf_where fd (negsuc n) arg right is = absurd (let none : Some EINVAL ≡ None = right in cc)
 
 -- ---- its purse, of which nothing is spent
 
@@ -92,8 +99,8 @@ module _ {purse : Purse} {target : Target} {need : Need} {which that : Call} (va
   walks_two {heap} two room = walks heap two_walks_need two (omega arith, omega arith, omega arith) (omega arith, omega arith, omega arith) room
 
   -- also where it makes a description or a socket
-  pub walks_opening : {heap : Heap} → objects_of that ≡ record walk_need { desc = 1 } → live_bytes heap + bound which + reserve ≤ heap.heap → MayWalk heap purse
-  walks_opening {heap} one room = walks heap (record walk_need { desc = 1 }) one (omega arith, omega arith, omega arith) (omega arith, omega arith, omega arith) room
+  pub walks_opening : {heap : Heap} → objects_of that ≡ record walk_need { desc = 1; leaf = 1; pipe = 1 } → live_bytes heap + bound which + reserve ≤ heap.heap → MayWalk heap purse
+  walks_opening {heap} one room = walks heap (record walk_need { desc = 1; leaf = 1; pipe = 1 }) one (omega arith, omega arith, omega arith) (omega arith, omega arith, omega arith) room
 
   pub walks_connecting : {heap : Heap} → objects_of that ≡ record walk_need { sock = 1 } → live_bytes heap + bound which + reserve ≤ heap.heap → MayWalk heap purse
   walks_connecting {heap} one room = walks heap (record walk_need { sock = 1 }) one (omega arith, omega arith, omega arith) (omega arith, omega arith, omega arith) room

@@ -1,11 +1,14 @@
 -- The weights so far, in a walk over the table.
 use Rattle.std.proofs.Common.{◌≡◌, ℕ, ◌+◌, ◌≤◌, Bool, true, false, cond, drop, List, [], ◌∷◌, ◌++◌, length, Some, is_some, refl, ap, sym, ◌∙◌, subst, arith, append-nil, append_assoc}
-use Rattle.std.specs.List.{All, AllByRecursion, cons_option}
+use Rattle.std.specs.List.{All, AllByRecursion, Contains, cons_option}
 use Rattle.std.proofs.lemmas.List.Elements.{All-nil}
 use Rattle.kabi_types.specs.declared.classes.Weight.{Weight}
 use Rattle.kheap_slabs.specs.Objects.{object}
 use Rattle.kheap_slabs.specs.declared.objects.Proc.{Proc}
 use Rattle.kheap_slabs.specs.Heap.{Heap}
+use Rattle.slab.proofs.SlabLemmas.{Contains-cons}
+use Rattle.kheap_slabs.specs.Leaves.{HoldLeaves, OwnsLeaves}
+use Rattle.kheap_laws.proofs.LeafOwners.{HoldLeaves-owns}
 use Rattle.proc_table.specs.Table.{AreStored, Holds, TableView, processes, procs_at}
 use Rattle.proc_table.specs.declared.places.Place.{Place}
 use Rattle.proc_table.proofs.AccountLemmas.{all_both}
@@ -20,6 +23,7 @@ use Rattle.call_run.proofs.Owning.{Owns, all_own}
 pub record IsWhole (h : Heap) (proc : Proc) : Type 0 where
   pub owns : Owns h.nodes proc
   pub groups : length proc.nodes ≡ 4
+  pub leaves : OwnsLeaves h.leaves proc.leaves
 
 -- The processes before this place are weighed, those from there on are to be.
 pub record AreWeighed (h : Heap) (all : List Weight) (places : List Place) (at : ℕ) (weights : List Weight) : Type 0 where
@@ -29,12 +33,21 @@ pub record AreWeighed (h : Heap) (all : List Weight) (places : List Place) (at :
   pub few : length weights ≤ at
   pub in_range : All IsInRange weights
 
+-- each owns its Leaves
+own_leaves : (h : Heap) (procs among : List Proc) → HoldLeaves h.leaves procs → ((p : Proc) → Contains among p → Contains procs p) → AllByRecursion (λ p. OwnsLeaves h.leaves p.leaves) among
+own_leaves h procs [] hold inside = tt
+own_leaves h procs (first ∷ among) hold inside =
+    (HoldLeaves-owns h.leaves procs first hold (inside first (0, omega arith, refl)), own_leaves h procs among hold (λ p there. inside p (Contains-cons first p among there)))
+
 -- at the beginning all are to be
-pub none_yet : (h : Heap) (kept : TableView) → Holds h kept → AllByRecursion (λ proc. length proc.nodes ≡ 4) (processes h kept) → AreWeighed h (weights_in h (processes h kept)) kept.listed 0 []
-none_yet h kept holds four = record {
+pub none_yet : (h : Heap) (kept : TableView) → Holds h kept → AllByRecursion (λ proc. length proc.nodes ≡ 4) (processes h kept) → HoldLeaves h.leaves (processes h kept) → AreWeighed h (weights_in h (processes h kept)) kept.listed 0 []
+none_yet h kept holds four hold = record {
   stored = holds.stored;
-  whole = all_weaker (λ (p : Proc). Owns h.nodes p × (length p.nodes ≡ 4)) (IsWhole h) (processes h kept) (λ p both. record { owns = both.0; groups = both.1 })
-      (all_both (Owns h.nodes) (λ p. length p.nodes ≡ 4) (processes h kept) (all_own h kept holds) four);
+  whole = all_weaker (λ (p : Proc). (Owns h.nodes p × (length p.nodes ≡ 4)) × OwnsLeaves h.leaves p.leaves) (IsWhole h) (processes h kept)
+      (λ p both. record { owns = both.0.0; groups = both.0.1; leaves = both.1 })
+      (all_both (λ p. Owns h.nodes p × (length p.nodes ≡ 4)) (λ p. OwnsLeaves h.leaves p.leaves) (processes h kept)
+      (all_both (Owns h.nodes) (λ p. length p.nodes ≡ 4) (processes h kept) (all_own h kept holds) four)
+      (own_leaves h (processes h kept) (processes h kept) hold (λ p there. there)));
   so_far = refl;
   few = omega arith;
   in_range = All-nil IsInRange;

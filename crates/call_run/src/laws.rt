@@ -5,7 +5,7 @@ ghost use Rattle.kabi_types.specs.declared.scripts.Script.{Script};
 ghost use Rattle.kheap_slabs.specs.Objects.{InUse, object};
 ghost use Rattle.kheap_slabs.specs.declared.objects.Desc.{Desc};
 ghost use Rattle.kheap_slabs.specs.declared.objects.Target.TheVariants as target;
-ghost use Rattle.open_laws.specs.Owned.{namings_of};
+ghost use Rattle.open_laws.specs.Owned.{all_namings};
 ghost use Rattle.store_objects.specs.Objects.{AreKept};
 ghost use Rattle.posix_defs.specs.Files.Whole.{IsWhole};
 ghost use Rattle.posix_defs.specs.World.{World};
@@ -18,7 +18,7 @@ ghost use Rattle.call_run.specs.Stores.{IsStoreOf};
 pub fn a_pipe_is_there_while_an_end_of_it_is_open()
     ensures { (script : Script) (objects : Objects) (pipe : ℕ) → AreKept script objects → InUse objects.heap.pipes pipe
         → (key : ℕ) × (desc : Desc) × (object objects.heap.descs key ≡ Some desc) × (desc.target ≡ target.Pipe pipe)
-        × (0 < namings_of objects.heap.procs key) }
+        × (0 < all_namings objects.heap key) }
 {}
 
 /// Whatever world a store stands for, its machine is whole, and sound in what calls on files and names make use of.

@@ -4,7 +4,9 @@ ghost use Rattle.std.specs.Prelude.{◌≡◌, ◌≤◌, count_by, length};
 ghost use Rattle.std.specs.List.{All};
 ghost use Rattle.kabi_types.specs.declared.scripts.Script.{Script};
 ghost use Rattle.kheap_slabs.specs.Heap.{IsWellFormed};
+ghost use Rattle.kheap_slabs.specs.Leaves.{OwnsLeaves};
 ghost use Rattle.kheap_slabs.specs.Spaces.{OwnsNodes};
+ghost use Rattle.desc_table.specs.Numbered.{IsLong};
 ghost use Rattle.posix_defs.specs.Victim.{victim_of};
 ghost use Rattle.posix_defs.specs.World.{World};
 ghost use Rattle.victim_core.specs.Victims.{IsInRange};
@@ -13,7 +15,7 @@ ghost use Rattle.store_objects.specs.Standing.{StandsFor};
 ghost use Rattle.call_run.specs.Weights.{has_frame, weight_in, weights_in};
 
 use arrayvec::ArrayVec;
-use desc_table::Descs;
+use desc_table::open_count;
 use kabi_types::{Policy, Weight};
 use kheap_slabs::{KHeap, Node, PageEntry, Proc};
 use store_objects::Objects;
@@ -56,6 +58,8 @@ fn weight_of(heap: &KHeap, proc: &Proc) -> Weight
     requires whole { IsWellFormed heap.now }
     requires owns { OwnsNodes heap.now.nodes proc.now.nodes }
     requires groups { length proc.now.nodes ≡ 4 }
+    requires own { OwnsLeaves heap.now.leaves proc.now.leaves }
+    requires rows { IsLong proc.now }
     ensures weight { result ≡ weight_in heap.now proc.now }
     ensures in_range { IsInRange result }
 {
@@ -71,7 +75,7 @@ fn weight_of(heap: &KHeap, proc: &Proc) -> Weight
         pid: pid_of(proc),
         frames,
         nodes,
-        descs: Descs::of(proc.descriptors).open_count(),
+        descs: open_count(heap, proc),
     }
 }
 

@@ -51,8 +51,8 @@ killed_lines =
 abbrev pub crowded_lines : List (List ℕ)
 crowded_lines =
     codes "1 p1 done fork = 2\n" ∷ codes "2 p1 done fork = 3\n" ∷ codes "3 p1 done fork = 4\n" ∷ codes "4 p1 done fork = 5\n"
-    ∷ codes "5 p1 sleep waitpid\n" ∷ codes "6 p2 done fork = 6\n" ∷ codes "7 p2 done fork = 7\n"
-    ∷ codes "8 p7 killed for p2 need 2560 live 3712\n" ∷ codes "9 p6 killed for p2 need 2560 live 3712\n"
-    ∷ codes "10 p5 killed for p2 need 2560 live 3712\n" ∷ codes "11 p4 killed for p2 need 2560 live 3712\n"
-    ∷ codes "12 p3 killed for p2 need 2560 live 3712\n" ∷ codes "13 p2 killed for p2 need 2560 live 3712\n"
-    ∷ codes "14 p1 done waitpid = 2 signal 9\n" ∷ codes "15 p1 ended exit 0\n" ∷ []
+    ∷ codes "5 p1 sleep waitpid\n" ∷ codes "6 p2 done fork = 6\n"
+    ∷ codes "7 p6 killed for p2 need 3328 live 3200\n" ∷ codes "8 p5 killed for p2 need 3328 live 3200\n"
+    ∷ codes "9 p4 killed for p2 need 3328 live 3200\n" ∷ codes "10 p3 killed for p2 need 3328 live 3200\n"
+    ∷ codes "11 p2 killed for p2 need 3328 live 3200\n"
+    ∷ codes "12 p1 done waitpid = 2 signal 9\n" ∷ codes "13 p1 ended exit 0\n" ∷ []

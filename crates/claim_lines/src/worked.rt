@@ -21,5 +21,5 @@ pub fn first_lines_are_good()
 /// So are those of children that are killed by their parent while they sleep, and of children that are killed for room.
 pub fn lines_of_the_killed_are_good()
     ensures killed { good_lines killed_script killed_lines ≡ 17 }
-    ensures crowded { good_lines crowded_script crowded_lines ≡ 15 }
+    ensures crowded { good_lines crowded_script crowded_lines ≡ 13 }
 {}

@@ -3,7 +3,7 @@ use Rattle.std.proofs.Common.{◌≡◌, ◌+◌, ◌<◌, ℕ, List, [], ◌∷
 use Rattle.kheap_slabs.specs.Objects.{object, InUse}
 use Rattle.kheap_slabs.specs.declared.objects.Desc.{Desc}
 use Rattle.kheap_slabs.specs.Heap.{Heap}
-use Rattle.open_laws.specs.Owned.{HasItsOwners, desc_count, desc_count_at, namings_of}
+use Rattle.open_laws.specs.Owned.{HasItsOwners, all_namings, desc_count, desc_count_at}
 use Rattle.open_laws.proofs.GoingLemmas.{droppable}
 use Rattle.open_laws.proofs.OwnerLemmas.{in_hand, one_if, owners_dropped, owners_shared}
 use Rattle.open_laws.proofs.ShareLemmas.{owners_all}
@@ -13,7 +13,7 @@ use Rattle.desc_table.specs.Going.{AreAlike, Goes, begins, closes, dups, forks, 
 pub owners_alike : (h : Heap) (hand others : List ℕ) → AreAlike hand others → HasItsOwners h hand → HasItsOwners h others
 owners_alike h hand others same owners = record {
   objects = owners.objects;
-  named = record { counts = λ key. owners.named.counts key ∙ ap (λ n. namings_of h.procs key + n) (same key); named = owners.named.named };
+  named = record { counts = λ key. owners.named.counts key ∙ ap (λ n. all_namings h key + n) (same key); named = owners.named.named };
   held = owners.held;
 }
 
@@ -21,9 +21,9 @@ pub owners_on : {first : Heap} {had : List ℕ} {new : Heap} {hand : List ℕ} �
 owners_on begins owners = owners
 owners_on (dups old new hand key desc goes is same) owners = rw same (owners_shared old hand key desc is (owners_on goes owners))
 owners_on (forks old new hand places goes can same) owners = rw same (owners_all old hand places can (owners_on goes owners))
-owners_on (closes old new hand left key desc goes alike is drops procs owns) owners =
+owners_on (closes old new hand left key desc goes alike is drops procs leaves owns) owners =
     let before : HasItsOwners old (key ∷ left) = owners_alike old hand (key ∷ left) alike (owners_on goes owners) in
-    owners_dropped old new left key desc is (droppable old left key before) drops procs owns before
+    owners_dropped old new left key desc is (droppable old left key before) drops procs leaves owns before
 
 -- what counts a descriptor is there
 pub counted_there : (h : Heap) (key : ℕ) → 0 < desc_count_at h.descs key → InUse h.descs key

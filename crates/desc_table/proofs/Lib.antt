@@ -1,3 +1,5 @@
+pub mod CopyLemmas
 pub mod GoingLemmas
+pub mod LeafChanges
 pub mod NumberLemmas
 pub mod OpenedLemmas

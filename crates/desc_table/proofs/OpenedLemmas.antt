@@ -28,7 +28,7 @@ use Rattle.usock_core.proofs.StandingLemmas.{held_on}
 use Rattle.usock_core.proofs.HeldLemmas.{held_moved, socket_held}
 use Rattle.open_laws.specs.Closing.{IsClosable}
 use Rattle.open_laws.specs.Described.{access_in}
-use Rattle.open_laws.specs.Owned.{desc_count, namings_of, CountsItsNames, is_on_pipe, has_read_end, has_write_end, sock_of, sock_in, socks_named, IsThereFor, IsHeldOpen, HasItsOwners}
+use Rattle.open_laws.specs.Owned.{CountsItsNames, HasItsOwners, IsHeldOpen, IsThereFor, all_namings, desc_count, has_read_end, has_write_end, is_on_pipe, sock_in, sock_of, socks_named}
 use Rattle.open_laws.specs.Polled.{IsTargetIn}
 use Rattle.open_laws.proofs.GoingLemmas.{named_on}
 use Rattle.open_laws.proofs.OwnerLemmas.{in_hand, named_by, names, one_if}
@@ -381,7 +381,7 @@ pipe_owners old mid one two hand pipe r w vacant stands others owns first second
       objects = objects_made one two w (single (target.Pipe pipe) mode.Write) second (objects_made mid one r (single (target.Pipe pipe) mode.Read) first owns);
       named = names_made one two w (r ∷ hand) (single (target.Pipe pipe) mode.Write) refl second
           (names_made mid one r hand (single (target.Pipe pipe) mode.Read) refl first
-          (named_on old mid hand (ap (λ (h : Heap). h.descs) others.kept) (λ key. ap (λ (h : Heap). namings_of h.procs key) others.kept) owners.named));
+          (named_on old mid hand (ap (λ (h : Heap). h.descs) others.kept) (λ key. ap (λ (h : Heap). all_namings h key) others.kept) owners.named));
       held = kept_promises two at_last;
     }
 
@@ -403,7 +403,7 @@ sock_owners old mid new hand sock key vacant used others moves owns makes owners
     record {
       objects = objects_made mid new key (single (target.Sock sock) mode.Both) makes owns;
       named = names_made mid new key hand (single (target.Sock sock) mode.Both) refl makes
-          (named_on old mid hand same (λ k. ap (λ (h : Heap). namings_of h.procs k) others.kept) owners.named);
+          (named_on old mid hand same (λ k. ap (λ (h : Heap). all_namings h k) others.kept) owners.named);
       held = kept_promises new at_last;
     }
 
@@ -412,7 +412,7 @@ pub socks_owners : (old new : Heap) (hand : List ℕ) → LeavesOtherThanSockets
     → HasItsOwners old hand → HasItsOwners new hand
 socks_owners old new hand others moves owns owners = record {
   objects = owns;
-  named = named_on old new hand (ap (λ (h : Heap). h.descs) others.kept) (λ k. ap (λ (h : Heap). namings_of h.procs k) others.kept) owners.named;
+  named = named_on old new hand (ap (λ (h : Heap). h.descs) others.kept) (λ k. ap (λ (h : Heap). all_namings h k) others.kept) owners.named;
   held = kept_promises new (sock_promised old new others None owners.held (moves (socks_named old.descs) owners.held.socks));
 }
 

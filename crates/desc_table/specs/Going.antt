@@ -26,4 +26,4 @@ pub data Goes (first : Heap) (had : List ℕ) : Heap → List ℕ → Type 0 whe
   forks : (old new : Heap) (hand : List ℕ) (places : List (Option Descriptor)) → Goes first had old hand → CanShare old.descs places
       → new ≡ record old { descs = share_all old.descs places } → Goes first had new (hand_with places hand)
   closes : (old new : Heap) (hand left : List ℕ) (key : ℕ) (desc : Desc) → Goes first had old hand → AreAlike hand (key ∷ left)
-      → object old.descs key ≡ Some desc → Drops old new key desc → new.procs ≡ old.procs → OwnsItsObjects new → Goes first had new left
+      → object old.descs key ≡ Some desc → Drops old new key desc → new.procs ≡ old.procs → new.leaves ≡ old.leaves → OwnsItsObjects new → Goes first had new left

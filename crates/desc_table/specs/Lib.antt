@@ -1,3 +1,4 @@
 pub mod Going
 pub mod Making
 pub mod Numbered
+pub mod Copying

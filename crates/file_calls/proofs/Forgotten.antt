@@ -25,7 +25,7 @@ use Rattle.store_objects.specs.Standing.{StandsFor}
 use Rattle.store_objects.proofs.GoingOn.{mapped_from, rising_in}
 use Rattle.store_objects.proofs.Keeping.{kept_on, moved_caches}
 use Rattle.store_objects.proofs.Namings.{names_in, names_nodes}
-use Rattle.store_objects.proofs.Opening.{by_pids, by_procs, files_moved}
+use Rattle.store_objects.proofs.Opening.{by_pids, by_procs, files_moved, leaves_on}
 use Rattle.store_objects.proofs.TreesOn.{tree_goes_on, works_on}
 use Rattle.store_objects.proofs.WorkingOn.{works_remembered}
 use Rattle.file_calls.specs.Starting.{forgotten_in}
@@ -113,8 +113,9 @@ module _ (script : Script) (old new : Objects) (pid : ℕ) (same : new.procs ≡
         subst (λ (view : TableView). HaveDescriptors (numbers_in new.heap) number (processes new.heap view) view.last world.plain.files) (sym same)
         (by_pids new.heap number (processes new.heap old.procs) old.procs.last world.plain.files
         (subst (λ procs. TableOpen (numbers_in new.heap) procs old.procs.last number world.plain.files) (sym are_still)
+        (leaves_on old.heap new.heap number (map (cleared pid) (procs_of old)) old.procs.last world.plain.files (ap (λ (h : Heap). h.leaves) moves.kept)
         (have_nodes old.heap pid no_nodes (procs_of old) old.procs.last number world.plain.files
-        (by_procs old.heap number (procs_of old) old.procs.last world.plain.files (rising_in script old stands.kept) have)))))
+        (by_procs old.heap number (procs_of old) old.procs.last world.plain.files (rising_in script old stands.kept) have))))))
         stands.files
 
     controls_kept : (q : ℕ) (it : Proc) → proc_of (procs_of new) q ≡ Some it → (was : Proc) × (proc_of (procs_of old) q ≡ Some was) × SameButNodes was it

@@ -4,6 +4,7 @@ ghost use Rattle.std.specs.Prelude.{◌≤◌, ◌+◌};
 ghost use Rattle.kabi_types.specs.declared.calls.Call.{Call};
 ghost use Rattle.kheap_slabs.specs.Heap.{live_bytes};
 ghost use Rattle.kheap_slabs.specs.Paid.{CanPay};
+ghost use Rattle.kheap_slabs.specs.Purse.{left_bytes};
 ghost use Rattle.posix_defs.specs.Calls.OnDescriptors.{close, dup2};
 ghost use Rattle.posix_defs.specs.Needs.{bound};
 ghost use Rattle.posix_defs.specs.Sizes.{reserve};
@@ -74,6 +75,8 @@ pub fn dup2(
     requires placed { IsPlaced objects.old.procs caller.now.place }
     requires opened { IsOpened objects.old.heap objects.old.procs caller.now.place.pid on.now }
     requires pays { CanPay objects.old.heap purse.old }
+    requires left_leaf { 0 < purse.old.left.leaf }
+    requires paid_by { left_bytes purse.old ≤ bound (Call.Dup2 on.now.fd to) }
     requires room { live_bytes objects.old.heap + bound (Call.Dup2 on.now.fd to) + reserve ≤ objects.old.heap.heap }
     ensures kept { AreKept script.now objects.new }
     ensures uses { UsesAtMost objects.old.heap objects.new.heap (bound (Call.Dup2 on.now.fd to)) reserve }

@@ -24,7 +24,7 @@ is_from low (negsuc _) = false
 
 -- how many descriptors a process has: their numbers are those below it
 abbrev pub most_descriptors : ℕ
-most_descriptors = 32
+most_descriptors = 128
 
 -- the number is one that a descriptor may have
 abbrev pub may_be_descriptor : ℤ → Bool

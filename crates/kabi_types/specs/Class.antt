@@ -6,7 +6,8 @@ use Rattle.kabi_types.specs.declared.classes.Class.TheVariants as class
 -- all classes, in the order in which the price list has them
 abbrev pub all_classes : List Class
 all_classes =
-    class.Proc ∷ class.Node ∷ class.Page ∷ class.Desc ∷ class.Vnode ∷ class.Name ∷ class.Block ∷ class.Pipe ∷ class.Chunk ∷ class.Sock ∷ []
+    class.Proc ∷ class.Node ∷ class.Page ∷ class.Desc ∷ class.Vnode ∷ class.Name ∷ class.Block ∷ class.Pipe ∷ class.Chunk ∷ class.Sock
+    ∷ class.Leaf ∷ []
 
 -- how many bytes of kernel heap an object of a class takes
 abbrev pub size : Class → ℕ
@@ -20,3 +21,4 @@ size class.Block = 1088
 size class.Pipe = 128
 size class.Chunk = 576
 size class.Sock = 128
+size class.Leaf = 256

@@ -18,6 +18,7 @@ counted need class.Block = need.block
 counted need class.Pipe = need.pipe
 counted need class.Chunk = need.chunk
 counted need class.Sock = need.sock
+counted need class.Leaf = need.leaf
 
 -- the same counts, with another one for a class
 abbrev pub with_count : Need → Class → ℕ → Need
@@ -31,6 +32,7 @@ with_count need class.Block count = record need { block = count }
 with_count need class.Pipe count = record need { pipe = count }
 with_count need class.Chunk count = record need { chunk = count }
 with_count need class.Sock count = record need { sock = count }
+with_count need class.Leaf count = record need { leaf = count }
 
 -- the bytes that so many objects of a class take
 abbrev pub class_bytes : Need → Class → ℕ

@@ -37,7 +37,7 @@ const SPACE_SIZE: u64 = 1048576;
 const SSIZE_MAX: u32 = 32767;
 
 /// How many descriptors a process has, OPEN_MAX: their numbers are those below it.
-pub const MOST_DESCRIPTORS: u32 = 32;
+pub const MOST_DESCRIPTORS: u32 = 128;
 
 /// The flag O_TRUNC of `open`, and the bits of its access mode, which is 0 where the file is only read.
 const TRUNC: u64 = 512;

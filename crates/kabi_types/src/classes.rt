@@ -24,11 +24,13 @@ pub enum Class {
     Chunk,
     /// A socket.
     Sock,
+    /// 32 further descriptors of a process, of which one is open.
+    Leaf,
 }
 
 impl Class {
     /// All classes, in the order in which the price list has them.
-    pub const ALL: [Class; 10] = [
+    pub const ALL: [Class; 11] = [
         Class::Proc,
         Class::Node,
         Class::Page,
@@ -39,6 +41,7 @@ impl Class {
         Class::Pipe,
         Class::Chunk,
         Class::Sock,
+        Class::Leaf,
     ];
 
     /// How many bytes of kernel heap an object takes.
@@ -56,6 +59,7 @@ impl Class {
             Class::Pipe => 128,
             Class::Chunk => 576,
             Class::Sock => 128,
+            Class::Leaf => 256,
         }
     }
 }
@@ -73,6 +77,7 @@ pub struct Need {
     pub pipe: u32,
     pub chunk: u32,
     pub sock: u32,
+    pub leaf: u32,
 }
 
 impl Need {
@@ -91,6 +96,7 @@ impl Need {
             Class::Pipe => self.pipe,
             Class::Chunk => self.chunk,
             Class::Sock => self.sock,
+            Class::Leaf => self.leaf,
         }
     }
 
@@ -109,6 +115,7 @@ impl Need {
             Class::Pipe => self.pipe = count,
             Class::Chunk => self.chunk = count,
             Class::Sock => self.sock = count,
+            Class::Leaf => self.leaf = count,
         }
         self
     }

@@ -5,7 +5,7 @@ use Rattle.posix_defs.specs.History.{Past, IsRun, boots, goes_on}
 use Rattle.kern_laws.specs.TwoProcesses.{two_entries, two_script}
 
 -- the bounds of a fork, and of calls that cost nothing, are within the room
-fork_fits : 2560 ≤ 62720
+fork_fits : 3328 ≤ 62720
 fork_fits = omega arith
 
 always_fits : 0 ≤ 62720

@@ -1,5 +1,9 @@
 pub mod FillLemmas
 pub mod KeyLemmas
+pub mod KeyPlaces
+pub mod LeafKeys
+pub mod LeafLemmas
+pub mod LeafOwners
 pub mod MarkLemmas
 pub mod OnceLemmas
 pub mod OutsideLemmas

@@ -113,7 +113,7 @@ IsOwned-space h owners space owned = record {
   once = IsOnce-left (keys_in space) (node_keys owners.spaces) owned.nodes.once;
 }
 
-Contains-concat : {Y : Type 0} (f : Y → List ℕ) (items : List Y) (one : Y) (key : ℕ) → Contains items one → Contains (f one) key → Contains (concat (map f items)) key
+pub Contains-concat : {Y : Type 0} (f : Y → List ℕ) (items : List Y) (one : Y) (key : ℕ) → Contains items one → Contains (f one) key → Contains (concat (map f items)) key
 Contains-concat f [] one key there here = absurd (omega (arith, there.1))
 Contains-concat f (first ∷ rest) one key there here = elim (Contains-cons_cases first one rest there) [
   | inl same ↦ Contains-append_left (f first) (concat (map f rest)) key (rw same here)

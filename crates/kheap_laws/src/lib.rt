@@ -4,6 +4,7 @@
 
 pub mod chunks;
 pub mod frames;
+pub mod leaves;
 pub mod owners;
 pub mod purses;
 pub mod tables;

@@ -6,6 +6,7 @@ use Rattle.kabi_types.specs.Class.{size}
 use Rattle.kabi_types.specs.declared.classes.Class.TheVariants as class
 use Rattle.kheap_slabs.specs.Objects.{object, count, put}
 use Rattle.kheap_slabs.specs.Pages.{with_bytes}
+use Rattle.kheap_slabs.specs.declared.objects.Leaf.{Leaf}
 use Rattle.kheap_slabs.specs.declared.objects.Node.{Node}
 use Rattle.kheap_slabs.specs.declared.objects.Page.{Page}
 use Rattle.kheap_slabs.specs.declared.objects.Proc.{Proc}
@@ -29,6 +30,8 @@ IsMetered-boot heap most = record {
     limit = most;
     descriptors = λ key process is. absurd (object-none (heap / size class.Proc) key process is);
     spaces = λ key process is. absurd (object-none (heap / size class.Proc) key process is);
+    leaves = λ key process is. absurd (object-none (heap / size class.Proc) key process is);
+    leaf_rows = λ key leaf is. absurd (object-none (heap / size class.Leaf) key leaf is);
     entries = λ key node is. absurd (object-none (heap / size class.Node) key node is);
     page_bytes = λ key page is. absurd (object-none (heap / size class.Page) key page is);
     chunk_bytes = λ key chunk is. absurd (object-none (heap / size class.Chunk) key chunk is);
@@ -51,9 +54,9 @@ stay_long {X} measured long objects key was now is same all other value there = 
   | inr differs ↦ all other value (sym (object-put_other objects key other now differs) ∙ there)
 ]
 
--- a process is changed in its place and keeps as many descriptors and nodes
-pub IsMetered-proc : (h : Heap) (live key : ℕ) (procs : List (Option Proc)) (was now : Proc) → IsMetered h live → object h.procs key ≡ Some was → length now.descriptors ≡ 32 → length now.nodes ≡ 4 → procs ≡ put h.procs key now → IsMetered (record h { procs = procs }) live
-IsMetered-proc h live key procs was now metered is descriptors four put_is = rw put_is (record {
+-- a process is changed in its place and keeps as many descriptors, nodes and Leaves
+pub IsMetered-proc : (h : Heap) (live key : ℕ) (procs : List (Option Proc)) (was now : Proc) → IsMetered h live → object h.procs key ≡ Some was → length now.descriptors ≡ 32 → length now.nodes ≡ 4 → length now.leaves ≡ 3 → procs ≡ put h.procs key now → IsMetered (record h { procs = procs }) live
+IsMetered-proc h live key procs was now metered is descriptors four three put_is = rw put_is (record {
   live_is = metered.live_is ∙ sym same_live;
   well_formed = record {
     live_within = rw same_live metered.well_formed.live_within;
@@ -61,6 +64,8 @@ IsMetered-proc h live key procs was now metered is descriptors four put_is = rw 
     limit = metered.well_formed.limit;
     descriptors = stay_long (λ (p : Proc). length p.descriptors) 32 h.procs key was now is descriptors metered.well_formed.descriptors;
     spaces = stay_long (λ (p : Proc). length p.nodes) 4 h.procs key was now is four metered.well_formed.spaces;
+    leaves = stay_long (λ (p : Proc). length p.leaves) 3 h.procs key was now is three metered.well_formed.leaves;
+    leaf_rows = metered.well_formed.leaf_rows;
     entries = metered.well_formed.entries;
     page_bytes = metered.well_formed.page_bytes;
     chunk_bytes = metered.well_formed.chunk_bytes;
@@ -82,6 +87,8 @@ IsMetered-page h live key pages was now metered is long put_is = rw put_is (reco
     limit = metered.well_formed.limit;
     descriptors = metered.well_formed.descriptors;
     spaces = metered.well_formed.spaces;
+    leaves = metered.well_formed.leaves;
+    leaf_rows = metered.well_formed.leaf_rows;
     entries = metered.well_formed.entries;
     page_bytes = stay_long (λ (p : Page). length p.bytes) 4096 h.pages key was now is (long ∙ metered.well_formed.page_bytes key was is) metered.well_formed.page_bytes;
     chunk_bytes = metered.well_formed.chunk_bytes;
@@ -107,6 +114,8 @@ IsMetered-node h live key nodes was now metered is long put_is = rw put_is (reco
     limit = metered.well_formed.limit;
     descriptors = metered.well_formed.descriptors;
     spaces = metered.well_formed.spaces;
+    leaves = metered.well_formed.leaves;
+    leaf_rows = metered.well_formed.leaf_rows;
     entries = stay_long (λ (n : Node). length n.entries) 64 h.nodes key was now is (long ∙ metered.well_formed.entries key was is) metered.well_formed.entries;
     page_bytes = metered.well_formed.page_bytes;
     chunk_bytes = metered.well_formed.chunk_bytes;
@@ -117,3 +126,26 @@ IsMetered-node h live key nodes was now metered is long put_is = rw put_is (reco
   where
     same_live : live_bytes (record h { nodes = put h.nodes key now }) ≡ live_bytes h
     same_live = rw (count-put_used h.nodes key now (rw is refl)) refl
+
+-- a number of a Leaf is changed in its place, so the Leaf keeps as many
+pub IsMetered-leaf : (h : Heap) (live key : ℕ) (leaves : List (Option Leaf)) (was now : Leaf) → IsMetered h live → object h.leaves key ≡ Some was → length now.descriptors ≡ length was.descriptors → leaves ≡ put h.leaves key now → IsMetered (record h { leaves = leaves }) live
+IsMetered-leaf h live key leaves was now metered is long put_is = rw put_is (record {
+  live_is = metered.live_is ∙ sym same_live;
+  well_formed = record {
+    live_within = rw same_live metered.well_formed.live_within;
+    high_within = metered.well_formed.high_within;
+    limit = metered.well_formed.limit;
+    descriptors = metered.well_formed.descriptors;
+    spaces = metered.well_formed.spaces;
+    leaves = metered.well_formed.leaves;
+    leaf_rows = stay_long (λ (l : Leaf). length l.descriptors) 32 h.leaves key was now is (long ∙ metered.well_formed.leaf_rows key was is) metered.well_formed.leaf_rows;
+    entries = metered.well_formed.entries;
+    page_bytes = metered.well_formed.page_bytes;
+    chunk_bytes = metered.well_formed.chunk_bytes;
+    waiting = metered.well_formed.waiting;
+  };
+  keys = rw (length-set h.leaves key (Some now)) metered.keys;
+})
+  where
+    same_live : live_bytes (record h { leaves = put h.leaves key now }) ≡ live_bytes h
+    same_live = rw (count-put_used h.leaves key now (rw is refl)) refl

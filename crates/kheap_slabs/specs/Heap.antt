@@ -1,4 +1,4 @@
--- The heap: ten finite maps from key to object, and the bytes that the objects take.
+-- The heap: eleven finite maps from key to object, and the bytes that the objects take.
 use Rattle.std.specs.Prelude.{◌≡◌, ℕ, ◌+◌, ◌/◌, ◌≤◌, List, Option, None, Some, length, max, replicate}
 use Rattle.kabi_types.specs.Class.{size}
 use Rattle.kabi_types.specs.declared.classes.Class.{Class}
@@ -16,6 +16,7 @@ use Rattle.kheap_slabs.specs.declared.objects.Block.{Block}
 use Rattle.kheap_slabs.specs.declared.objects.Pipe.{Pipe}
 use Rattle.kheap_slabs.specs.declared.objects.Chunk.{Chunk}
 use Rattle.kheap_slabs.specs.declared.objects.Sock.{Sock}
+use Rattle.kheap_slabs.specs.declared.objects.Leaf.{Leaf}
 
 -- the object of each key of each class, how many bytes there are, the most that were taken since the last mark, how many
 -- marks there were, modulo 2 ^ 64, and what the most since the mark before was when the last one was made
@@ -30,6 +31,7 @@ pub record Heap : Type 0 where
   pub pipes : List (Option Pipe)
   pub chunks : List (Option Chunk)
   pub socks : List (Option Sock)
+  pub leaves : List (Option Leaf)
   pub heap : ℕ
   pub high : ℕ
   pub marks : ℕ
@@ -48,6 +50,7 @@ counts_of h = record {
   pipe = count h.pipes;
   chunk = count h.chunks;
   sock = count h.socks;
+  leaf = count h.leaves;
 }
 
 -- the bytes that all objects take
@@ -81,6 +84,7 @@ empty_heap heap = record {
   pipes = replicate (heap / size class.Pipe) None;
   chunks = replicate (heap / size class.Chunk) None;
   socks = replicate (heap / size class.Sock) None;
+  leaves = replicate (heap / size class.Leaf) None;
   heap = heap;
   high = 0;
   marks = 0;
@@ -95,6 +99,8 @@ pub record IsWellFormed (h : Heap) : Type 0 where
   pub limit : h.heap ≤ 8388608
   pub descriptors : (key : ℕ) (process : Proc) → object h.procs key ≡ Some process → length process.descriptors ≡ 32
   pub spaces : (key : ℕ) (process : Proc) → object h.procs key ≡ Some process → length process.nodes ≡ 4
+  pub leaves : (key : ℕ) (process : Proc) → object h.procs key ≡ Some process → length process.leaves ≡ 3
+  pub leaf_rows : (key : ℕ) (leaf : Leaf) → object h.leaves key ≡ Some leaf → length leaf.descriptors ≡ 32
   pub entries : (key : ℕ) (node : Node) → object h.nodes key ≡ Some node → length node.entries ≡ 64
   pub page_bytes : (key : ℕ) (page : Page) → object h.pages key ≡ Some page → length page.bytes ≡ 4096
   pub chunk_bytes : (key : ℕ) (chunk : Chunk) → object h.chunks key ≡ Some chunk → length chunk.bytes ≡ 512

@@ -11,3 +11,4 @@ pub mod Owners
 pub mod Paid
 pub mod Queues
 pub mod Spaces
+pub mod Leaves

@@ -19,6 +19,7 @@ heap_of k = record {
   pipes = k.queues.pipes;
   chunks = k.queues.chunks;
   socks = k.queues.socks;
+  leaves = k.memory.leaves;
   heap = k.meter.heap;
   high = k.meter.high;
   marks = k.meter.marks;
@@ -38,6 +39,7 @@ keys_of h = record {
   pipe = length h.pipes;
   chunk = length h.chunks;
   sock = length h.socks;
+  leaf = length h.leaves;
 }
 
 -- as many of each class as would fill the heap
@@ -53,6 +55,7 @@ fitting heap = record {
   pipe = heap / size class.Pipe;
   chunk = heap / size class.Chunk;
   sock = heap / size class.Sock;
+  leaf = heap / size class.Leaf;
 }
 
 -- the counter has the bytes that all objects take, and each class has keys for as many objects as would fill the heap

@@ -20,10 +20,11 @@ pub record Keys : Type 0 where
   pub pipes : List ℕ
   pub chunks : List ℕ
   pub socks : List ℕ
+  pub leaves : List ℕ
 
 -- no keys
 abbrev pub no_keys : Keys
-no_keys = record { procs = []; nodes = []; pages = []; descs = []; vnodes = []; names = []; blocks = []; pipes = []; chunks = []; socks = [] }
+no_keys = record { procs = []; nodes = []; pages = []; descs = []; vnodes = []; names = []; blocks = []; pipes = []; chunks = []; socks = []; leaves = [] }
 
 -- the keys of both
 abbrev pub both_keys : Keys → Keys → Keys
@@ -38,6 +39,7 @@ both_keys a b = record {
   pipes = a.pipes ++ b.pipes;
   chunks = a.chunks ++ b.chunks;
   socks = a.socks ++ b.socks;
+  leaves = a.leaves ++ b.leaves;
 }
 
 -- every key of every class but these names the object that it named
@@ -52,3 +54,4 @@ pub record SameOutside (keys : Keys) (old new : Heap) : Type 0 where
   pub pipes : KeepsOutside keys.pipes old.pipes new.pipes
   pub chunks : KeepsOutside keys.chunks old.chunks new.chunks
   pub socks : KeepsOutside keys.socks old.socks new.socks
+  pub leaves : KeepsOutside keys.leaves old.leaves new.leaves

@@ -9,7 +9,7 @@ mod queues;
 
 use crate::meter::Meter;
 use crate::shelf::Shelf;
-use crate::{Block, Chunk, Desc, Name, Node, Page, Pipe, Proc, Sock, Vnode};
+use crate::{Block, Chunk, Desc, Leaf, Name, Node, Page, Pipe, Proc, Sock, Vnode};
 use kabi_types::{Class, Memory};
 use std::alloc::Global;
 use std::marker::Model;
@@ -48,12 +48,13 @@ fn shelf_of<T: Drop>(alloc: Global, heap: u64, bytes: u64) -> Result<Shelf<T>, M
     Ok(Shelf::boot(alloc, (heap / bytes) as u32)?)
 }
 
-// The shelves for processes and their memory.
+// The shelves for processes, their memory and their further descriptors.
 #[derive(Drop)]
 struct MemoryShelves {
     procs: Shelf<Proc>,
     nodes: Shelf<Node>,
     pages: Shelf<Page>,
+    leaves: Shelf<Leaf>,
 }
 
 impl MemoryShelves {
@@ -62,11 +63,14 @@ impl MemoryShelves {
         ensures procs { IfOk result (λ made. made.procs ≡ replicate (heap / size class.Proc) None) }
         ensures nodes { IfOk result (λ made. made.nodes ≡ replicate (heap / size class.Node) None) }
         ensures pages { IfOk result (λ made. made.pages ≡ replicate (heap / size class.Page) None) }
+        ensures leaves { IfOk result (λ made. made.leaves
+            ≡ replicate (heap / size class.Leaf) None) }
     {
         Ok(MemoryShelves {
             procs: shelf_of(alloc, heap, Class::Proc.bytes())?,
             nodes: shelf_of(alloc, heap, Class::Node.bytes())?,
             pages: shelf_of(alloc, heap, Class::Page.bytes())?,
+            leaves: shelf_of(alloc, heap, Class::Leaf.bytes())?,
         })
     }
 }

@@ -12,10 +12,12 @@ pub struct Proc {
     /// The number of the node that is its working directory.
     pub cwd: u32,
     pub control: Control,
-    /// The open descriptors, by number.
+    /// The open descriptors of the first 32 numbers.
     pub descriptors: [Option<Descriptor>; 32],
     /// The keys of its Nodes; None where none of those 64 pages is mapped.
     pub nodes: [Option<u32>; 4],
+    /// The keys of its Leaves: of the numbers from 32, from 64 and from 96 on; None where none of those 32 is open.
+    pub leaves: [Option<u32>; 3],
 }
 
 /// An open descriptor of a process.
@@ -25,6 +27,12 @@ pub struct Descriptor {
     pub desc: u32,
     /// FD_CLOEXEC: whether `exec` closes it.
     pub close_on_exec: bool,
+}
+
+/// The open descriptors of 32 further numbers of a process, of which one is open.
+#[derive(Clone, Copy, Debug, PartialEq, Eq)]
+pub struct Leaf {
+    pub descriptors: [Option<Descriptor>; 32],
 }
 
 /// 64 neighbouring page entries of an address space.

@@ -190,14 +190,17 @@ numbers_of_descriptors =
     ∷ gets 1 (call.Dup2 (pos 1) (pos 5)) (reply.Val (pos 5))
     ∷ gets 1 (call.Dup2 (pos 5) (pos 5)) (reply.Val (pos 5))
     ∷ fails 1 (call.Dup2 (pos 9) (pos 0)) errno.EBADF
-    ∷ fails 1 (call.Dup2 (pos 0) (pos 32)) errno.EBADF
+    ∷ fails 1 (call.Dup2 (pos 0) (pos 128)) errno.EBADF
     ∷ fails 1 (call.Dup2 (pos 0) (negsuc 0)) errno.EBADF
     ∷ fails 1 (call.Dup2 (pos 9) (pos 9)) errno.EBADF
     ∷ gets 1 (call.Fcntl (pos 0) (pos 0) (pos 4)) (reply.Val (pos 4))
     ∷ gets 1 (call.Fcntl (pos 0) (pos 0) (pos 4)) (reply.Val (pos 6))
     ∷ gets 1 (call.Fcntl (pos 0) (pos 0) (pos 31)) (reply.Val (pos 31))
-    ∷ fails 1 (call.Fcntl (pos 0) (pos 0) (pos 31)) errno.EMFILE
-    ∷ fails 1 (call.Fcntl (pos 0) (pos 0) (pos 32)) errno.EINVAL
+    ∷ gets 1 (call.Fcntl (pos 0) (pos 0) (pos 31)) (reply.Val (pos 32))
+    ∷ gets 1 (call.Fcntl (pos 0) (pos 0) (pos 127)) (reply.Val (pos 127))
+    ∷ fails 1 (call.Fcntl (pos 0) (pos 0) (pos 127)) errno.EMFILE
+    ∷ fails 1 (call.Fcntl (pos 0) (pos 0) (pos 128)) errno.EINVAL
+    ∷ gets 1 (call.Close (pos 32)) (reply.Val (pos 0))
     ∷ fails 1 (call.Fcntl (pos 0) (pos 0) (negsuc 0)) errno.EINVAL
     ∷ fails 1 (call.Fcntl (pos 9) (pos 1) (pos 0)) errno.EBADF
     ∷ fails 1 (call.Fcntl (pos 9) (pos 5) (pos 0)) errno.EINVAL
@@ -228,7 +231,7 @@ numbers_of_descriptors =
 
 -- the heap that is taken after each of these, and how many nodes have to be cached
 abbrev pub numbers_of_descriptors_take : List ℕ
-numbers_of_descriptors_take = 768 ∷ 768 ∷ 768 ∷ 768 ∷ 768 ∷ 768 ∷ 768 ∷ 768 ∷ 768 ∷ 768 ∷ 768 ∷ 768 ∷ 768 ∷ 768 ∷ 768 ∷ 768 ∷ 768 ∷ 768 ∷ 768 ∷ 768 ∷ 768 ∷ 768 ∷ 768 ∷ 768 ∷ 768 ∷ 768 ∷ 768 ∷ 768 ∷ 768 ∷ 768 ∷ 768 ∷ 768 ∷ 768 ∷ 768 ∷ 768 ∷ 768 ∷ 768 ∷ 768 ∷ 768 ∷ 768 ∷ []
+numbers_of_descriptors_take = 768 ∷ 768 ∷ 768 ∷ 768 ∷ 768 ∷ 768 ∷ 768 ∷ 768 ∷ 768 ∷ 768 ∷ 768 ∷ 768 ∷ 1024 ∷ 1280 ∷ 1280 ∷ 1280 ∷ 1024 ∷ 1024 ∷ 1024 ∷ 1024 ∷ 1024 ∷ 1024 ∷ 1024 ∷ 1024 ∷ 1024 ∷ 1024 ∷ 1024 ∷ 1024 ∷ 1024 ∷ 1024 ∷ 1024 ∷ 1024 ∷ 1024 ∷ 1024 ∷ 1024 ∷ 1024 ∷ 1024 ∷ 1024 ∷ 1024 ∷ 1024 ∷ 1024 ∷ 1024 ∷ 1024 ∷ []
 
 abbrev pub numbers_of_descriptors_pin : List ℕ
-numbers_of_descriptors_pin = 1 ∷ 1 ∷ 1 ∷ 1 ∷ 1 ∷ 1 ∷ 1 ∷ 1 ∷ 1 ∷ 1 ∷ 1 ∷ 1 ∷ 1 ∷ 1 ∷ 1 ∷ 1 ∷ 1 ∷ 1 ∷ 1 ∷ 1 ∷ 1 ∷ 1 ∷ 1 ∷ 1 ∷ 1 ∷ 1 ∷ 1 ∷ 1 ∷ 1 ∷ 1 ∷ 1 ∷ 1 ∷ 1 ∷ 1 ∷ 1 ∷ 1 ∷ 1 ∷ 1 ∷ 1 ∷ 1 ∷ []
+numbers_of_descriptors_pin = 1 ∷ 1 ∷ 1 ∷ 1 ∷ 1 ∷ 1 ∷ 1 ∷ 1 ∷ 1 ∷ 1 ∷ 1 ∷ 1 ∷ 1 ∷ 1 ∷ 1 ∷ 1 ∷ 1 ∷ 1 ∷ 1 ∷ 1 ∷ 1 ∷ 1 ∷ 1 ∷ 1 ∷ 1 ∷ 1 ∷ 1 ∷ 1 ∷ 1 ∷ 1 ∷ 1 ∷ 1 ∷ 1 ∷ 1 ∷ 1 ∷ 1 ∷ 1 ∷ 1 ∷ 1 ∷ 1 ∷ 1 ∷ 1 ∷ 1 ∷ []

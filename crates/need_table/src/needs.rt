@@ -1,12 +1,15 @@
 ghost use Rattle.std.specs.Prelude.{◌≡◌, ◌-◌, ◌<◌, ◌≤◌, ◌^◌, length, None};
 ghost use Rattle.kabi_types.specs.Arguments.{argument_fault, range_fault, count_of};
 ghost use Rattle.posix_defs.specs.Sizes.{no_need};
-ghost use Rattle.posix_defs.specs.Needs.{need_of, objects_of, walk_need, two_walks_need, read_need, write_need, stored_bytes, pages_touched, pages_in, nodes_for, chunks_for};
+ghost use Rattle.posix_defs.specs.Needs.{need_of, objects_of, leaf_need, walk_need, two_walks_need, read_need, write_need, stored_bytes, pages_touched, pages_in, nodes_for, chunks_for};
 
 use kabi_types::{Call, Need};
 
 /// In bytes.
 const PAGE_SIZE: u64 = 4096;
+
+/// The command of `fcntl` that makes a further descriptor.
+const F_DUPFD: i64 = 0;
 
 /// The number of bytes that an operand gives.
 fn count_of(number: i64) -> u64
@@ -88,26 +91,49 @@ fn write_from(n: i64, done: u32) -> Need
     }
 }
 
-/// A process, and the four nodes of its space.
+/// A process, the four nodes of its space and its three Leaves.
 fn child() -> Need
-    ensures { result ≡ record no_need { proc = 1; node = 4 } }
+    ensures { result ≡ record no_need { proc = 1; node = 4; leaf = 3 } }
 {
     Need {
         proc: 1,
         node: 4,
+        leaf: 3,
         ..Need::default()
     }
 }
 
-/// So many descriptions, pipes and sockets.
+/// What a further descriptor may take.
+fn leaf() -> Need
+    ensures { result ≡ leaf_need }
+{
+    Need {
+        leaf: 1,
+        ..Need::default()
+    }
+}
+
+/// So many descriptions, pipes and sockets, and what the descriptors take that name them.
 fn ends(desc: u32, pipe: u32, sock: u32) -> Need
-    ensures { result ≡ record no_need { desc = desc; pipe = pipe; sock = sock } }
+    ensures { result ≡ record leaf_need { desc = desc; pipe = pipe; sock = sock } }
 {
     Need {
         desc,
         pipe,
         sock,
-        ..Need::default()
+        ..leaf()
+    }
+}
+
+/// A description and what its descriptor takes, and a pipe where a FIFO is opened.
+fn opening() -> Need
+    ensures { result ≡ record walk_need { desc = 1; leaf = 1; pipe = 1 } }
+{
+    Need {
+        desc: 1,
+        leaf: 1,
+        pipe: 1,
+        ..walk()
     }
 }
 
@@ -142,7 +168,8 @@ fn objects(call: &Call) -> Need
         Call::Fork => child(),
         Call::Mmap { length } => map(*length),
         Call::Store { addr, bytes } => store(*addr, bytes.items().len() as u64),
-        Call::OpenFile { .. } => Need { desc: 1, ..walk() },
+        Call::OpenFile { .. } => opening(),
+        Call::Dup { .. } | Call::Dup2 { .. } | Call::Fcntl { cmd: F_DUPFD, .. } => leaf(),
         Call::Connect { .. } => Need { sock: 1, ..walk() },
         Call::Exec { .. }
         | Call::Stat { .. }

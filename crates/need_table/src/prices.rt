@@ -9,22 +9,24 @@ pub fn price(kind: CallKind) -> Price
     ensures { result ≡ price_of kind }
 {
     match kind {
-        CallKind::Fork
-        | CallKind::Exec
+        CallKind::Exec
         | CallKind::Stat
         | CallKind::Chdir
         | CallKind::Mkdir
         | CallKind::Rmdir
         | CallKind::Unlink
         | CallKind::Bind => Price::Always(2560),
-        CallKind::OpenFile => Price::Always(2624),
+        CallKind::Fork => Price::Always(3328),
+        CallKind::OpenFile => Price::Always(3008),
         CallKind::Link | CallKind::Rename => Price::Always(2944),
         CallKind::Connect => Price::Always(2688),
         CallKind::Ftruncate => Price::Always(2176),
-        CallKind::Pipe => Price::Always(256),
-        CallKind::Socket => Price::Always(192),
-        CallKind::Socketpair => Price::Always(384),
-        CallKind::Accept => Price::Always(64),
+        CallKind::Dup | CallKind::Dup2 => Price::Always(256),
+        CallKind::Fcntl => Price::Copied(256),
+        CallKind::Pipe => Price::Always(512),
+        CallKind::Socket => Price::Always(448),
+        CallKind::Socketpair => Price::Always(640),
+        CallKind::Accept => Price::Always(320),
         CallKind::Mmap => Price::Mapped(512),
         CallKind::Store => Price::Touched(4096, 0),
         CallKind::Read | CallKind::Pread | CallKind::Readdir => Price::Touched(4096, 2176),

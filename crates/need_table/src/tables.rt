@@ -25,6 +25,7 @@ fn class_name(class: Class) -> &'static str
         Class::Pipe => "Pipe",
         Class::Chunk => "Chunk",
         Class::Sock => "Sock",
+        Class::Leaf => "Leaf",
     }
 }
 
@@ -68,6 +69,7 @@ fn push_price(out: &mut String, price: Price) -> Result<(), AllocError>
         Price::Touched(page, 0) => write!(out, "{page}*pages"),
         Price::Touched(page, more) => write!(out, "{page}*pages+{more}"),
         Price::Moved(file, chunk) => write!(out, "max({file},{chunk}*ceil(min(m,4096)/512))"),
+        Price::Copied(bytes) => write!(out, "{bytes} for F_DUPFD, else 0"),
     }
 }
 

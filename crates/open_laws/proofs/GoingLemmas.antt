@@ -14,6 +14,7 @@ use Rattle.kheap_slabs.specs.declared.objects.Access.TheVariants as mode
 use Rattle.kheap_slabs.specs.declared.objects.Chunk.{Chunk}
 use Rattle.kheap_slabs.specs.declared.objects.Desc.{Desc}
 use Rattle.kheap_slabs.specs.declared.objects.Pipe.{Pipe as HeldPipe}
+use Rattle.kheap_slabs.specs.declared.objects.Leaf.{Leaf}
 use Rattle.kheap_slabs.specs.declared.objects.Proc.{Proc}
 use Rattle.kheap_slabs.specs.declared.objects.Sock.{Sock}
 use Rattle.kheap_slabs.specs.declared.objects.Target.{Target}
@@ -42,7 +43,7 @@ use Rattle.open_laws.specs.Placed.{ArePlaced, Numbers}
 use Rattle.open_laws.specs.Closing.{IsClosable, IsDroppable}
 use Rattle.open_laws.specs.Described.{CountedList, access_in, AreDescribed, counted_in}
 use Rattle.open_laws.specs.Open.{AreOpen}
-use Rattle.open_laws.specs.Owned.{CountsItsNames, HasItsEnds, HasItsOwners, IsHeldOpen, IsThereFor, desc_count, desc_count_at, has_read_end, has_write_end, is_on_pipe, names_desc, namings_in, namings_of, sock_in, sock_of, socks_named}
+use Rattle.open_laws.specs.Owned.{CountsItsNames, HasItsEnds, HasItsOwners, IsHeldOpen, IsThereFor, all_namings, desc_count, desc_count_at, has_read_end, has_write_end, is_on_pipe, leaf_namings_in, leaf_namings_of, names_desc, namings_in, namings_of, sock_in, sock_of, socks_named}
 use Rattle.open_laws.specs.Piped.{ArePiped}
 use Rattle.open_laws.specs.Polled.{IsTargetIn}
 use Rattle.open_laws.specs.Socketed.{AreSocketed, socket_by}
@@ -80,7 +81,7 @@ held_open_on old new descs pipes socks chunks held = record {
     there access (target.Pipe key) so = (subst (λ (p : List (Option HeldPipe)). InUse p key) (sym pipes) so.0, so.1)
     there access (target.Sock key) so = subst (λ (s : List (Option Sock)). InUse s key) (sym socks) so
 
-pub named_on : (old new : Heap) (hand : List ℕ) → new.descs ≡ old.descs → ((key : ℕ) → namings_of new.procs key ≡ namings_of old.procs key) → CountsItsNames old hand → CountsItsNames new hand
+pub named_on : (old new : Heap) (hand : List ℕ) → new.descs ≡ old.descs → ((key : ℕ) → all_namings new key ≡ all_namings old key) → CountsItsNames old hand → CountsItsNames new hand
 named_on old new hand descs same named = record {
   counts = λ key. ap (λ (d : List (Option Desc)). desc_count_at d key) descs ∙ (named.counts key ∙ ap (λ (n : ℕ). n + count_by (λ other. eqb other key) hand) (sym (same key)));
   named = λ key used. subst (λ (d : List (Option Desc)). 0 < desc_count_at d key) (sym descs) (named.named key (subst (λ (d : List (Option Desc)). InUse d key) descs used));
@@ -135,7 +136,7 @@ droppable h hand key owners =
     record { desc = it.0; there = it.1; named = it.2; closable = target_closable h key it.0 owners.held it.1 }
 
 -- what a process's descriptor names is there
-pub named_there : (h : Heap) (hand : List ℕ) (key : ℕ) → HasItsOwners h hand → 0 < namings_of h.procs key → (desc : Desc) × (object h.descs key ≡ Some desc) × IsTargetIn h desc.target
+pub named_there : (h : Heap) (hand : List ℕ) (key : ℕ) → HasItsOwners h hand → 0 < all_namings h key → (desc : Desc) × (object h.descs key ≡ Some desc) × IsTargetIn h desc.target
 named_there h hand key owners some =
     let counts = owners.named.counts key in
     let it = counted_there (object h.descs key) (omega (arith, counts, some)) in
@@ -158,15 +159,31 @@ namings_few (Some proc ∷ procs) key long =
     let size = long 0 proc refl in
     omega (arith, behind, whole, counted, here, size)
 
-pub counts_few : (h : Heap) (hand : List ℕ) (key : ℕ) → IsWellFormed h → HasItsOwners h hand → desc_count_at h.descs key ≤ 524288 + length hand
+leaf_namings_few : (leaves : List (Option Leaf)) (key : ℕ) → ((at : ℕ) (leaf : Leaf) → object leaves at ≡ Some leaf → length leaf.descriptors ≡ 32) → leaf_namings_of leaves key ≤ 32 * count leaves
+leaf_namings_few [] key long = omega arith
+leaf_namings_few (None ∷ leaves) key long =
+    let behind = leaf_namings_few leaves key (λ at. long (suc at)) in
+    let whole = sum_by-cons (leaf_namings_in key) None leaves in
+    let counted = sum_by-cons (λ (o : Option Leaf). one_if (is_some o)) None leaves in
+    omega (arith, behind, whole, counted)
+leaf_namings_few (Some leaf ∷ leaves) key long =
+    let behind = leaf_namings_few leaves key (λ at. long (suc at)) in
+    let whole = sum_by-cons (leaf_namings_in key) (Some leaf) leaves in
+    let counted = sum_by-cons (λ (o : Option Leaf). one_if (is_some o)) (Some leaf) leaves in
+    let here = count_by-le-length (names_desc key) leaf.descriptors in
+    let size = long 0 leaf refl in
+    omega (arith, behind, whole, counted, here, size)
+
+pub counts_few : (h : Heap) (hand : List ℕ) (key : ℕ) → IsWellFormed h → HasItsOwners h hand → desc_count_at h.descs key ≤ 1572864 + length hand
 counts_few h hand key whole owners =
     let counts = owners.named.counts key in
     let few = namings_few h.procs key (λ at proc is. whole.descriptors at proc is) in
+    let further = leaf_namings_few h.leaves key (λ at leaf is. whole.leaf_rows at leaf is) in
     let held = count_by-le-length (λ other. eqb other key) hand in
     let live = whole.live_within in
     let high = whole.high_within in
     let limit = whole.limit in
-    omega (arith, counts, few, held, live, high, limit)
+    omega (arith, counts, few, further, held, live, high, limit)
 
 -- ---- nothing is left
 
@@ -194,7 +211,7 @@ no_more : {X Y : Type 0} (f : X → Y) (xs : List X) → map f xs ≡ [] → xs 
 no_more f [] is = refl
 no_more f (x ∷ xs) is = absurd (cc)
 
-module _ (h : Heap) (owners : HasItsOwners h []) (unnamed : (key : ℕ) → namings_of h.procs key ≡ 0) where
+module _ (h : Heap) (owners : HasItsOwners h []) (unnamed : (key : ℕ) → all_namings h key ≡ 0) where
   pub no_desc : (key : ℕ) → object h.descs key ≡ None
   no_desc key = none_used h.descs key (λ used.
       let some = owners.named.named key used in
@@ -271,14 +288,17 @@ no_use n key x is = let both : None ≡ Some x = sym (no_object n key) ∙ is in
 unused : (X : Type 0) (n key : ℕ) → InUse {X = X} (replicate n None) key → ⊥
 unused X n key used = let it = object_of {X = X} (replicate n None) key used in no_use n key it.0 it.1
 
-nobody_names : (n key : ℕ) → namings_of (replicate n None) key + 0 ≡ 0
-nobody_names n key = let none = sum_by-replicate (namings_in key) n None in omega (arith, none)
+nobody_names : (n m key : ℕ) → namings_of (replicate n None) key + leaf_namings_of (replicate m None) key + 0 ≡ 0
+nobody_names n m key =
+    let none = sum_by-replicate (namings_in key) n None in
+    let nor = sum_by-replicate (leaf_namings_in key) m None in
+    omega (arith, none, nor)
 
 pub boot_owners : (heap : ℕ) → HasItsOwners (empty_heap heap) []
 boot_owners heap = record {
   objects = empty_heap-owned heap;
   named = record {
-    counts = λ key. ap desc_count (no_object (heap / size class.Desc) key) ∙ sym (nobody_names (heap / size class.Proc) key);
+    counts = λ key. ap desc_count (no_object (heap / size class.Desc) key) ∙ sym (nobody_names (heap / size class.Proc) (heap / size class.Leaf) key);
     named = λ key used. absurd (unused Desc (heap / size class.Desc) key used);
   };
   held = record {

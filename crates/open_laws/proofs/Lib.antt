@@ -8,3 +8,4 @@ pub mod PipeLemmas
 pub mod PolledLemmas
 pub mod ShareLemmas
 pub mod SocketLemmas
+pub mod LeafNamings

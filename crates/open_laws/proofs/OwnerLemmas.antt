@@ -12,6 +12,7 @@ use Rattle.kheap_slabs.specs.declared.objects.Access.{Access}
 use Rattle.kheap_slabs.specs.declared.objects.Access.TheVariants as mode
 use Rattle.kheap_slabs.specs.declared.objects.Desc.{Desc}
 use Rattle.kheap_slabs.specs.declared.objects.Pipe.{Pipe as HeldPipe}
+use Rattle.kheap_slabs.specs.declared.objects.Leaf.{Leaf}
 use Rattle.kheap_slabs.specs.declared.objects.Proc.{Proc}
 use Rattle.kheap_slabs.specs.declared.objects.Target.{Target}
 use Rattle.kheap_slabs.specs.declared.objects.Target.TheVariants as target
@@ -28,7 +29,7 @@ use Rattle.usock_core.proofs.StandingLemmas.{held_on}
 use Rattle.usock_core.proofs.HeldLemmas.{held_moved, socket_held}
 use Rattle.open_laws.specs.Described.{access_in, counting, descs_left}
 use Rattle.open_laws.specs.Closing.{IsDroppable, EndCloses, SocketCloses, TargetCloses, Drops}
-use Rattle.open_laws.specs.Owned.{desc_count, desc_count_at, namings_of, CountsItsNames, is_on_pipe, has_read_end, has_write_end, HasItsEnds, sock_of, sock_in, socks_named, IsThereFor, IsHeldOpen, HasItsOwners}
+use Rattle.open_laws.specs.Owned.{CountsItsNames, HasItsEnds, HasItsOwners, IsHeldOpen, IsThereFor, all_namings, desc_count, desc_count_at, has_read_end, has_write_end, is_on_pipe, leaf_namings_of, namings_of, sock_in, sock_of, socks_named}
 use Rattle.open_laws.proofs.CloseLemmas.{described}
 use Rattle.open_laws.proofs.DescribedLemmas.{left_last, left_more}
 use Rattle.open_laws.proofs.DropLemmas.{named_one, pipe_keeps, sock_keeps}
@@ -422,8 +423,8 @@ named_more_often h hand key desc is named = record {
     go : (other : ℕ) (b : Bool)
         → desc_count_at (put h.descs key (counting desc (desc.count + 1))) other + cond b desc.count 0 ≡ desc_count_at h.descs other + cond b (desc.count + 1) 0
         → count_by (λ k. eqb k other) (key ∷ hand) ≡ one_if b + count_by (λ k. eqb k other) hand
-        → desc_count_at h.descs other ≡ namings_of h.procs other + count_by (λ k. eqb k other) hand
-        → desc_count_at (put h.descs key (counting desc (desc.count + 1))) other ≡ namings_of h.procs other + count_by (λ k. eqb k other) (key ∷ hand)
+        → desc_count_at h.descs other ≡ all_namings h other + count_by (λ k. eqb k other) hand
+        → desc_count_at (put h.descs key (counting desc (desc.count + 1))) other ≡ all_namings h other + count_by (λ k. eqb k other) (key ∷ hand)
     go other true moved more before = omega (arith, moved, more, before)
     go other false moved more before = omega (arith, moved, more, before)
 
@@ -451,13 +452,14 @@ left_is_counted desc some used = elim (cases_eq desc.count 1) [
   | inr more ↦ let left = left_count desc some in omega (arith, left, more, some)
 ]
 
-named_less_often : (old new : Heap) (hand : List ℕ) (key : ℕ) (desc : Desc) → object old.descs key ≡ Some desc → 0 < desc.count → new.descs ≡ descs_left old.descs key desc → new.procs ≡ old.procs
+named_less_often : (old new : Heap) (hand : List ℕ) (key : ℕ) (desc : Desc) → object old.descs key ≡ Some desc → 0 < desc.count → new.descs ≡ descs_left old.descs key desc → new.procs ≡ old.procs → new.leaves ≡ old.leaves
     → CountsItsNames old (key ∷ hand) → CountsItsNames new hand
-named_less_often old new hand key desc is some descs procs named = record {
+named_less_often old new hand key desc is some descs procs leaves named = record {
   counts = λ other.
       ap (λ (d : List (Option Desc)). desc_count_at d other) descs
       ∙ (go other (eqb key other) (count_at_set old.descs key desc (left_of desc) is other) (in_hand hand key other) (named.counts other)
-      ∙ ap (λ (p : List (Option Proc)). namings_of p other + count_by (λ k. eqb k other) hand) (sym procs));
+      ∙ (ap (λ (p : List (Option Proc)). namings_of p other + leaf_namings_of old.leaves other + count_by (λ k. eqb k other) hand) (sym procs)
+      ∙ ap (λ (l : List (Option Leaf)). namings_of new.procs other + leaf_namings_of l other + count_by (λ k. eqb k other) hand) (sym leaves)));
   named = λ other used. subst (λ (d : List (Option Desc)). 0 < desc_count_at d other) (sym descs) (still other (subst (λ (d : List (Option Desc)). InUse d other) descs used));
 }
   where
@@ -467,8 +469,8 @@ named_less_often old new hand key desc is some descs procs named = record {
     go : (other : ℕ) (b : Bool)
         → desc_count_at (set old.descs key (left_of desc)) other + cond b desc.count 0 ≡ desc_count_at old.descs other + cond b (desc_count (left_of desc)) 0
         → count_by (λ k. eqb k other) (key ∷ hand) ≡ one_if b + count_by (λ k. eqb k other) hand
-        → desc_count_at old.descs other ≡ namings_of old.procs other + count_by (λ k. eqb k other) (key ∷ hand)
-        → desc_count_at (set old.descs key (left_of desc)) other ≡ namings_of old.procs other + count_by (λ k. eqb k other) hand
+        → desc_count_at old.descs other ≡ all_namings old other + count_by (λ k. eqb k other) (key ∷ hand)
+        → desc_count_at (set old.descs key (left_of desc)) other ≡ all_namings old other + count_by (λ k. eqb k other) hand
     go other true moved more before = omega (arith, moved, more, before, left)
     go other false moved more before = omega (arith, moved, more, before)
 
@@ -505,11 +507,11 @@ held_dropped old new key desc is some drops held = elim (cases_eq desc.count 1) 
     closed last (target.Sock sock) on closes = held_by_socket old new key desc is held (drops.descs ∙ left_last old.descs key desc last) sock on closes
 
 pub owners_dropped : (old new : Heap) (hand : List ℕ) (key : ℕ) (desc : Desc) → object old.descs key ≡ Some desc → IsDroppable old key → Drops old new key desc
-    → new.procs ≡ old.procs → OwnsItsObjects new → HasItsOwners old (key ∷ hand) → HasItsOwners new hand
-owners_dropped old new hand key desc is can drops procs owns owners =
+    → new.procs ≡ old.procs → new.leaves ≡ old.leaves → OwnsItsObjects new → HasItsOwners old (key ∷ hand) → HasItsOwners new hand
+owners_dropped old new hand key desc is can drops procs leaves owns owners =
     let some : 0 < desc.count = subst (λ (d : Desc). 0 < d.count) (named_one old key desc is can) can.named in
     record {
       objects = owns;
-      named = named_less_often old new hand key desc is some drops.descs procs owners.named;
+      named = named_less_often old new hand key desc is some drops.descs procs leaves owners.named;
       held = held_dropped old new key desc is some drops owners.held;
     }

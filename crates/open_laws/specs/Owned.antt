@@ -6,6 +6,7 @@ use Rattle.kheap_slabs.specs.declared.objects.Access.{Access}
 use Rattle.kheap_slabs.specs.declared.objects.Access.TheVariants.{Both}
 use Rattle.kheap_slabs.specs.declared.objects.Desc.{Desc}
 use Rattle.kheap_slabs.specs.declared.objects.Descriptor.{Descriptor}
+use Rattle.kheap_slabs.specs.declared.objects.Leaf.{Leaf}
 use Rattle.kheap_slabs.specs.declared.objects.Pipe.{Pipe}
 use Rattle.kheap_slabs.specs.declared.objects.Proc.{Proc}
 use Rattle.kheap_slabs.specs.declared.objects.Target.{Target}
@@ -24,14 +25,27 @@ abbrev pub names_desc : ℕ → Option Descriptor → Bool
 names_desc key None = false
 names_desc key (Some descriptor) = descriptor.desc == key
 
--- how many descriptors of a process name the Desc of a key
+-- how many descriptors of a Proc name the Desc of a key
 abbrev pub namings_in : ℕ → Option Proc → ℕ
 namings_in key None = 0
 namings_in key (Some proc) = count_by (names_desc key) proc.descriptors
 
--- how many descriptors of all processes name it
+-- how many of all Procs name it
 abbrev pub namings_of : List (Option Proc) → ℕ → ℕ
 namings_of procs key = sum_by (namings_in key) procs
+
+-- how many descriptors of a Leaf name it
+abbrev pub leaf_namings_in : ℕ → Option Leaf → ℕ
+leaf_namings_in key None = 0
+leaf_namings_in key (Some leaf) = count_by (names_desc key) leaf.descriptors
+
+-- how many of all Leaves name it
+abbrev pub leaf_namings_of : List (Option Leaf) → ℕ → ℕ
+leaf_namings_of leaves key = sum_by (leaf_namings_in key) leaves
+
+-- how many descriptors of all processes name it, wherever they stand
+abbrev pub all_namings : Heap → ℕ → ℕ
+all_namings h key = namings_of h.procs key + leaf_namings_of h.leaves key
 
 abbrev pub desc_count : Option Desc → ℕ
 desc_count None = 0
@@ -44,7 +58,7 @@ desc_count_at descs key = desc_count (object descs key)
 -- Each Desc counts the descriptors that name it: those of the processes, and those in hand, which no process has yet or none
 -- has any more. A Desc that none names isn't there, and none names a Desc that isn't there.
 pub record CountsItsNames (h : Heap) (hand : List ℕ) : Type 0 where
-  pub counts : (key : ℕ) → desc_count_at h.descs key ≡ namings_of h.procs key + count_by (λ other. other == key) hand
+  pub counts : (key : ℕ) → desc_count_at h.descs key ≡ all_namings h key + count_by (λ other. other == key) hand
   pub named : (key : ℕ) → InUse h.descs key → 0 < desc_count_at h.descs key
 
 -- ---- pipes, by the Descs on their ends

@@ -15,7 +15,7 @@ ghost use Rattle.open_laws.specs.Placed.{Numbers};
 ghost use Rattle.open_laws.specs.Closing.{IsDroppable};
 ghost use Rattle.open_laws.specs.Described.{Counted, CountedList, AreDescribed, descs_left, after_share, after_drop, uncounted};
 ghost use Rattle.open_laws.specs.Open.{AreOpen};
-ghost use Rattle.open_laws.specs.Owned.{CountsItsNames, HasItsOwners, IsHeldOpen, desc_count_at, namings_of};
+ghost use Rattle.open_laws.specs.Owned.{CountsItsNames, HasItsOwners, IsHeldOpen, all_namings, desc_count_at};
 ghost use Rattle.open_laws.specs.Polled.{IsTargetIn};
 ghost use Rattle.open_laws.specs.Socketed.{AreRenamed, socket_by};
 
@@ -63,7 +63,7 @@ pub fn what_is_open_goes_on()
         → new.descs ≡ old.descs → new.pipes ≡ old.pipes → new.socks ≡ old.socks → new.chunks ≡ old.chunks
         → IsHeldOpen old → IsHeldOpen new }
     ensures named { (old : Heap) (new : Heap) (hand : List ℕ)
-        → new.descs ≡ old.descs → ((key : ℕ) → namings_of new.procs key ≡ namings_of old.procs key)
+        → new.descs ≡ old.descs → ((key : ℕ) → all_namings new key ≡ all_namings old key)
         → CountsItsNames old hand → CountsItsNames new hand }
 {}
 
@@ -71,15 +71,15 @@ pub fn what_is_open_goes_on()
 /// Desc than there are.
 pub fn what_is_named_is_there()
     ensures droppable { (h : Heap) (hand : List ℕ) (key : ℕ) → HasItsOwners h (key ∷ hand) → IsDroppable h key }
-    ensures there { (h : Heap) (hand : List ℕ) (key : ℕ) → HasItsOwners h hand → 0 < namings_of h.procs key
+    ensures there { (h : Heap) (hand : List ℕ) (key : ℕ) → HasItsOwners h hand → 0 < all_namings h key
         → (desc : Desc) × (object h.descs key ≡ Some desc) × IsTargetIn h desc.target }
     ensures few { (h : Heap) (hand : List ℕ) (key : ℕ) → IsWellFormed h → HasItsOwners h hand
-        → desc_count_at h.descs key ≤ 524288 + length hand }
+        → desc_count_at h.descs key ≤ 1572864 + length hand }
 {}
 
 /// Once no descriptor is open any more, no Desc, Pipe, Sock or Chunk is left.
 pub fn nothing_is_left_once_all_is_closed()
-    ensures { (h : Heap) → HasItsOwners h [] → ((key : ℕ) → namings_of h.procs key ≡ 0) → (key : ℕ)
+    ensures { (h : Heap) → HasItsOwners h [] → ((key : ℕ) → all_namings h key ≡ 0) → (key : ℕ)
         → (object h.descs key ≡ None) × (object h.pipes key ≡ None)
         × (object h.socks key ≡ None) × (object h.chunks key ≡ None) }
 {}

@@ -14,7 +14,7 @@ use Rattle.kheap_slabs.specs.Spaces.{keys_in, OwnsNodes, names_page, bytes_at}
 use Rattle.kheap_laws.proofs.KeyLemmas.{contains_or_not}
 use Rattle.page_space.specs.Changes.{NamesPage, OwnChanges, OwnForks}
 use Rattle.page_space.specs.Entries.{entry_at, PageTurns}
-use Rattle.page_space.proofs.KeyPlaces.{key_there}
+use Rattle.kheap_laws.proofs.KeyPlaces.{key_there}
 use Rattle.page_space.proofs.TurnLemmas.{entry_stays}
 
 module _ {X : Type 0} where

@@ -14,6 +14,7 @@ use Rattle.kheap_slabs.specs.Owners.{Owners, with_space, IsOwned}
 use Rattle.kheap_slabs.specs.Paid.{TakesNothing}
 use Rattle.kheap_slabs.specs.Spaces.{is_mapped, keys_in, OwnsNodes}
 use Rattle.kheap_slabs.proofs.ObjectLemmas.{object_of}
+use Rattle.kheap_laws.proofs.KeyPlaces.{key_placed}
 use Rattle.kheap_laws.proofs.OwnerLemmas.{IsOwned-space, IsOwned-space_leaves}
 use Rattle.kheap_laws.proofs.PaidLemmas.{TakesNothing-refl, TakesNothing-trans}
 use Rattle.page_space.specs.Accounts.{turned_at, AccountFollows, AccountLeaves}
@@ -117,21 +118,6 @@ StandsFor-cleared old new space now first count memory within len cleared stands
     (λ above. cleared.stays page (inr above) ∙ (stands page below ∙ sym (page_at-above memory first count None (omega arith) page above)))
     (cases_lt page (first + count)))
     (cases_lt page first)
-
--- a key of the space stands at some group
-key_placed : (space : List (Option ℕ)) (key : ℕ) → Contains (keys_in space) key → (group : ℕ) × (group < length space) × (get_or space group None ≡ Some key)
-key_placed [] key there = absurd (omega (arith, there.1))
-key_placed (None ∷ space) key there =
-    let placed = key_placed space key there in (suc placed.0, omega (arith, placed.1), placed.2)
-key_placed (Some first ∷ space) key there =
-    ⊎_elim
-    (λ here. (0, omega arith, ap Some (only here)))
-    (λ behind. let placed = key_placed space key behind in (suc placed.0, omega (arith, placed.1), placed.2))
-    (Contains-append_cases (first ∷ []) (keys_in space) key there)
-  where
-    only : Contains (first ∷ []) key → first ≡ key
-    only (zero, within, is) = is
-    only (suc at, within, is) = absurd (omega arith)
 
 -- where each entry is unmapped, none is counted
 none_counted : (entries : List PageEntry) → ((at : ℕ) → at < length entries → get_or entries at entry.Unmapped ≡ entry.Unmapped) → count_by is_mapped entries ≡ 0

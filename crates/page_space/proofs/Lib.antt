@@ -6,7 +6,6 @@ pub mod ForkAccount
 pub mod ForkLemmas
 pub mod FrameCounts
 pub mod FrameLemmas
-pub mod KeyPlaces
 pub mod MapLemmas
 pub mod MoveLemmas
 pub mod NodeCounts

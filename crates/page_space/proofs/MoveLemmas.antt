@@ -19,7 +19,7 @@ use Rattle.kheap_laws.proofs.OwnerLemmas.{IsOwned-spaces_apart, IsOwned-space_ch
 use Rattle.page_space.specs.Entries.{key_of, entry_of, entry_under, entry_at, PageTurns}
 use Rattle.page_space.specs.Frames.{IsNamed, AllNamed, FramesStay}
 use Rattle.page_space.specs.Contents.{content_of, content_at, SpaceMoves}
-use Rattle.page_space.proofs.KeyPlaces.{key_there}
+use Rattle.kheap_laws.proofs.KeyPlaces.{key_there}
 use Rattle.page_space.proofs.TurnLemmas.{unused, entry_stays}
 
 -- an entry that names a frame is one of those that are counted

@@ -18,7 +18,7 @@ use Rattle.kheap_slabs.proofs.ObjectLemmas.{object_of}
 use Rattle.page_space.specs.Accounts.{place_of, HasPlaces}
 use Rattle.page_space.specs.Entries.{entry_at}
 use Rattle.page_space.proofs.CountLemmas.{sum_of_keys, sum_shift, sum_range_agree}
-use Rattle.page_space.proofs.KeyPlaces.{key_there}
+use Rattle.kheap_laws.proofs.KeyPlaces.{key_there}
 use Rattle.page_space.proofs.TurnLemmas.{entry_known, entry_none}
 
 -- some item of a list passes, or none does

@@ -21,7 +21,7 @@ use Rattle.page_space.specs.Contents.{content_of, content_at, SpaceMoves}
 use Rattle.page_space.specs.Frames.{IsNamed, AllNamed, FramesStay}
 use Rattle.page_space.proofs.AccountLemmas.{account-fresh}
 use Rattle.page_space.proofs.ChangeLemmas.{OwnChanges-turned}
-use Rattle.page_space.proofs.KeyPlaces.{key_there}
+use Rattle.kheap_laws.proofs.KeyPlaces.{key_there}
 use Rattle.page_space.proofs.MoveLemmas.{counted_used, named_once, IsNamed-entry, SpaceMoves-turned, content_others, other_entries}
 use Rattle.page_space.proofs.TurnLemmas.{entry_none, turn-set, mapped_set}
 

@@ -13,7 +13,7 @@ use Rattle.kheap_slabs.specs.Spaces.{is_mapped, mapped_count, keys_in, OwnsNodes
 use Rattle.kheap_slabs.proofs.ObjectLemmas.{InUse-within, put-within, object-put, object-put_other, object-without, object-without_other}
 use Rattle.kheap_laws.proofs.SpaceLemmas.{names_of-entry, names_of-insert, names_of-without}
 use Rattle.page_space.specs.Entries.{key_of, entry_of, entry_under, entry_at, PageTurns}
-use Rattle.page_space.proofs.KeyPlaces.{key_there, keys_differ, Contains-added, Contains-stays, IsOnce-added, Contains-removed, Contains-left, removed-other, IsOnce-removed}
+use Rattle.kheap_laws.proofs.KeyPlaces.{key_there, keys_differ, Contains-added, Contains-stays, IsOnce-added, Contains-removed, Contains-left, removed-other, IsOnce-removed}
 
 -- of two pages of one group the places differ
 places_differ : (one other : ℕ) → one ≢ other → one / 64 ≡ other / 64 → one % 64 ≢ other % 64

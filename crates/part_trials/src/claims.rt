@@ -23,7 +23,7 @@ fn each_deed_has_its_word(rt: HostRuntime) -> Result<(), Fail> {
 #[test]
 fn kills_and_evictions_are_told(rt: HostRuntime) -> Result<(), Fail> {
     let killed = Some(Claim::Killed { pid: 7, waiter: 2 });
-    assert!(rt; claim_of(b"8 p7 killed for p2 need 2560 live 3712\n") == killed);
+    assert!(rt; claim_of(b"8 p7 killed for p2 need 3328 live 3200\n") == killed);
     let gone = Some(Claim::Evicted { what: Cached::Name });
     assert!(rt; claim_of(b"9 evict name\n") == gone);
     Ok(())

@@ -1,12 +1,12 @@
-//! Objects of all ten classes in the heap.
+//! Objects of all eleven classes in the heap.
 
 ghost use Rattle.std.specs.Prelude.{◌≡◌, ◌+◌, ◌≤◌};
 ghost use Rattle.kheap_slabs.specs.Heap.{live_bytes};
 
 use kabi_types::{Control, Inode, Name27};
 use kheap_slabs::{
-    Access, Block, Chunk, Desc, DescFlags, KHeap, Name, Node, Page, PageEntry, Pipe, Proc,
-    QueueParts, Sock, SockState, Target, Vnode,
+    Access, Block, Chunk, Desc, DescFlags, Descriptor, KHeap, Leaf, Name, Node, Page, PageEntry,
+    Pipe, Proc, QueueParts, Sock, SockState, Target, Vnode,
 };
 use std::test::Fail;
 
@@ -25,6 +25,17 @@ fn proc_of(pid: u32) -> Proc {
         control,
         descriptors: [None; 32],
         nodes: [None; 4],
+        leaves: [None; 3],
+    }
+}
+
+fn leaf_of(desc: u32) -> Leaf {
+    let descriptor = Descriptor {
+        desc,
+        close_on_exec: false,
+    };
+    Leaf {
+        descriptors: [Some(descriptor); 32],
     }
 }
 
@@ -237,11 +248,23 @@ fn renew_sock(heap: &mut KHeap) -> bool
     freed.node == Some(3) && found.node == Some(5)
 }
 
-// 512 + 512 + 4096 + 64 + 128 + 64 + 1088 + 128 + 576 + 128 bytes.
-fn renew_each(heap: &mut KHeap) -> bool
-    requires { live_bytes heap.old + 7296 ≤ heap.old.heap }
+fn renew_leaf(heap: &mut KHeap) -> bool
+    requires { live_bytes heap.old + 256 ≤ heap.old.heap }
     ensures heap { heap.new.heap ≡ heap.old.heap }
-    ensures live { live_bytes heap.new ≡ live_bytes heap.old + 7296 }
+    ensures live { live_bytes heap.new ≡ live_bytes heap.old + 256 }
+{
+    let first = heap.insert_leaf(leaf_of(3));
+    let freed = heap.free_leaf(first);
+    let second = heap.insert_leaf(leaf_of(5));
+    let found = heap.get_leaf(second);
+    freed == leaf_of(3) && *found == leaf_of(5)
+}
+
+// 512 + 512 + 4096 + 64 + 128 + 64 + 1088 + 128 + 576 + 128 + 256 bytes.
+fn renew_each(heap: &mut KHeap) -> bool
+    requires { live_bytes heap.old + 7552 ≤ heap.old.heap }
+    ensures heap { heap.new.heap ≡ heap.old.heap }
+    ensures live { live_bytes heap.new ≡ live_bytes heap.old + 7552 }
 {
     let procs = renew_proc(heap);
     let nodes = renew_node(heap);
@@ -253,36 +276,35 @@ fn renew_each(heap: &mut KHeap) -> bool
     let pipes = renew_pipe(heap);
     let chunks = renew_chunk(heap);
     let socks = renew_sock(heap);
+    let leaves = renew_leaf(heap);
     let memory = procs && nodes && pages;
     let files = descs && vnodes && names && blocks;
-    memory && files && pipes && chunks && socks
+    memory && files && pipes && chunks && socks && leaves
 }
 
-// 576 + 128 + 128 + 64 bytes.
-fn renew_four(heap: &mut KHeap) -> bool
-    requires { live_bytes heap.old + 896 ≤ heap.old.heap }
+// 576 + 64 bytes.
+fn renew_two(heap: &mut KHeap) -> bool
+    requires { live_bytes heap.old + 640 ≤ heap.old.heap }
     ensures heap { heap.new.heap ≡ heap.old.heap }
-    ensures live { live_bytes heap.new ≡ live_bytes heap.old + 896 }
+    ensures live { live_bytes heap.new ≡ live_bytes heap.old + 640 }
 {
     let chunks = renew_chunk(heap);
-    let vnodes = renew_vnode(heap);
-    let pipes = renew_pipe(heap);
     let descs = renew_desc(heap);
-    chunks && vnodes && pipes && descs
+    chunks && descs
 }
 
-/// Objects of all ten classes, each made, freed and made again, fill a heap of 8192 bytes to its
-/// last byte.
+/// Objects of all eleven classes, each made, freed and made again, fill a heap of 8192 bytes to
+/// its last byte.
 #[test]
-fn ten_classes_fill_the_least_heap(rt: HostRuntime) -> Result<(), Fail> {
+fn eleven_classes_fill_the_least_heap(rt: HostRuntime) -> Result<(), Fail> {
     let mut heap = KHeap::boot(rt.alloc(), 8192)?;
     let empty = heap.live();
-    let ten = renew_each(&mut heap);
+    let eleven = renew_each(&mut heap);
     let between = heap.live();
-    let four = renew_four(&mut heap);
-    assert!(rt; empty == 0 && between == 7296 && heap.live() == 8192);
+    let two = renew_two(&mut heap);
+    assert!(rt; empty == 0 && between == 7552 && heap.live() == 8192);
     assert!(rt; heap.high() == 8192 && heap.heap() == 8192);
-    assert!(rt; ten && four);
+    assert!(rt; eleven && two);
     drop(heap);
     Ok(())
 }

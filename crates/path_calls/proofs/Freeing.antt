@@ -130,6 +130,7 @@ kept_so script old chunks socks high names kept owners bound long keeps = record
     );
   };
   all = kept.all;
+  leaves = kept.leaves;
   owners = owners;
   groups = kept.groups;
   calls = kept.calls;

@@ -2,7 +2,7 @@
 use Rattle.std.proofs.Common.{◌≡◌, ℕ, ◌+◌, ◌-◌, ◌*◌, ◌/◌, ◌≤◌, ◌==◌, max, ℤ, pos, negsuc, Bool, true, false, cond, ◌&&◌, length, Option, None, Some, is_some, refl, ap, ◌∙◌, arith}
 use Rattle.std.specs.Option.{option_or}
 use Rattle.std.proofs.lemmas.Bool.Decides.{nat_tests}
-use Rattle.kabi_types.specs.Arguments.{argument_fault, count_of, invalid_unless, moved_fault, range_fault, is_within, is_from}
+use Rattle.kabi_types.specs.Arguments.{argument_fault, count_of, invalid_unless, moved_fault, range_fault, is_number, is_within, is_from}
 use Rattle.kabi_types.specs.Call.{kind_of}
 use Rattle.kabi_types.specs.Class.{size}
 use Rattle.kabi_types.specs.Counts.{need_bytes}
@@ -12,7 +12,7 @@ use Rattle.kabi_types.specs.declared.classes.Class.TheVariants as class
 use Rattle.kabi_types.specs.declared.classes.Need.{Need}
 use Rattle.kabi_types.specs.declared.errnos.Errno.{Errno}
 use Rattle.posix_defs.specs.PriceList.{price_of}
-use Rattle.posix_defs.specs.Needs.{bound, chunks_for, cost, is_write, need_of, nodes_for, objects_of, pages_in, pages_touched, read_need, stored_bytes}
+use Rattle.posix_defs.specs.Needs.{bound, chunks_for, cost, is_write, leaf_need, need_of, nodes_for, objects_of, pages_in, pages_touched, read_need, stored_bytes}
 use Rattle.posix_defs.specs.Sizes.{no_need}
 use Rattle.posix_defs.specs.declared.prices.Price.TheVariants.{Always}
 
@@ -47,6 +47,11 @@ pages_sum pages = omega arith
 read_sum : (pages : ℕ) → 4096 * pages + 2176 ≡ need_bytes (read_need pages)
 read_sum pages = omega arith
 
+-- a Leaf where a further descriptor is made
+copied_sum : (copied : Bool) → cond copied 256 0 ≡ need_bytes (cond copied leaf_need no_need)
+copied_sum true = refl
+copied_sum false = refl
+
 -- the price of each call but the writes is that of its objects
 objects_sum : (call : Call) → is_write (kind_of call) ≡ false → cost (price_of (kind_of call)) call ≡ need_bytes (objects_of call)
 objects_sum (call.Mmap length) other = nodes_sum (nodes_for (pages_in (count_of length)))
@@ -54,6 +59,7 @@ objects_sum (call.Store addr bytes) other = pages_sum (pages_touched (count_of a
 objects_sum (call.Read _ addr n) other = read_sum (pages_touched (count_of addr) (count_of n))
 objects_sum (call.Pread _ addr n _) other = read_sum (pages_touched (count_of addr) (count_of n))
 objects_sum (call.Readdir _ addr n) other = read_sum (pages_touched (count_of addr) (count_of n))
+objects_sum (call.Fcntl _ cmd _) other = copied_sum (is_number 0 cmd)
 objects_sum (call.Write _ _ _ _) other = cc
 objects_sum (call.Pwrite _ _ _ _) other = cc
 objects_sum _ other = refl
@@ -125,6 +131,7 @@ most_where_right (call.Read _ addr n) stored right = read_le (count_of addr) (co
 most_where_right (call.Readdir _ addr n) stored right = read_le (count_of addr) (count_of n) (few 32 n (first_right (is_within 32 32767 n) (range_fault addr (count_of n)) right))
 most_where_right (call.Pread _ addr n at) stored right =
     read_le (count_of addr) (count_of n) (few 0 n (both_left (is_within 0 32767 n) (is_from 0 at) (first_right (is_within 0 32767 n && is_from 0 at) (range_fault addr (count_of n)) right)))
+most_where_right (call.Fcntl _ cmd _) stored right = cond_le (is_number 0 cmd) 256 0 39040 (omega arith) (omega arith)
 most_where_right (call.Write _ _ n done) stored right = write_le (count_of n - done)
 most_where_right (call.Pwrite _ _ n _) stored right = write_le (count_of n)
 most_where_right _ stored right = omega arith

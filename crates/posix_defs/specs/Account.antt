@@ -1,6 +1,6 @@
 -- What memory and queues take of the kernel heap, which the plain machine doesn't tell.
-use Rattle.std.specs.Prelude.{ℕ, ◌+◌, ◌-◌, ◌*◌, ◌%◌, ◌==◌, nat_lt, if◌then◌else◌, List, [], map, length, Option, None, Some, is_some, slice_index}
-use Rattle.std.specs.List.{count_by, range_with_len, sum}
+use Rattle.std.specs.Prelude.{ℕ, ◌+◌, ◌-◌, ◌*◌, ◌%◌, ◌==◌, nat_lt, Bool, if◌then◌else◌, List, [], ◌∷◌, drop, map, length, Option, None, Some, is_some, slice_index, take}
+use Rattle.std.specs.List.{count_by, list_any, range_with_len, sum, sum_by}
 use Rattle.kabi_types.specs.Class.{size}
 use Rattle.kabi_types.specs.declared.classes.Class.TheVariants as class
 use Rattle.posix_defs.specs.QueuePlace.{chunks_of}
@@ -9,6 +9,7 @@ use Rattle.posix_defs.specs.Pipe.{Pipe}
 use Rattle.posix_defs.specs.Socket.{Socket}
 use Rattle.posix_defs.specs.Process.{is_alive, how_many}
 use Rattle.posix_defs.specs.Plain.{Plain}
+use Rattle.posix_defs.specs.Files.Descriptors.{Descriptors}
 use Rattle.posix_defs.specs.Files.State.{Files}
 
 -- the frames that pages name, and by their places the front of each pipe's and each socket's queue: where in its chunk of 512
@@ -82,10 +83,22 @@ abbrev pub memory_base : Plain → Frames → ℕ
 memory_base plain frames =
     how_many plain.table * size class.Proc + nodes_named frames * size class.Node + frames_named frames * size class.Page
 
--- by descriptions, pipes, sockets and their queues
+-- of 32 numbers from one on some is open
+abbrev pub has_leaf : Descriptors → ℕ → Bool
+has_leaf descriptors from = list_any is_some (take 32 (drop from descriptors))
+
+-- The first 32 numbers of a process take no object of their own. Of those behind them each 32 take a Leaf where one is open.
+abbrev pub leaves_of : Descriptors → ℕ
+leaves_of descriptors = count_by (has_leaf descriptors) (32 ∷ 64 ∷ 96 ∷ [])
+
+-- how many Leaves all processes take
+abbrev pub leaves_open : Files → ℕ
+leaves_open files = sum_by leaves_of files.descriptors
+
+-- by descriptors, descriptions, pipes, sockets and their queues
 abbrev pub files_base : Files → Account → ℕ
 files_base files account =
-    count_by is_some files.descriptions * size class.Desc + count_by is_some files.pipes * size class.Pipe
+    leaves_open files * size class.Leaf + count_by is_some files.descriptions * size class.Desc + count_by is_some files.pipes * size class.Pipe
     + count_by is_some files.sockets * size class.Sock
     + (chunks_taken (pipe_lengths files) account.pipes + chunks_taken (socket_lengths files) account.sockets) * size class.Chunk
 

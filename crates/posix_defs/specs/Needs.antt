@@ -1,6 +1,6 @@
 -- What each call may make in the kernel heap, and how many bytes of it it may use.
 use Rattle.std.specs.Prelude.{ℕ, ◌+◌, ◌-◌, ◌*◌, ◌/◌, ◌==◌, min, max, Bool, true, false, if◌then◌else◌, List, [], length, is_some}
-use Rattle.kabi_types.specs.Arguments.{argument_fault, count_of, page_size}
+use Rattle.kabi_types.specs.Arguments.{argument_fault, count_of, is_number, page_size}
 use Rattle.kabi_types.specs.Call.{kind_of}
 use Rattle.kabi_types.specs.declared.calls.Call.{Call}
 use Rattle.kabi_types.specs.declared.calls.Call.TheVariants as call
@@ -10,7 +10,7 @@ use Rattle.kabi_types.specs.declared.classes.Need.{Need}
 use Rattle.posix_defs.specs.PriceList.{price_of}
 use Rattle.posix_defs.specs.Sizes.{no_need, reserve}
 use Rattle.posix_defs.specs.declared.prices.Price.{Price}
-use Rattle.posix_defs.specs.declared.prices.Price.TheVariants.{Always, Mapped, Touched, Moved}
+use Rattle.posix_defs.specs.declared.prices.Price.TheVariants.{Always, Mapped, Touched, Moved, Copied}
 
 -- how many pages the bytes from an address on lie in
 abbrev pub pages_touched : ℕ → ℕ → ℕ
@@ -61,12 +61,18 @@ abbrev pub stored_bytes : Call → List ℕ
 stored_bytes (call.Store _ bytes) = bytes
 stored_bytes _ = []
 
+-- the call makes a further descriptor: of the commands of `fcntl` the first one, F_DUPFD, does
+abbrev pub makes_copy : Call → Bool
+makes_copy (call.Fcntl _ cmd _) = is_number 0 cmd
+makes_copy _ = false
+
 -- what a price comes to for a call
 abbrev pub cost : Price → Call → ℕ
 cost (Always bytes) call = bytes
 cost (Mapped node) call = node * nodes_for (mapped_pages call)
 cost (Touched page more) call = page * touched_pages call + more
 cost (Moved file chunk) call = max file (chunk * chunks_for (left_bytes call))
+cost (Copied bytes) call = if makes_copy call then bytes else 0
 
 -- the heap that a call may use, in bytes: what the price list says, and nothing where an operand is wrong
 unfoldable pub bound : Call → ℕ
@@ -94,12 +100,17 @@ read_need pages = record no_need { page = pages; block = 2 }
 abbrev pub write_need : ℕ → Need
 write_need left = record no_need { block = 2; chunk = chunks_for left }
 
--- the objects that a call whose operands are right may make
+-- one Leaf: the lowest number that is free may be the first of its 32 that is open, and of the two lowest one at most is, since where
+-- no Leaf is there all 32 are free
+abbrev pub leaf_need : Need
+leaf_need = record no_need { leaf = 1 }
+
+-- the objects that a call whose operands are right may make; an open may find a FIFO, which it makes a pipe for
 abbrev pub objects_of : Call → Need
 objects_of call.Getpid = no_need
 objects_of call.Getppid = no_need
 objects_of call.SchedYield = no_need
-objects_of call.Fork = record no_need { proc = 1; node = 4 }
+objects_of call.Fork = record no_need { proc = 1; node = 4; leaf = 3 }
 objects_of (call.Exec _) = walk_need
 objects_of (call.Exit _) = no_need
 objects_of (call.Waitpid _ _) = no_need
@@ -108,11 +119,11 @@ objects_of (call.Mmap length) = record no_need { node = nodes_for (pages_in (cou
 objects_of (call.Munmap _ _) = no_need
 objects_of (call.Store addr bytes) = record no_need { page = pages_touched (count_of addr) (length bytes) }
 objects_of (call.Load _ _) = no_need
-objects_of (call.OpenFile _ _) = record walk_need { desc = 1 }
+objects_of (call.OpenFile _ _) = record walk_need { desc = 1; leaf = 1; pipe = 1 }
 objects_of (call.Close _) = no_need
-objects_of (call.Dup _) = no_need
-objects_of (call.Dup2 _ _) = no_need
-objects_of (call.Fcntl _ _ _) = no_need
+objects_of (call.Dup _) = leaf_need
+objects_of (call.Dup2 _ _) = leaf_need
+objects_of (call.Fcntl _ cmd _) = if is_number 0 cmd then leaf_need else no_need
 objects_of (call.Read _ addr n) = read_need (pages_touched (count_of addr) (count_of n))
 objects_of (call.Write _ _ n done) = write_need (count_of n - done)
 objects_of (call.Pread _ addr n _) = read_need (pages_touched (count_of addr) (count_of n))
@@ -128,13 +139,13 @@ objects_of (call.Rmdir _) = walk_need
 objects_of (call.Unlink _) = walk_need
 objects_of (call.Link _ _) = two_walks_need
 objects_of (call.Rename _ _) = two_walks_need
-objects_of call.Pipe = record no_need { desc = 2; pipe = 1 }
-objects_of call.Socket = record no_need { desc = 1; sock = 1 }
-objects_of call.Socketpair = record no_need { desc = 2; sock = 2 }
+objects_of call.Pipe = record leaf_need { desc = 2; pipe = 1 }
+objects_of call.Socket = record leaf_need { desc = 1; sock = 1 }
+objects_of call.Socketpair = record leaf_need { desc = 2; sock = 2 }
 objects_of (call.Bind _ _) = walk_need
 objects_of (call.Listen _) = no_need
 objects_of (call.Connect _ _) = record walk_need { sock = 1 }
-objects_of (call.Accept _) = record no_need { desc = 1 }
+objects_of (call.Accept _) = record leaf_need { desc = 1 }
 objects_of (call.Shutdown _ _) = no_need
 objects_of (call.Poll _ _) = no_need
 

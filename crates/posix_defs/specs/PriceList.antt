@@ -2,14 +2,14 @@
 use Rattle.kabi_types.specs.declared.calls.CallKind.{CallKind}
 use Rattle.kabi_types.specs.declared.calls.CallKind.TheVariants as kind
 use Rattle.posix_defs.specs.declared.prices.Price.{Price}
-use Rattle.posix_defs.specs.declared.prices.Price.TheVariants.{Always, Mapped, Touched, Moved}
+use Rattle.posix_defs.specs.declared.prices.Price.TheVariants.{Always, Mapped, Touched, Moved, Copied}
 
 -- what a call of this kind may use of the kernel heap; to close and to end costs nothing, since two blocks are kept back for it
 abbrev pub price_of : CallKind → Price
 price_of kind.Getpid = Always 0
 price_of kind.Getppid = Always 0
 price_of kind.SchedYield = Always 0
-price_of kind.Fork = Always 2560
+price_of kind.Fork = Always 3328
 price_of kind.Exec = Always 2560
 price_of kind.Exit = Always 0
 price_of kind.Waitpid = Always 0
@@ -18,11 +18,11 @@ price_of kind.Mmap = Mapped 512
 price_of kind.Munmap = Always 0
 price_of kind.Store = Touched 4096 0
 price_of kind.Load = Always 0
-price_of kind.OpenFile = Always 2624
+price_of kind.OpenFile = Always 3008
 price_of kind.Close = Always 0
-price_of kind.Dup = Always 0
-price_of kind.Dup2 = Always 0
-price_of kind.Fcntl = Always 0
+price_of kind.Dup = Always 256
+price_of kind.Dup2 = Always 256
+price_of kind.Fcntl = Copied 256
 price_of kind.Read = Touched 4096 2176
 price_of kind.Write = Moved 2176 576
 price_of kind.Pread = Touched 4096 2176
@@ -38,12 +38,12 @@ price_of kind.Rmdir = Always 2560
 price_of kind.Unlink = Always 2560
 price_of kind.Link = Always 2944
 price_of kind.Rename = Always 2944
-price_of kind.Pipe = Always 256
-price_of kind.Socket = Always 192
-price_of kind.Socketpair = Always 384
+price_of kind.Pipe = Always 512
+price_of kind.Socket = Always 448
+price_of kind.Socketpair = Always 640
 price_of kind.Bind = Always 2560
 price_of kind.Listen = Always 0
 price_of kind.Connect = Always 2688
-price_of kind.Accept = Always 64
+price_of kind.Accept = Always 320
 price_of kind.Shutdown = Always 0
 price_of kind.Poll = Always 0

@@ -11,7 +11,7 @@ use Rattle.posix_defs.specs.Lines.{newline, blank}
 use Rattle.posix_defs.specs.PriceList.{price_of}
 use Rattle.posix_defs.specs.Sizes.{fixed, reserve}
 use Rattle.posix_defs.specs.declared.prices.Price.{Price}
-use Rattle.posix_defs.specs.declared.prices.Price.TheVariants.{Always, Mapped, Touched, Moved}
+use Rattle.posix_defs.specs.declared.prices.Price.TheVariants.{Always, Mapped, Touched, Moved, Copied}
 
 -- the name of a class of heap objects, with a capital
 abbrev pub class_name : Class → List ℕ
@@ -25,6 +25,7 @@ class_name class.Block = codes "Block"
 class_name class.Pipe = codes "Pipe"
 class_name class.Chunk = codes "Chunk"
 class_name class.Sock = codes "Sock"
+class_name class.Leaf = codes "Leaf"
 
 -- a class and the size of its objects
 abbrev pub class_line : Class → List ℕ
@@ -36,6 +37,7 @@ price_text (Always bytes) = decimal bytes
 price_text (Mapped node) = decimal node ++ codes "*min(4,(p+62)/64+1)"
 price_text (Touched page more) = if more == 0 then decimal page ++ codes "*pages" else decimal page ++ codes "*pages+" ++ decimal more
 price_text (Moved file chunk) = codes "max(" ++ decimal file ++ codes "," ++ decimal chunk ++ codes "*ceil(min(m,4096)/512))"
+price_text (Copied bytes) = decimal bytes ++ codes " for F_DUPFD, else 0"
 
 -- a call by its word, and its price
 abbrev pub price_line : CallKind → List ℕ

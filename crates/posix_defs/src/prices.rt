@@ -10,4 +10,6 @@ pub enum Price {
     /// The greater of two: so many where the call writes to a file, or for a queue so many for each chunk of 512 bytes of
     /// what it still has to move, of which a queue takes at most 4096.
     Moved(u64, u64),
+    /// So many where the call makes a further descriptor, which of the commands of `fcntl` F_DUPFD does alone.
+    Copied(u64),
 }

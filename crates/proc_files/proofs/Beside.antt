@@ -32,6 +32,9 @@ module _ (old new : Heap) (e : CachesChange old new) where
   pub same_procs : new.procs ≡ old.procs
   same_procs = ap (λ (h : Heap). h.procs) e
 
+  pub same_leaves : new.leaves ≡ old.leaves
+  same_leaves = ap (λ (h : Heap). h.leaves) e
+
   pub same_nodes : new.nodes ≡ old.nodes
   same_nodes = ap (λ (h : Heap). h.nodes) e
 
@@ -54,12 +57,12 @@ module _ (old new : Heap) (e : CachesChange old new) where
   owned_beside owners owned = IsOwned-same old new owners same_nodes same_pages same_chunks owned
 
   pub listed_beside : (kept : TableView) → AreListed old kept → AreListed new kept
-  listed_beside kept listed = listed_on old new kept same_procs listed
+  listed_beside kept listed = listed_on old new kept same_procs same_leaves listed
 
   pub owners_beside : (hand : List ℕ) → HasItsOwners old hand → HasItsOwners new hand
   owners_beside hand owners = record {
     objects = OwnsItsObjects-along old new (ap spaces_of same_procs) (ap pipe_queues same_pipes) (ap sock_queues same_socks) same_nodes same_pages same_chunks owners.objects;
-    named = named_on old new hand same_descs (λ key. ap (λ (p : List (Option Proc)). namings_of p key) same_procs) owners.named;
+    named = named_on old new hand same_descs (λ key. ap (λ (h : Heap). all_namings h key) e) owners.named;
     held = held_open_on old new same_descs same_pipes same_socks same_chunks owners.held;
   }
 
@@ -77,7 +80,7 @@ module _ (old new : Heap) (e : CachesChange old new) where
     list = have.list;
     opened = open_on numbers old new have.list files now same_descs same_pipes same_socks same_chunks descriptions pipes sockets have.opened;
     descriptors = rw descriptors (record {
-      each = λ q. have.descriptors.each q ∙ ap (λ (objects : List (Option Proc)). descriptors_by numbers.descs (places_in (numbers_in old) (proc_of (procs_at objects kept.listed) q))) (sym same_procs);
+      each = λ q. have.descriptors.each q ∙ ap (λ (h : Heap). descriptors_by numbers.descs (places_in (numbers_in h) (proc_of (procs_at h.procs kept.listed) q))) (sym e);
       made = have.descriptors.made;
     });
   }

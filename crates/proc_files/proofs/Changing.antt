@@ -15,6 +15,7 @@ use Rattle.proc_files.specs.Closing.{CachesChange, ChangesHolding, ClosesHolding
 abbrev pub holding : Heap → Heap → Heap
 holding old new = record old {
   procs = new.procs;
+  leaves = new.leaves;
   descs = new.descs;
   pipes = new.pipes;
   chunks = new.chunks;
@@ -30,9 +31,10 @@ pub holding_of : (old new : Heap) (kept : TableView) (pid : ℕ) → ChangesNumb
 holding_of old new kept pid it = record {
   key = it.key;
   proc = it.proc;
-  places = it.places;
+  now = it.now;
   named = it.named;
   there = it.there;
+  same = it.same;
   procs = it.procs;
   beside = ap (λ (h : Heap). holding h new) it.beside;
 }
@@ -44,10 +46,11 @@ caches_before old mid new kept pid e it =
     record {
       key = it.key;
       proc = it.proc;
-      places = it.places;
+      now = it.now;
       named = it.named;
       there = ap (λ (p : List (Option Proc)). object p it.key) (sym same) ∙ it.there;
-      procs = it.procs ∙ ap (λ (p : List (Option Proc)). put p it.key (with_numbers it.proc it.places)) same;
+      same = it.same;
+      procs = it.procs ∙ ap (λ (p : List (Option Proc)). put p it.key it.now) same;
       beside = it.beside ∙ ap (λ (h : Heap). holding h new) e;
     }
 
@@ -56,9 +59,10 @@ pub caches_after : (old mid new : Heap) (kept : TableView) (pid : ℕ) → Chang
 caches_after old mid new kept pid it e = record {
   key = it.key;
   proc = it.proc;
-  places = it.places;
+  now = it.now;
   named = it.named;
   there = it.there;
+  same = it.same;
   procs = ap (λ (h : Heap). h.procs) e ∙ it.procs;
   beside = ap (λ (h : Heap). holding h new) e ∙ ap (λ (h : Heap). holding h new) it.beside;
 }
@@ -71,22 +75,21 @@ set_again (x ∷ xs) (suc i) a b = ap (λ rest. x ∷ rest) (set_again xs i a b)
 -- one change after another
 abbrev pub holding_then : (old mid new : Heap) (kept : TableView) (pid : ℕ) → ChangesHolding old mid kept pid → ChangesHolding mid new kept pid → ChangesHolding old new kept pid
 holding_then old mid new kept pid first second =
-    let was : Proc = with_numbers first.proc first.places in
     let same_key : second.key ≡ first.key = some_same (key_of kept.listed pid) second.key first.key second.named first.named in
-    let at : object mid.procs first.key ≡ Some was = ap (λ objects. object objects first.key) first.procs ∙ put_same old.procs first.key first.proc was first.there refl in
-    let same_proc : second.proc ≡ was = some_same (object mid.procs first.key) second.proc was (ap (object mid.procs) (sym same_key) ∙ second.there) at in
+    let at : object mid.procs first.key ≡ Some first.now = ap (λ objects. object objects first.key) first.procs ∙ put_same old.procs first.key first.proc first.now first.there (ap (λ (p : Proc). p.pid) first.same) in
+    let same_proc : second.proc ≡ first.now = some_same (object mid.procs first.key) second.proc first.now (ap (object mid.procs) (sym same_key) ∙ second.there) at in
     record {
       key = first.key;
       proc = first.proc;
-      places = second.places;
+      now = second.now;
       named = first.named;
       there = first.there;
+      same = second.same ∙ ap (λ (p : Proc). with_numbers p second.now) (same_proc ∙ first.same);
       procs =
           second.procs
-          ∙ ap (λ key. put mid.procs key (with_numbers second.proc second.places)) same_key
-          ∙ ap (λ (p : Proc). put mid.procs first.key (with_numbers p second.places)) same_proc
-          ∙ ap (λ objects. put objects first.key (with_numbers was second.places)) first.procs
-          ∙ set_again old.procs first.key (Some was) (Some (with_numbers was second.places));
+          ∙ ap (λ key. put mid.procs key second.now) same_key
+          ∙ ap (λ objects. put objects first.key second.now) first.procs
+          ∙ set_again old.procs first.key (Some first.now) (Some second.now);
       beside = second.beside ∙ ap (λ (h : Heap). holding h new) first.beside;
     }
 

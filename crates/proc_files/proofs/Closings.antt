@@ -1,13 +1,12 @@
 -- A number is closed in the machine: which description goes, and which node with it.
 use Rattle.std.proofs.Common.{◌≡◌, ◌≢◌, ◌⊎◌, ℕ, zero, suc, ◌+◌, ◌<◌, ◌==◌, ◌||◌, Bool, true, false, cond, List, [], ◌∷◌, set, Option, None, Some, is_some, refl, ap, sym, ◌∙◌, subst, arith, inl, inr}
-use Rattle.std.specs.Prelude.{count_by, slice_index_or, slice_set}
+use Rattle.std.specs.Prelude.{count_by, slice_index_or}
 use Rattle.std.specs.List.{list_any}
 use Rattle.std.specs.Option.{option_map}
 use Rattle.std.proofs.lemmas.Bool.{cases_eq}
 use Rattle.std.proofs.lemmas.Bool.Decides.{eqb_tells}
 use Rattle.std.proofs.lemmas.List.{get_or-set_other, get_or-set_same}
-use Rattle.std.proofs.lemmas.List.Sums.{sum_by-set}
-use Rattle.kheap_slabs.specs.Objects.{InUse, object, put}
+use Rattle.kheap_slabs.specs.Objects.{InUse, object}
 use Rattle.kheap_slabs.specs.declared.objects.Desc.{Desc}
 use Rattle.kheap_slabs.specs.declared.objects.Descriptor.{Descriptor as HeldDescriptor}
 use Rattle.kheap_slabs.specs.declared.objects.Proc.{Proc}
@@ -17,15 +16,16 @@ use Rattle.kheap_slabs.proofs.ObjectLemmas.{InUse-within}
 use Rattle.kheap_slabs.specs.Heap.{Heap}
 use Rattle.open_laws.specs.Described.{counted_in, node_in, target_in}
 use Rattle.open_laws.specs.Open.{descriptor_by}
-use Rattle.open_laws.specs.Owned.{HasItsOwners, desc_count, names_desc, namings_in, namings_of}
+use Rattle.open_laws.specs.Owned.{HasItsOwners, all_namings, desc_count}
 use Rattle.open_laws.specs.Placed.{Numbers}
+use Rattle.desc_table.specs.Numbered.{names_one}
 use Rattle.posix_defs.specs.Files.Closing.{after_close, close_in, description_gone, gone_in, released, target_closed}
 use Rattle.posix_defs.specs.Files.Descriptions.{Access, Description, Descriptions, OnNode, OnPipe, OnSocket, Target, description_at, with_description}
 use Rattle.posix_defs.specs.Files.Descriptors.{Descriptors, is_named}
 use Rattle.posix_defs.specs.Files.State.{Files, beside, is_number, node_of, nodes_among, opened_node, opens, with_descriptions, with_open, with_tree}
 use Rattle.posix_defs.specs.Tree.{Tree}
 use Rattle.posix_defs.specs.TreeChanges.{closed}
-use Rattle.proc_table.specs.Procs.{numbers_in, proc_of, with_numbers}
+use Rattle.proc_table.specs.Procs.{numbers_in, proc_of}
 use Rattle.proc_table.specs.Table.{TableView, processes}
 use Rattle.proc_table.proofs.PlaceLemmas.{eqb_same}
 use Rattle.proc_numbers.specs.Having.{AreListed, ClosesNumber, HaveOpen, node_closed, node_dropped, places_in}
@@ -185,7 +185,7 @@ module _ (old mid : Heap) (kept : TableView) (pid fd : ℕ) (listed : AreListed 
   its = closes.proc
 
   proc_is : proc_of (processes old kept) pid ≡ Some its
-  proc_is = found_before old.procs closes.key its its closes.there refl kept.listed pid listed.stored closes.named
+  proc_is = found_before old.procs closes.key its its closes.turns.there refl kept.listed pid listed.stored closes.turns.found
 
   named_is : named_at old kept pid fd ≡ slice_index_or (numbers_in old its) fd None
   named_is = ap (λ o. slice_index_or (places_in (numbers_in old) o) fd None) proc_is
@@ -207,28 +207,20 @@ module _ (old mid : Heap) (kept : TableView) (pid fd : ℕ) (listed : AreListed 
     described : description_at files.descriptions place ≡ Some (counted_in numbers desc).is
     described = described_so numbers old have.list files held.desc desc have.opened found
 
-    names_less : (other : ℕ) → count_by (names_desc other) (slice_set (numbers_in old its) fd None) + one_if (held.desc == other) ≡ count_by (names_desc other) (numbers_in old its)
-    names_less other =
+    namings_less : (other : ℕ) → all_namings mid other + one_if (held.desc == other) ≡ all_namings old other
+    namings_less other =
         let at : slice_index_or (numbers_in old its) fd None ≡ Some held = sym named_is ∙ is in
-        let moved = sum_by-set (λ o. one_if (names_desc other o)) (numbers_in old its) fd None None (InUse-within (numbers_in old its) fd (ap is_some at)) in
-        let here : one_if (names_desc other (slice_index_or (numbers_in old its) fd None)) ≡ one_if (held.desc == other) = ap (λ o. one_if (names_desc other o)) at in
+        let moved = closes.namings other in
+        let here : names_one other (slice_index_or (numbers_in old its) fd None) ≡ one_if (held.desc == other) = ap (names_one other) at in
         omega (arith, moved, here)
 
-    namings_less : (other : ℕ) → namings_of mid.procs other + one_if (held.desc == other) ≡ namings_of old.procs other
-    namings_less other =
-        let now : Proc = with_numbers its (slice_set (numbers_in old its) fd None) in
-        let moved = sum_by-set (namings_in other) old.procs closes.key (Some now) None (InUse-within old.procs closes.key (ap is_some closes.there)) in
-        let here : namings_in other (object old.procs closes.key) ≡ count_by (names_desc other) (numbers_in old its) = ap (namings_in other) closes.there in
-        let so : namings_of mid.procs other ≡ namings_of (put old.procs closes.key now) other = ap (λ (p : List (Option Proc)). namings_of p other) closes.procs in
-        let less = names_less other in omega (arith, moved, here, so, less)
-
-    counts_left : namings_of mid.procs held.desc + 1 ≡ desc.count
+    counts_left : all_namings mid held.desc + 1 ≡ desc.count
     counts_left =
         let before = owners.named.counts held.desc in let less = namings_less held.desc in
         let one = ap one_if (eqb_same held.desc held.desc refl) in let it = ap desc_count found in
         let none : count_by (λ k. k == held.desc) [] ≡ 0 = refl in omega (arith, before, less, one, it, none)
 
-    apart : (other : ℕ) → 0 < namings_of mid.procs other → numbers.descs other ≡ place → other ≡ held.desc
+    apart : (other : ℕ) → 0 < all_namings mid other → numbers.descs other ≡ place → other ≡ held.desc
     apart other some same = have.opened.described.once other held.desc (used (object old.descs other) refl) (ap is_some found) same
       where
         used : (o : Option Desc) → object old.descs other ≡ o → InUse old.descs other
@@ -251,7 +243,7 @@ module _ (old mid : Heap) (kept : TableView) (pid fd : ℕ) (listed : AreListed 
     still_named more =
         named_same true
         (named_by_some numbers.descs mid kept (after_close files pid fd) held.desc then.descriptors listed_then
-        (positive (namings_of mid.procs held.desc) (λ none. more (let left = counts_left in omega (arith, left, none)))))
+        (positive (all_namings mid held.desc) (λ none. more (let left = counts_left in omega (arith, left, none)))))
       where
         positive : (n : ℕ) → (n ≡ 0 → ⊥) → 0 < n
         positive zero some = absurd (some refl)

@@ -1,29 +1,34 @@
 -- A process closes several numbers, one after another.
-use Rattle.std.proofs.Common.{◌≡◌, ◌≢◌, ℕ, zero, suc, ◌+◌, ◌<◌, Bool, true, false, cond, List, [], ◌∷◌, set, get_or, length, replicate, Option, None, Some, is_none, refl, ap, sym, ◌∙◌, arith, inl, inr}
+use Rattle.std.proofs.Common.{◌≡◌, ◌≢◌, ℕ, zero, suc, ◌+◌, ◌-◌, ◌<◌, ◌≤◌, ◌&&◌, not, Bool, true, false, cond, List, [], ◌∷◌, set, get_or, length, replicate, Option, None, Some, is_none, is_some, refl, ap, sym, ◌∙◌, arith, inl, inr}
 use Rattle.std.specs.Prelude.{slice_index_or, slice_set}
-use Rattle.std.specs.List.{filter, list_all, range_with_len}
+use Rattle.std.specs.List.{filter, list_all, list_any, range_with_len}
 use Rattle.std.specs.Option.{option_map}
-use Rattle.std.proofs.lemmas.Bool.{cases_eq, false≢true}
-use Rattle.std.proofs.lemmas.List.{ext_get_or, get_or-set_other, set-get_or}
-use Rattle.kheap_slabs.specs.Objects.{object, put}
+use Rattle.std.proofs.lemmas.Bool.{cases_eq, cases_lt, false≢true}
+use Rattle.std.proofs.lemmas.List.{ext_get_or, get_or-set_other, get_or_past, length-replicate, set-get_or}
+use Rattle.kheap_slabs.specs.Objects.{object}
 use Rattle.kheap_slabs.specs.declared.objects.Descriptor.{Descriptor as HeldDescriptor}
 use Rattle.kheap_slabs.specs.declared.objects.Proc.{Proc}
 use Rattle.kheap_slabs.specs.Heap.{Heap, IsWellFormed}
+use Rattle.kheap_slabs.specs.Leaves.{group_of, no_row, place_of, row_at}
+use Rattle.kheap_laws.proofs.LeafLemmas.{numbers_by-leaf, numbers_by-length}
 use Rattle.open_laws.specs.Open.{descriptor_by}
 use Rattle.open_laws.specs.Placed.{Numbers}
 use Rattle.posix_defs.specs.Files.Closing.{after_close, after_closes, after_end_of, after_exec_of}
 use Rattle.posix_defs.specs.Files.Descriptors.{has_cloexec, is_cloexec}
 use Rattle.posix_defs.specs.Files.State.{Files, descriptors_of}
 use Rattle.kabi_types.specs.Arguments.{most_descriptors}
-use Rattle.proc_table.proofs.NumberLemmas.{numbers_all}
-use Rattle.proc_table.specs.Procs.{no_descriptors, numbers_in, with_numbers}
+use Rattle.desc_table.specs.Copying.{no_leaves}
+use Rattle.proc_table.specs.Procs.{OpensNone, numbers_in}
 use Rattle.proc_table.specs.Table.{TableView, key_of}
+use Rattle.proc_table.proofs.NumberLemmas.{none_numbers}
 use Rattle.proc_table.proofs.PlaceLemmas.{some_same}
-use Rattle.proc_numbers.specs.Having.{AreListed, HaveOpen}
+use Rattle.proc_numbers.specs.Having.{AreListed, HaveOpen, places_in}
 use Rattle.proc_numbers.specs.Naming.{named_at, places_of}
 use Rattle.proc_numbers.proofs.AllClose.{end_of_none}
-use Rattle.proc_numbers.proofs.Listing.{put_same}
+use Rattle.proc_numbers.proofs.Listing.{found_before, put_same}
+use Rattle.proc_numbers.proofs.NumberCloses.{unopened}
 use Rattle.proc_numbers.proofs.NumberNames.{descriptor_at_is}
+use Rattle.proc_numbers.proofs.PlacedLeaves.{none_opens}
 use Rattle.proc_files.specs.Closing.{ChangesHolding, ClosesHolding}
 use Rattle.proc_files.proofs.Changing.{holding, holding_then}
 use Rattle.proc_files.proofs.Finding.{IsAt}
@@ -94,9 +99,10 @@ unchanged : (h : Heap) (kept : TableView) (pid : ℕ) → IsAt h kept pid → Ch
 unchanged h kept pid it = record {
   key = it.key;
   proc = it.proc;
-  places = numbers_in h it.proc;
+  now = it.proc;
   named = it.named;
   there = it.there;
+  same = refl;
   procs = sym (ap (slice_set h.procs it.key) (sym it.there) ∙ set-get_or h.procs it.key None);
   beside = refl;
 }
@@ -112,17 +118,19 @@ marked_closes old new kept pid fd closes =
       changes = record {
         key = one.key;
         proc = one.proc;
-        places = slice_set (numbers_in old one.proc) fd None;
-        named = one.named;
-        there = one.there;
-        procs = ap (λ (h : Heap). h.procs) closes.caches ∙ one.procs;
+        now = one.now;
+        named = one.turns.found;
+        there = one.turns.there;
+        same = one.turns.same;
+        procs = ap (λ (h : Heap). h.procs) closes.caches ∙ one.turns.procs;
         beside = ap (λ (h : Heap). holding h new) closes.caches ∙ ap (λ (h : Heap). holding h new) one.beside;
       };
-      becomes = refl;
+      becomes = ap (λ (h : Heap). numbers_in h one.now) closes.caches ∙ one.numbers;
     }
 
 pub marked_begins : (h : Heap) (kept : TableView) (pid : ℕ) (test : ℕ → Bool) → IsAt h kept pid → ClosesMarked h h kept pid test 0
-marked_begins h kept pid test it = record { changes = unchanged h kept pid it; closed = λ fd below. absurd (omega (arith, below)) }
+unfolding unchanged
+marked_begins h kept pid test it = record { changes = unchanged h kept pid it; closed = λ fd below. absurd (omega (arith, below)); fewer = λ fd none. none }
 
 emptied : {X : Type 0} (xs : List (Option X)) (i : ℕ) → get_or (set xs i None) i None ≡ None
 emptied [] i = refl
@@ -131,75 +139,161 @@ emptied (x ∷ xs) (suc i) = emptied xs i
 
 pub marked_more : (old mid new : Heap) (kept : TableView) (pid fd : ℕ) (test : ℕ → Bool) → ClosesMarked old mid kept pid test fd → ClosesIf mid new kept pid fd (test fd) → ClosesMarked old new kept pid test (suc fd)
 marked_more old mid new kept pid fd test first second =
-    let was : Proc = with_numbers first.changes.proc first.changes.places in
     let same_key : second.changes.key ≡ first.changes.key = some_same (key_of kept.listed pid) second.changes.key first.changes.key second.changes.named first.changes.named in
-    let at : object mid.procs first.changes.key ≡ Some was =
-    ap (λ objects. object objects first.changes.key) first.changes.procs ∙ put_same old.procs first.changes.key first.changes.proc was first.changes.there refl in
-    let same_proc : second.changes.proc ≡ was = some_same (object mid.procs first.changes.key) second.changes.proc was (ap (object mid.procs) (sym same_key) ∙ second.changes.there) at in
-    let becomes : second.changes.places ≡ cond (test fd) (slice_set first.changes.places fd None) first.changes.places =
+    let at : object mid.procs first.changes.key ≡ Some first.changes.now =
+    ap (λ objects. object objects first.changes.key) first.changes.procs
+    ∙ put_same old.procs first.changes.key first.changes.proc first.changes.now first.changes.there (ap (λ (p : Proc). p.pid) first.changes.same) in
+    let same_proc : second.changes.proc ≡ first.changes.now = some_same (object mid.procs first.changes.key) second.changes.proc first.changes.now (ap (object mid.procs) (sym same_key) ∙ second.changes.there) at in
+    let becomes : numbers_in new second.changes.now ≡ cond (test fd) (slice_set (numbers_in mid first.changes.now) fd None) (numbers_in mid first.changes.now) =
     second.becomes ∙ ap (λ (p : Proc). cond (test fd) (slice_set (numbers_in mid p) fd None) (numbers_in mid p)) same_proc in
     record {
       changes = holding_then old mid new kept pid first.changes second.changes;
       closed = λ n below picked. ap (λ places. slice_index_or places n None) becomes ∙ elim (cases_eq n fd) [
         | inl same ↦
-            ap (λ b. slice_index_or (cond b (slice_set first.changes.places fd None) first.changes.places) n None) (sym (ap test same) ∙ picked)
-            ∙ ap (λ k. slice_index_or (slice_set first.changes.places fd None) k None) same ∙ emptied first.changes.places fd
+            ap (λ b. slice_index_or (cond b (slice_set (numbers_in mid first.changes.now) fd None) (numbers_in mid first.changes.now)) n None) (sym (ap test same) ∙ picked)
+            ∙ ap (λ k. slice_index_or (slice_set (numbers_in mid first.changes.now) fd None) k None) same ∙ emptied (numbers_in mid first.changes.now) fd
         | inr apart ↦ by_test (test fd) n apart (first.closed n (omega (arith, below, apart)) picked)
+      ];
+      fewer = λ n none. ap (λ places. slice_index_or places n None) becomes ∙ elim (cases_eq n fd) [
+        | inl same ↦ here (test fd) n same (first.fewer n none)
+        | inr apart ↦ by_test (test fd) n apart (first.fewer n none)
       ];
     }
   where
-    by_test : (b : Bool) (n : ℕ) → n ≢ fd → slice_index_or first.changes.places n None ≡ None → slice_index_or (cond b (slice_set first.changes.places fd None) first.changes.places) n None ≡ None
-    by_test true n apart none = get_or-set_other first.changes.places fd n None None apart ∙ none
+    by_test : (b : Bool) (n : ℕ) → n ≢ fd → slice_index_or (numbers_in mid first.changes.now) n None ≡ None
+        → slice_index_or (cond b (slice_set (numbers_in mid first.changes.now) fd None) (numbers_in mid first.changes.now)) n None ≡ None
+    by_test true n apart none = get_or-set_other (numbers_in mid first.changes.now) fd n None None apart ∙ none
     by_test false n apart none = none
 
-none_in : (n i : ℕ) → get_or (replicate {A = Option HeldDescriptor} n None) i None ≡ None
-none_in zero i = refl
-none_in (suc n) zero = refl
-none_in (suc n) (suc i) = none_in n i
+    here : (b : Bool) (n : ℕ) → n ≡ fd → slice_index_or (numbers_in mid first.changes.now) n None ≡ None
+        → slice_index_or (cond b (slice_set (numbers_in mid first.changes.now) fd None) (numbers_in mid first.changes.now)) n None ≡ None
+    here true n same none = ap (λ k. slice_index_or (slice_set (numbers_in mid first.changes.now) fd None) k None) same ∙ emptied (numbers_in mid first.changes.now) fd
+    here false n same none = none
 
-pub each_closed : (old new : Heap) (kept : TableView) (pid : ℕ) (test : ℕ → Bool) → ((fd : ℕ) → fd < most_descriptors → test fd ≡ true) → IsWellFormed new → ClosesMarked old new kept pid test most_descriptors → ClosesEach old new kept pid
-each_closed old new kept pid test all whole it =
-    let now : Proc = with_numbers it.changes.proc it.changes.places in
-    let at : object new.procs it.changes.key ≡ Some now =
-    ap (λ objects. object objects it.changes.key) it.changes.procs ∙ put_same old.procs it.changes.key it.changes.proc now it.changes.there refl in
-    let long : length it.changes.places ≡ most_descriptors = numbers_all new it.changes.key now whole at in
+-- a number that isn't open is none of the process's in its Proc either
+none_at : (h : Heap) (kept : TableView) (pid key fd : ℕ) (proc : Proc) → AreListed h kept → key_of kept.listed pid ≡ Some key → object h.procs key ≡ Some proc → named_at h kept pid fd ≡ None
+    → slice_index_or (numbers_in h proc) fd None ≡ None
+none_at h kept pid key fd proc listed named there none =
+    sym (ap (λ o. slice_index_or (places_in (numbers_in h) o) fd None) (found_before h.procs key proc proc there refl kept.listed pid listed.stored named)) ∙ none
+
+-- and stays so
+pub closed_rest : (old new : Heap) (kept : TableView) (pid fd below : ℕ) (test : ℕ → Bool) → AreListed old kept → AreListed new kept → ClosesMarked old new kept pid test below → named_at old kept pid fd ≡ None
+    → named_at new kept pid fd ≡ None
+closed_rest old new kept pid fd below test listed then it none =
+    let at : object new.procs it.changes.key ≡ Some it.changes.now =
+    ap (λ objects. object objects it.changes.key) it.changes.procs ∙ put_same old.procs it.changes.key it.changes.proc it.changes.now it.changes.there (ap (λ (p : Proc). p.pid) it.changes.same) in
+    ap (λ o. slice_index_or (places_in (numbers_in new) o) fd None) (found_before new.procs it.changes.key it.changes.now it.changes.now at refl kept.listed pid then.stored it.changes.named)
+    ∙ it.fewer fd (none_at old kept pid it.changes.key fd it.changes.proc listed it.changes.named it.changes.there none)
+
+pub each_closed : (old new : Heap) (kept : TableView) (pid below : ℕ) (test : ℕ → Bool) → ((fd : ℕ) → fd < most_descriptors → test fd ≡ true) → IsWellFormed new → AreListed old kept → AreListed new kept
+    → ((fd : ℕ) → below ≤ fd → named_at old kept pid fd ≡ None) → ClosesMarked old new kept pid test below → ClosesEach old new kept pid
+each_closed old new kept pid below test all whole listed then rest it =
+    let at : object new.procs it.changes.key ≡ Some it.changes.now =
+    ap (λ objects. object objects it.changes.key) it.changes.procs ∙ put_same old.procs it.changes.key it.changes.proc it.changes.now it.changes.there (ap (λ (p : Proc). p.pid) it.changes.same) in
     record {
       changes = it.changes;
-      none = ext_get_or None it.changes.places no_descriptors long
-          (λ i within. it.closed i (omega (arith, within, long)) (all i (omega (arith, within, long))) ∙ sym (none_in most_descriptors i));
+      none = none_opens new kept pid it.changes.key it.changes.now whole then it.changes.named at (λ fd within. elim (cases_lt fd below) [
+        | inl less ↦ it.closed fd less (all fd within)
+        | inr least ↦ it.fewer fd (none_at old kept pid it.changes.key fd it.changes.proc listed it.changes.named it.changes.there (rest fd least))
+      ]);
     }
+
+-- ---- the numbers behind those that are looked at
+
+either : {X : Type 0} (b : Bool) (x y : X) → x ≡ y → cond b x y ≡ y
+either true x y same = same
+either false x y same = refl
+
+behind : (test : ℕ → Bool) (files : Files) (pid below n : ℕ)
+    → ((fd : ℕ) → below ≤ fd → cond (test fd) (after_close (closed_where test files pid below) pid fd) (closed_where test files pid below) ≡ closed_where test files pid below)
+    → closed_where test files pid (n + below) ≡ closed_where test files pid below
+behind test files pid below zero same = refl
+behind test files pid below (suc n) same =
+    ap (λ f. cond (test (n + below)) (after_close f pid (n + below)) f) (behind test files pid below n same) ∙ same (n + below) (omega arith)
+
+-- where they aren't open, closing them changes nothing
+pub where_rest : (test : ℕ → Bool) (files : Files) (pid below : ℕ) → below ≤ most_descriptors
+    → ((fd : ℕ) → below ≤ fd → cond (test fd) (after_close (closed_where test files pid below) pid fd) (closed_where test files pid below) ≡ closed_where test files pid below)
+    → closed_where test files pid below ≡ closed_where test files pid most_descriptors
+where_rest test files pid below within same =
+    sym (behind test files pid below (most_descriptors - below) same) ∙ ap (closed_where test files pid) (let all : most_descriptors - below + below ≡ most_descriptors = omega (arith, within) in all)
+
+pub end_rest : (numbers : Numbers) (old new : Heap) (kept : TableView) (files : Files) (pid below : ℕ) (test : ℕ → Bool) → ((fd : ℕ) → fd < most_descriptors → test fd ≡ true) → below ≤ most_descriptors
+    → AreListed old kept → AreListed new kept → ((fd : ℕ) → below ≤ fd → named_at old kept pid fd ≡ None) → ClosesMarked old new kept pid test below → HaveOpen numbers new kept (closed_where test files pid below)
+    → closed_where test files pid below ≡ after_end_of files pid
+end_rest numbers old new kept files pid below test all within listed then rest it have =
+    where_rest test files pid below within
+    (λ fd least. either (test fd) (after_close (closed_where test files pid below) pid fd) (closed_where test files pid below)
+    (unopened numbers new kept (closed_where test files pid below) pid fd (closed_rest old new kept pid fd below test listed then it (rest fd least)) have))
+    ∙ end_is test files pid all
+
+pub exec_rest : (test : ℕ → Bool) (numbers : Numbers) (h : Heap) (kept : TableView) (files : Files) (pid below : ℕ) → below ≤ most_descriptors
+    → ((fd : ℕ) → fd < below → test fd ≡ goes_at_exec (places_of h kept pid) fd) → ((fd : ℕ) → below ≤ fd → test fd ≡ false) → ((fd : ℕ) → below ≤ fd → named_at h kept pid fd ≡ None)
+    → HaveOpen numbers h kept files → closed_where test files pid below ≡ after_exec_of files pid
+exec_rest test numbers h kept files pid below within picks others rest have =
+    where_rest test files pid below within
+    (λ fd least. ap (λ b. cond b (after_close (closed_where test files pid below) pid fd) (closed_where test files pid below)) (others fd least))
+    ∙ exec_is test numbers h kept files pid
+    (λ fd most. elim (cases_lt fd below) [
+      | inl less ↦ picks fd less
+      | inr least ↦ others fd least ∙ sym (ap has_mark (rest fd least))
+    ]) have
 
 -- ---- where nothing is open
 
-pub each_none : (h : Heap) (kept : TableView) (pid : ℕ) → IsAt h kept pid → places_of h kept pid ≡ no_descriptors → ClosesEach h h kept pid
-each_none h kept pid it none =
-    let same : (numbers_in h it.proc) ≡ no_descriptors = sym it.places ∙ none in
-    record {
-      changes = record {
-        key = it.key;
-        proc = it.proc;
-        places = no_descriptors;
-        named = it.named;
-        there = it.there;
-        procs =
-            sym (ap (λ (places : List (Option HeldDescriptor)). put h.procs it.key (with_numbers it.proc places)) (sym same)
-            ∙ ap (slice_set h.procs it.key) (sym it.there) ∙ set-get_or h.procs it.key None);
-        beside = refl;
-      };
-      none = refl;
-    }
+pub each_none : (h : Heap) (kept : TableView) (pid : ℕ) (it : IsAt h kept pid) → OpensNone it.proc → ClosesEach h h kept pid
+unfolding unchanged
+each_none h kept pid it none = record { changes = unchanged h kept pid it; none = none }
 
-all_none : (places : List (Option HeldDescriptor)) → list_all is_none places ≡ true → (fd : ℕ) → get_or places fd None ≡ None
-all_none [] all fd = refl
-all_none (None ∷ places) all zero = refl
-all_none (Some place ∷ places) all zero = absurd (false≢true all)
-all_none (None ∷ places) all (suc fd) = all_none places all fd
-all_none (Some place ∷ places) all (suc fd) = absurd (false≢true all)
+nothing_in : (n i : ℕ) → get_or (replicate {A = Option HeldDescriptor} n None) i None ≡ None
+nothing_in zero i = refl
+nothing_in (suc n) zero = refl
+nothing_in (suc n) (suc i) = nothing_in n i
 
-pub none_named : (places : List (Option HeldDescriptor)) → length places ≡ most_descriptors → list_all is_none places ≡ true → places ≡ no_descriptors
-none_named places long all = ext_get_or None places no_descriptors long (λ i within. all_none places all i ∙ sym (none_in most_descriptors i))
+pub ends_same : (numbers : Numbers) (h : Heap) (kept : TableView) (files : Files) (pid : ℕ) (it : IsAt h kept pid) → OpensNone it.proc → HaveOpen numbers h kept files → after_end_of files pid ≡ files
+ends_same numbers h kept files pid it none have =
+    end_of_none numbers h kept files pid (λ fd. ap (λ places. slice_index_or places fd None) (it.places ∙ none_numbers h it.proc none) ∙ nothing_in most_descriptors fd) have
 
-pub ends_same : (numbers : Numbers) (h : Heap) (kept : TableView) (files : Files) (pid : ℕ) → AreListed h kept → (it : IsAt h kept pid) → list_all is_none (places_of h kept pid) ≡ true → HaveOpen numbers h kept files
-    → after_end_of files pid ≡ files
-ends_same numbers h kept files pid listed it all have =
-    end_of_none numbers h kept files pid it.key it.proc listed it.named it.there (ap (list_all is_none) (sym it.places) ∙ all) have
+-- it has none of the first ones and no Leaf
+pub none_here : (proc : Proc) → length proc.descriptors ≡ 32 → length proc.leaves ≡ 3 → list_all is_none proc.descriptors ≡ true → list_any is_some proc.leaves ≡ false → OpensNone proc
+none_here proc long three all none = (
+  ext_get_or None proc.descriptors no_row (long ∙ sym (length-replicate {A = Option HeldDescriptor} 32 None)) (λ i within. all_none proc.descriptors all i ∙ sym (nothing_in 32 i)),
+  no_more proc.leaves three none,
+)
+  where
+    all_none : (places : List (Option HeldDescriptor)) → list_all is_none places ≡ true → (fd : ℕ) → get_or places fd None ≡ None
+    all_none [] all fd = refl
+    all_none (None ∷ places) all zero = refl
+    all_none (Some place ∷ places) all zero = absurd (false≢true all)
+    all_none (None ∷ places) all (suc fd) = all_none places all fd
+    all_none (Some place ∷ places) all (suc fd) = absurd (false≢true all)
+
+    no_more : (keys : List (Option ℕ)) → length keys ≡ 3 → list_any is_some keys ≡ false → keys ≡ no_leaves
+    no_more [] three none = absurd (omega (arith, three))
+    no_more (one ∷ []) three none = absurd (omega (arith, three))
+    no_more (one ∷ two ∷ []) three none = absurd (omega (arith, three))
+    no_more (None ∷ None ∷ None ∷ []) three none = refl
+    no_more (Some key ∷ two ∷ last ∷ []) three none = absurd (false≢true (sym none))
+    no_more (None ∷ Some key ∷ last ∷ []) three none = absurd (false≢true (sym none))
+    no_more (None ∷ None ∷ Some key ∷ []) three none = absurd (false≢true (sym none))
+    no_more (one ∷ two ∷ last ∷ more ∷ keys) three none = absurd (omega (arith, three))
+
+-- and so none of its numbers behind the first ones is open, where it has no Leaf
+pub rest_none : (h : Heap) (proc : Proc) (fd : ℕ) → IsWellFormed h → length proc.descriptors ≡ 32 → length proc.leaves ≡ 3 → list_any is_some proc.leaves ≡ false → 32 ≤ fd
+    → slice_index_or (numbers_in h proc) fd None ≡ None
+rest_none h proc fd whole long three none least = elim (cases_lt fd 128) [
+  | inl most ↦
+      numbers_by-leaf h.leaves proc.descriptors proc.leaves fd whole.leaf_rows long three least most
+      ∙ (ap (λ k. slice_index_or (row_at h.leaves k) (place_of fd) None) (without (group_of fd) proc.leaves none) ∙ nothing_in 32 (place_of fd))
+  | inr past ↦ get_or_past (numbers_in h proc) fd None (let many = numbers_by-length h.leaves proc.descriptors proc.leaves whole.leaf_rows long three in omega (arith, many, past))
+]
+  where
+    without : (i : ℕ) (keys : List (Option ℕ)) → list_any is_some keys ≡ false → slice_index_or keys i None ≡ None
+    without i [] none = refl
+    without zero (None ∷ keys) none = refl
+    without (suc i) (None ∷ keys) none = without i keys none
+    without i (Some key ∷ keys) none = absurd (false≢true (sym none))
+
+pub both_true : (one other : Bool) → (not one && other) ≡ true → (one ≡ false) × (other ≡ true)
+both_true true other is = absurd (false≢true is)
+both_true false other is = (refl, is)

@@ -3,8 +3,8 @@ use Rattle.std.proofs.Common.{◌≡◌, ℕ, IsSome, Option, None, Some, refl, 
 use Rattle.kheap_slabs.specs.Objects.{object}
 use Rattle.kheap_slabs.specs.declared.objects.Proc.{Proc}
 use Rattle.kheap_slabs.specs.Heap.{Heap}
-use Rattle.proc_table.specs.Procs.{numbers_in}
-use Rattle.proc_table.specs.Table.{TableView, key_of}
+use Rattle.proc_table.specs.Procs.{numbers_in, proc_of}
+use Rattle.proc_table.specs.Table.{TableView, key_of, processes}
 use Rattle.proc_numbers.specs.Having.{AreListed, places_in}
 use Rattle.proc_numbers.specs.Naming.{places_of}
 use Rattle.proc_numbers.proofs.Listing.{found_before}
@@ -18,6 +18,7 @@ pub record IsAt (h : Heap) (kept : TableView) (pid : ℕ) : Type 0 where
   pub proc : Proc
   pub named : key_of kept.listed pid ≡ Some key
   pub there : object h.procs key ≡ Some proc
+  pub found : proc_of (processes h kept) pid ≡ Some proc
   pub places : places_of h kept pid ≡ (numbers_in h proc)
 
 pub is_at : (h : Heap) (kept : TableView) (pid : ℕ) → AreListed h kept → IsSome (key_of kept.listed pid) → IsAt h kept pid
@@ -32,5 +33,6 @@ is_at h kept pid listed there = by_key (key_of kept.listed pid) refl there
           proc = it.0;
           named = named;
           there = it.1;
+          found = found_before h.procs key it.0 it.0 it.1 refl kept.listed pid listed.stored named;
           places = ap (places_in (numbers_in h)) (found_before h.procs key it.0 it.0 it.1 refl kept.listed pid listed.stored named);
         }

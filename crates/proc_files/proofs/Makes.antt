@@ -22,7 +22,7 @@ use Rattle.kheap_slabs.specs.Paid.{AreFills, HasFills}
 use Rattle.kheap_slabs.specs.Owners.{pipe_queues, sock_queues, spaces_of}
 use Rattle.open_laws.specs.Described.{AreDescribed, CountedList, access_in, counted_in, uncounted}
 use Rattle.open_laws.specs.Open.{AreOpen, descriptor_by, descriptors_by}
-use Rattle.open_laws.specs.Owned.{CountsItsNames, HasItsOwners, IsHeldOpen, IsThereFor, desc_count, desc_count_at, has_read_end, has_write_end, namings_of, sock_in, socks_named}
+use Rattle.open_laws.specs.Owned.{CountsItsNames, HasItsOwners, IsHeldOpen, IsThereFor, all_namings, desc_count, desc_count_at, has_read_end, has_write_end, sock_in, socks_named}
 use Rattle.open_laws.proofs.DropLemmas.{piped_on, socketed_on}
 use Rattle.open_laws.proofs.OwnerLemmas.{named_by, names}
 use Rattle.pipe_ends.proofs.StandingLemmas.{stands_same as pipe_stands_same}
@@ -79,7 +79,7 @@ module _ (old new : Heap) (key node : ℕ) (flags : ℤ) (makes : MakesDesc old 
   is_it other found same at = some_same (object new.descs key) found desc (ap (object new.descs) (sym same) ∙ at) here_now
 
   pub made_listed : (kept : TableView) → AreListed old kept → AreListed new kept
-  made_listed kept listed = listed_on old new kept (ap (λ (h : Heap). h.procs) makes.kept) listed
+  made_listed kept listed = listed_on old new kept (ap (λ (h : Heap). h.procs) makes.kept) (ap (λ (h : Heap). h.leaves) makes.kept) listed
 
   named_now : (hand : List ℕ) → CountsItsNames old hand → CountsItsNames new (key ∷ hand)
   named_now hand named = record {
@@ -87,7 +87,7 @@ module _ (old new : Heap) (key node : ℕ) (flags : ℤ) (makes : MakesDesc old 
         let one = made_named old.descs key desc makes.vacant makes.within other in
         let in_new : desc_count_at new.descs other ≡ desc_count_at (put old.descs key desc) other = ap (λ d. desc_count_at d other) descs_are in
         let before = named.counts other in
-        let in_procs : namings_of new.procs other ≡ namings_of old.procs other = ap (λ (h : Heap). namings_of h.procs other) makes.kept in
+        let in_procs : all_namings new other ≡ all_namings old other = ap (λ (h : Heap). all_namings h other) makes.kept in
         let more = count_cons (λ k. k == other) key hand in
         omega (arith, one, in_new, before, in_procs, more);
     named = λ other used. elim (cases_eq other key) [
@@ -200,7 +200,7 @@ module _ (old new : Heap) (key node : ℕ) (flags : ℤ) (makes : MakesDesc old 
 
 -- a purse that spends a Desc keeps what it has filled
 pub spent_fills : (old new : Heap) (before after : Purse) → new.vnodes ≡ old.vnodes → new.names ≡ old.names → new.blocks ≡ old.blocks
-    → after ≡ record before { left = with_count before.left class.Desc (before.left.desc - 1) } → HasFills old before → HasFills new after
+    → after ≡ record before { left = with_count (with_count before.left class.Desc (before.left.desc - 1)) class.Leaf after.left.leaf } → HasFills old before → HasFills new after
 spent_fills old new before after vnodes names blocks spent fills =
     subst (HasFills new) (sym spent)
     (record {

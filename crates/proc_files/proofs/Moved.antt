@@ -89,7 +89,7 @@ module _ (old new : Heap) (key : ℕ) (desc : Desc) (offset : ℕ) (is : object 
   moved_owners hand owners = subst (λ (h : Heap). HasItsOwners h hand) (sym e) (owners_moved old key desc offset is hand owners)
 
   pub moved_listed : (kept : TableView) → AreListed old kept → AreListed new kept
-  moved_listed kept listed = listed_on old new kept (ap (λ (h : Heap). h.procs) e) listed
+  moved_listed kept listed = listed_on old new kept (ap (λ (h : Heap). h.procs) e) (ap (λ (h : Heap). h.leaves) e) listed
 
   pub moved_kept : (kept : TableView) → IsKept old kept → IsKept new kept
   moved_kept kept was = record {

@@ -5,7 +5,7 @@ use Rattle.kheap_slabs.specs.Heap.{Heap}
 use Rattle.posix_defs.specs.Files.Closing.{after_close}
 use Rattle.posix_defs.specs.Files.Descriptions.{Description, description_at}
 use Rattle.posix_defs.specs.Files.State.{Files}
-use Rattle.proc_table.specs.Procs.{no_descriptors, numbers_in}
+use Rattle.proc_table.specs.Procs.{OpensNone, numbers_in}
 use Rattle.proc_table.specs.Table.{TableView}
 use Rattle.proc_files.specs.Closing.{ChangesHolding}
 use Rattle.proc_files.specs.Holders.{openings}
@@ -40,14 +40,15 @@ closed_where test files pid (suc fd) = if test fd then after_close (closed_where
 -- a number is open no more, if it is marked
 pub record ClosesIf (old new : Heap) (kept : TableView) (pid fd : ℕ) (marked : Bool) : Type 0 where
   pub changes : ChangesHolding old new kept pid
-  pub becomes : changes.places ≡ (if marked then slice_set (numbers_in old changes.proc) fd None else numbers_in old changes.proc)
+  pub becomes : numbers_in new changes.now ≡ (if marked then slice_set (numbers_in old changes.proc) fd None else numbers_in old changes.proc)
 
--- of the numbers below one those are open no more that a test picks
+-- of the numbers below one those are open no more that a test picks, and none is that wasn't
 pub record ClosesMarked (old new : Heap) (kept : TableView) (pid : ℕ) (test : ℕ → Bool) (below : ℕ) : Type 0 where
   pub changes : ChangesHolding old new kept pid
-  pub closed : (fd : ℕ) → fd < below → test fd ≡ true → slice_index_or changes.places fd None ≡ None
+  pub closed : (fd : ℕ) → fd < below → test fd ≡ true → slice_index_or (numbers_in new changes.now) fd None ≡ None
+  pub fewer : (fd : ℕ) → slice_index_or (numbers_in old changes.proc) fd None ≡ None → slice_index_or (numbers_in new changes.now) fd None ≡ None
 
 -- none is open any more
 pub record ClosesEach (old new : Heap) (kept : TableView) (pid : ℕ) : Type 0 where
   pub changes : ChangesHolding old new kept pid
-  pub none : changes.places ≡ no_descriptors
+  pub none : OpensNone changes.now

@@ -1,8 +1,9 @@
 //! What a process has open is closed at its end, and by `exec`.
 
-ghost use Rattle.std.specs.Prelude.{◌≡◌, ◌<◌, ◌≤◌, ℕ, [], false, if◌then◌else◌, is_none, length, true};
-ghost use Rattle.std.specs.List.{list_all};
+ghost use Rattle.std.specs.Prelude.{◌≡◌, ◌<◌, ◌≤◌, ℕ, [], None, Some, false, if◌then◌else◌, is_none, is_some, length, true};
+ghost use Rattle.std.specs.List.{list_all, list_any};
 ghost use Rattle.kheap_slabs.specs.Paid.{IsPaid};
+ghost use Rattle.kheap_slabs.specs.declared.objects.Proc.{Proc as HeldProc};
 ghost use Rattle.memfs_ops.specs.Closing.{KeepsCached};
 ghost use Rattle.open_laws.specs.Owned.{HasItsOwners};
 ghost use Rattle.open_laws.specs.Placed.{Numbers};
@@ -10,10 +11,10 @@ ghost use Rattle.posix_defs.specs.Files.Closing.{after_close, after_end_of, afte
 ghost use Rattle.posix_defs.specs.Files.State.{Files};
 ghost use Rattle.posix_defs.specs.Reaching.{ends_node};
 ghost use Rattle.kabi_types.specs.Arguments.{most_descriptors};
-ghost use Rattle.proc_table.specs.Procs.{no_descriptors};
-ghost use Rattle.proc_table.specs.Table.{IsPlaced};
+ghost use Rattle.proc_table.specs.Procs.{OpensNone, proc_of};
+ghost use Rattle.proc_table.specs.Table.{IsPlaced, processes};
 ghost use Rattle.proc_numbers.specs.Having.{AreListed};
-ghost use Rattle.proc_numbers.specs.Naming.{places_of};
+ghost use Rattle.proc_numbers.specs.Naming.{named_at, places_of};
 ghost use Rattle.proc_numbers.specs.Queues.{QueuesStand};
 ghost use Rattle.proc_files.specs.Closing.{ChangesHolding, MayClose};
 ghost use Rattle.proc_files.specs.Holders.{openings};
@@ -23,10 +24,10 @@ ghost use Rattle.proc_files.specs.NameHolding.{HoldNames, HoldSomeNames};
 use crate::closing::close_at;
 use crate::nodes::is_well_formed;
 use bound_table::BoundTable;
+use desc_table::descriptor_of;
 use kabi_types::MOST_DESCRIPTORS;
 use kheap_slabs::{Descriptor, KHeap, Purse};
 use memfs_ops::FileTree;
-use proc_numbers::places_of;
 use proc_table::{Place, ProcTable};
 
 /// A process has nothing open any more: it closes all its numbers, the lowest first, as one does that ends. A file without links
@@ -70,7 +71,8 @@ pub fn close_each(
         return;
     }
     let marks = all_marks();
-    close_marked(heap, purse, procs, tree, names, place, &marks);
+    let below = reach_of(heap, procs, place);
+    close_marked(heap, purse, procs, tree, names, place, &marks, below);
     is_well_formed(heap);
 }
 
@@ -111,20 +113,20 @@ pub fn close_at_exec(
         → tree.new ≡ tree.old }
     ensures cached { KeepsCached tree.old tree.new }
 {
-    let places = places_of(heap, procs, place);
-    let marks = marks_of(&places);
-    close_marked(heap, purse, procs, tree, names, place, &marks);
+    let below = reach_of(heap, procs, place);
+    let marks = marks_of(heap, procs, place, below);
+    close_marked(heap, purse, procs, tree, names, place, &marks, below);
 }
 
 // Whether nothing is open in a process.
 fn has_none_open(heap: &KHeap, procs: &ProcTable, place: Place) -> bool
     requires listed { AreListed heap.now procs.now }
     requires there { IsPlaced procs.now place }
-    ensures all { result ≡ list_all is_none (places_of heap.now procs.now place.pid) }
-    ensures none { result ≡ true → places_of heap.now procs.now place.pid ≡ no_descriptors }
+    ensures { result ≡ true → (proc : HeldProc) → proc_of (processes heap.now procs.now) place.pid ≡ Some proc → OpensNone proc }
 {
-    let places = places_of(heap, procs, place);
-    are_none(&places)
+    is_well_formed(heap);
+    let proc = procs.at(heap, place);
+    !has_leaf(&proc.leaves) && are_none(&proc.descriptors)
 }
 
 fn are_none(places: &[Option<Descriptor>; 32]) -> bool
@@ -133,26 +135,54 @@ fn are_none(places: &[Option<Descriptor>; 32]) -> bool
     places.iter().all(Option::is_none)
 }
 
-// Which of these numbers `exec` closes.
-fn marks_of(places: &[Option<Descriptor>; 32]) -> [bool; 32]
-    ensures { (fd : ℕ) → fd < most_descriptors → is_marked result fd ≡ goes_at_exec places.now fd }
+// Whether one of a process's Leaves is there.
+fn has_leaf(leaves: &[Option<u32>; 3]) -> bool
+    ensures { result ≡ list_any is_some leaves.now }
 {
-    let mut marks = [false; 32];
-    for fd in 0..32 {
-        marks[fd] = closes_at_exec(places[fd]);
+    leaves.iter().any(Option::is_some)
+}
+
+// The number from which on none is open, if not one: without a Leaf that is the first behind those of the Proc.
+fn reach_of(heap: &KHeap, procs: &ProcTable, place: Place) -> u32
+    requires listed { AreListed heap.now procs.now }
+    requires there { IsPlaced procs.now place }
+    ensures within { result ≤ most_descriptors }
+    ensures rest { (fd : ℕ) → result ≤ fd → named_at heap.now procs.now place.pid fd ≡ None }
+{
+    is_well_formed(heap);
+    if has_leaf(&procs.at(heap, place).leaves) {
+        MOST_DESCRIPTORS
+    } else {
+        32
+    }
+}
+
+// Which of the numbers below one `exec` closes.
+fn marks_of(heap: &KHeap, procs: &ProcTable, place: Place, below: u32) -> [bool; 128]
+    requires listed { AreListed heap.now procs.now }
+    requires there { IsPlaced procs.now place }
+    requires within { below ≤ most_descriptors }
+    ensures below { (fd : ℕ) → fd < below → is_marked result fd ≡ goes_at_exec (places_of heap.now procs.now place.pid) fd }
+    ensures behind { (fd : ℕ) → below ≤ fd → is_marked result fd ≡ false }
+{
+    is_well_formed(heap);
+    let proc = procs.at(heap, place);
+    let mut marks = [false; 128];
+    for fd in 0..below {
+        marks[fd as usize] = closes_at_exec(descriptor_of(heap, proc, fd));
     }
     marks
 }
 
 // All numbers are marked.
-fn all_marks() -> [bool; 32]
+fn all_marks() -> [bool; 128]
     ensures { (fd : ℕ) → fd < most_descriptors → is_marked result fd ≡ true }
 {
-    [true; 32]
+    [true; 128]
 }
 
 // Whether a number is marked.
-fn mark_at(marks: &[bool; 32], fd: u32) -> bool
+fn mark_at(marks: &[bool; 128], fd: u32) -> bool
     requires { fd < most_descriptors }
     ensures { result ≡ is_marked marks.now fd }
 {
@@ -169,7 +199,7 @@ fn closes_at_exec(place: Option<Descriptor>) -> bool
     }
 }
 
-// A process closes the numbers that are marked, the lowest first.
+// A process closes the numbers below one that are marked, the lowest first.
 fn close_marked(
     heap: &mut KHeap,
     purse: &mut Purse,
@@ -177,20 +207,22 @@ fn close_marked(
     tree: &mut FileTree,
     names: &mut BoundTable,
     place: Place,
-    marks: &[bool; 32],
+    marks: &[bool; 128],
+    below: u32,
 )
     requires listed { AreListed heap.old procs.now }
     requires owners { HasItsOwners heap.old [] }
     requires there { IsPlaced procs.now place }
     requires hold { HoldSomeNames heap.old procs.now tree.old names.old }
+    requires within { below ≤ most_descriptors }
     requires may { MayClose heap.old purse.old }
     ensures closed { (numbers : Numbers) (others : ℕ → ℕ) (files : Files)
         → HoldNames numbers others heap.old procs.now tree.old names.old files
-        → HoldNames numbers others heap.new procs.now tree.new names.new (closed_where (is_marked marks.now) files place.pid most_descriptors) }
+        → HoldNames numbers others heap.new procs.now tree.new names.new (closed_where (is_marked marks.now) files place.pid below) }
     ensures listed { AreListed heap.new procs.now }
     ensures owners { HasItsOwners heap.new [] }
     ensures hold { HoldSomeNames heap.new procs.now tree.new names.new }
-    ensures closes { ClosesMarked heap.old heap.new procs.now place.pid (is_marked marks.now) most_descriptors }
+    ensures closes { ClosesMarked heap.old heap.new procs.now place.pid (is_marked marks.now) below }
     ensures places { length names.new ≡ length names.old }
     ensures queues { QueuesStand heap.old heap.new }
     ensures same { purse.new ≡ purse.old }
@@ -199,14 +231,14 @@ fn close_marked(
     ensures reads { tree.old.disk.reads ≤ tree.new.disk.reads }
     ensures goes { (numbers : Numbers) (others : ℕ → ℕ) (files : Files)
         → HoldNames numbers others heap.old procs.now tree.old names.old files
-        → OnlyGoes files (closed_where (is_marked marks.now) files place.pid most_descriptors) }
+        → OnlyGoes files (closed_where (is_marked marks.now) files place.pid below) }
     ensures stays { (numbers : Numbers) (others : ℕ → ℕ) (files : Files)
         → HoldNames numbers others heap.old procs.now tree.old names.old files
-        → ((number : ℕ) → openings (closed_where (is_marked marks.now) files place.pid most_descriptors) number ≡ openings files number)
+        → ((number : ℕ) → openings (closed_where (is_marked marks.now) files place.pid below) number ≡ openings files number)
         → tree.new ≡ tree.old }
     ensures cached { KeepsCached tree.old tree.new }
 {
-    for fd in 0..MOST_DESCRIPTORS {
+    for fd in 0..below {
         let marked = mark_at(marks, fd);
         close_if(heap, purse, procs, tree, names, place, fd, marked);
     }

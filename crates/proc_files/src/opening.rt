@@ -1,6 +1,6 @@
 //! `open`.
 
-ghost use Rattle.std.specs.Prelude.{◌≡◌, ◌-◌, ◌<◌, ◌≤◌, ◌^◌, ℕ, ℤ, List, [], ◌∷◌, IfSome, None, OnErr, OnOk, Some, false, true};
+ghost use Rattle.std.specs.Prelude.{◌≡◌, ◌-◌, ◌<◌, ◌≤◌, ◌^◌, ℕ, ℤ, List, [], ◌∷◌, None, OnErr, OnOk, Some, false, true};
 ghost use Rattle.std.specs.List.{All};
 ghost use Rattle.kabi_types.specs.Arguments.{argument_fault, most_descriptors};
 ghost use Rattle.kabi_types.specs.declared.calls.Call.{Call};
@@ -16,8 +16,7 @@ ghost use Rattle.open_laws.specs.Owned.{HasItsOwners};
 ghost use Rattle.open_laws.specs.Placed.{Numbers};
 ghost use Rattle.posix_defs.specs.Calls.OnFiles.{description_for, open_file, opening_of};
 ghost use Rattle.posix_defs.specs.Files.Descriptions.{has_flag, o_cloexec, o_trunc};
-ghost use Rattle.posix_defs.specs.Files.Descriptors.{lowest_free_from};
-ghost use Rattle.posix_defs.specs.Files.State.{Files, descriptors_of, opened_as};
+ghost use Rattle.posix_defs.specs.Files.State.{Files, opened_as};
 ghost use Rattle.posix_defs.specs.Paths.{resolve};
 ghost use Rattle.posix_defs.specs.Plain.{Plain};
 ghost use Rattle.posix_defs.specs.Process.{Table, directory_of};
@@ -34,11 +33,10 @@ ghost use Rattle.proc_files.specs.Holding.{CachesStay, HoldFiles, HoldSome};
 ghost use Rattle.proc_files.specs.Opening.{AnswersAnew, HaveAnew, MakesDesc, WorksSomewhere, desc_on, mode_of};
 
 use crate::nodes::is_well_formed;
-use desc_table::Descs;
 use kabi_types::{Class, Errno, OpenFlags};
 use kheap_slabs::{Access, Desc, DescFlags, Descriptor, KHeap, Purse, Target};
 use memfs_ops::{FileTree, Opening};
-use proc_numbers::{open_one, places_of};
+use proc_numbers::{lowest_from, open_one};
 use proc_table::{Place, ProcTable};
 
 /// The flags of `open` that are the description's and the number's: access modes, O_APPEND, O_NONBLOCK and O_CLOEXEC.
@@ -77,6 +75,7 @@ pub fn open_path(
     requires bytes { All (λ byte. (0 < byte) × (byte < 2 ^ 8)) path.now }
     requires may { MayWalk heap.old purse.old }
     requires left { 0 < purse.old.left.desc }
+    requires left_leaf { 0 < purse.old.left.leaf }
     ensures answers { (numbers : Numbers) (others : ℕ → ℕ) (script : Script) (plain : Plain)
         → IsTable heap.old procs.now plain.table
         → HoldFiles numbers others heap.old procs.now tree.old plain.files
@@ -96,7 +95,7 @@ pub fn open_path(
     ensures kept { (proc : Proc) (plain : Tree) (pins : ℕ → ℕ) → proc_of (processes heap.old procs.now) place.pid ≡ Some proc
         → Stands heap.old tree.old plain pins → OnOk result (KeepsLast tree.new (resolve plain proc.cwd path.now)) }
 {
-    let Some(fd) = lowest_free(heap, procs, place) else {
+    let Some(fd) = lowest_from(heap, procs, place, 0) else {
         return Err(Errno::EMFILE);
     };
     let cwd = directory_of(heap, procs, place);
@@ -140,6 +139,7 @@ fn open_new(
     requires pays { CanPay heap.old purse.old }
     requires fills { HasFills heap.old purse.old }
     requires left { 0 < purse.old.left.desc }
+    requires left_leaf { 0 < purse.old.left.leaf }
     ensures opened { (numbers : Numbers) (files : Files) → HaveOpen numbers heap.old procs.now files
         → HaveAnew numbers heap.old heap.new procs.now (opened_as files place.pid fd (has_flag flags o_cloexec) (description_for node flags)) }
     ensures listed { AreListed heap.new procs.now }
@@ -157,18 +157,6 @@ fn open_new(
         close_on_exec: has_flag(flags, O_CLOEXEC),
     };
     open_one(heap, purse, procs, place, fd, descriptor);
-}
-
-// The lowest number of a process that is free.
-fn lowest_free(heap: &KHeap, procs: &ProcTable, place: Place) -> Option<u32>
-    requires listed { AreListed heap.now procs.now }
-    requires there { IsPlaced procs.now place }
-    ensures lowest { (numbers : Numbers) (files : Files) → HaveOpen numbers heap.now procs.now files
-        → lowest_free_from (descriptors_of files place.pid) 0 ≡ result }
-    ensures free { IfSome result (λ fd. (fd < most_descriptors) × (0 ≤ fd) × (named_at heap.now procs.now place.pid fd ≡ None)) }
-{
-    let descs = Descs::of(places_of(heap, procs, place));
-    descs.lowest(0)
 }
 
 /// The directory that a process works in.

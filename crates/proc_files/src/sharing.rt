@@ -1,8 +1,9 @@
 //! `dup2`.
 
-ghost use Rattle.std.specs.Prelude.{◌≡◌, ◌≤◌, ℕ, [], None, OnErr, length};
+ghost use Rattle.std.specs.Prelude.{◌≡◌, ◌<◌, ◌≤◌, ℕ, [], None, OnErr, length};
 ghost use Rattle.kabi_types.specs.declared.scripts.Script.{Script};
-ghost use Rattle.kheap_slabs.specs.Paid.{CanPay, IsPaid};
+ghost use Rattle.kheap_slabs.specs.Paid.{CanPay};
+ghost use Rattle.desc_table.specs.Copying.{spends_leaves};
 ghost use Rattle.open_laws.specs.Owned.{HasItsOwners};
 ghost use Rattle.open_laws.specs.Placed.{Numbers};
 ghost use Rattle.posix_defs.specs.Calls.OnDescriptors.{dup2};
@@ -12,7 +13,7 @@ ghost use Rattle.proc_numbers.specs.Found.{IsOpened};
 ghost use Rattle.proc_numbers.specs.Having.{AreListed};
 ghost use Rattle.proc_numbers.specs.Queues.{QueuesStand};
 ghost use Rattle.proc_numbers.specs.Answering.{node_replaced, value_of};
-ghost use Rattle.proc_files.specs.Closing.{ChangesHolding, MayClose};
+ghost use Rattle.proc_files.specs.Closing.{ChangesHolding, MayClose, PaysInTurn};
 ghost use Rattle.proc_files.specs.NameAnswering.{AnswersNaming};
 ghost use Rattle.proc_files.specs.NameHolding.{HoldNames, HoldSomeNames};
 
@@ -28,8 +29,8 @@ use proc_table::{Place, ProcTable};
 /// A number of a process names the same description as another, and what it named before is closed, whatever that was open on.
 /// The number. Where both are the same number nothing is changed.
 ///
-/// The purse pays for what a number takes, which is nothing, and what is kept back for closings for the blocks that a close asks
-/// for; both are then as they were. EBADF where the other isn't open, or where a descriptor can't have the number; nothing is
+/// The purse pays for the Leaf of the number, where that isn't there, and what is kept back for closings for the blocks that a close
+/// asks for, and is then as it was. EBADF where the other isn't open, or where a descriptor can't have the number; nothing is
 /// changed then.
 ///
 /// <https://pubs.opengroup.org/onlinepubs/9699919799/functions/dup.html>
@@ -50,6 +51,7 @@ pub fn dup_number(
     requires opened { IsOpened heap.old procs.now place.pid on.now }
     requires hold { HoldSomeNames heap.old procs.now tree.old names.old }
     requires pays { CanPay heap.old purse.old }
+    requires left { 0 < purse.old.left.leaf }
     requires may { MayClose heap.old back.old }
     ensures answers { (numbers : Numbers) (others : ℕ → ℕ) (script : Script) (plain : Plain)
         → HoldNames numbers others heap.old procs.now tree.old names.old plain.files
@@ -61,9 +63,9 @@ pub fn dup_number(
     ensures places { length names.new ≡ length names.old }
     ensures queues { QueuesStand heap.old heap.new }
     ensures unchanged { OnErr result ((heap.new ≡ heap.old) × (tree.new ≡ tree.old) × (names.new ≡ names.old)) }
-    ensures spent { purse.new ≡ purse.old }
+    ensures spent { purse.new ≡ spends_leaves purse.old purse.new }
     ensures same { back.new ≡ back.old }
-    ensures paid { IsPaid heap.old back.old heap.new back.new }
+    ensures paid { PaysInTurn heap.old back.old purse.old heap.new purse.new }
     ensures reads { tree.old.disk.reads ≤ tree.new.disk.reads }
     ensures stays { node_replaced heap.old procs.now place.pid on.now.fd to ≡ None → tree.new ≡ tree.old }
 {

@@ -8,8 +8,10 @@ use Rattle.kheap_laws.proofs.OnceLemmas.{Contains-single}
 use Rattle.kheap_slabs.specs.Objects.{InUse, object}
 use Rattle.kheap_slabs.specs.declared.objects.Proc.{Proc}
 use Rattle.kheap_slabs.specs.Heap.{Heap, empty_heap}
+use Rattle.kheap_slabs.specs.Keys.{IsOnce}
+use Rattle.kheap_slabs.specs.Leaves.{leaf_keys}
 use Rattle.kheap_slabs.specs.Owners.{IsOwned, Owners, OwnsItsObjects, pipe_queues, sock_queues, spaces_of}
-use Rattle.open_laws.specs.Owned.{HasItsOwners, desc_count, namings_in, namings_of}
+use Rattle.open_laws.specs.Owned.{HasItsOwners, all_namings, desc_count, leaf_namings_in, leaf_namings_of, namings_in, namings_of}
 use Rattle.open_laws.proofs.GoingLemmas.{boot_owners, held_open_on}
 use Rattle.proc_table.specs.Moves.{TableMoves}
 use Rattle.proc_table.specs.Procs.{first_proc, no_nodes}
@@ -101,6 +103,12 @@ module _ (bytes : ℕ) (old new : Heap) (kept : TableView) (empty : old ≡ empt
       by_key (inl among) = among
       by_key (inr apart) = absurd (nothing_used (object new.procs other) (outside other apart) used)
 
+  no_leaf : (key : ℕ) → object new.leaves key ≡ None
+  no_leaf key = ap (λ (h : Heap). object h.leaves key) moved.kept ∙ ap (λ (h : Heap). object h.leaves key) empty ∙ no_object (bytes / size class.Leaf) key
+
+  none_inside : (key : ℕ) → Contains (leaf_keys (first_proc ∷ [])) key → ⊥
+  none_inside key there = omega (arith, there.1)
+
   pub boot_listed : AreListed new kept
   boot_listed = record {
     stored = moved.holds.stored;
@@ -109,6 +117,14 @@ module _ (bytes : ℕ) (old new : Heap) (kept : TableView) (empty : old ≡ empt
       used = λ key among. ap is_some (ap (object new.procs) (is_it key among) ∙ its.there);
       listed = listed_if;
       once = λ i j below within same. absurd (let long : length (keys_of kept.listed) ≡ 1 = ap (λ (l : List Place). length (keys_of l)) its.listed in omega (arith, below, within, long));
+    };
+    leaves = record {
+      keys = record {
+        used = λ key among. absurd (none_inside key (subst (λ (p : List Proc). Contains (leaf_keys p) key) first among));
+        listed = λ key used. absurd (nothing_used (object new.leaves key) (no_leaf key) used);
+        once = subst (λ (p : List Proc). IsOnce (leaf_keys p)) (sym first) (λ i j below within same. (omega (arith, within)));
+      };
+      filled = λ key leaf is. absurd (nothing_used (object new.leaves key) (no_leaf key) (ap is_some is));
     };
   }
 
@@ -131,8 +147,8 @@ module _ (bytes : ℕ) (old new : Heap) (kept : TableView) (empty : old ≡ empt
         moved.owners base before.objects.2,
       )
 
-  namings_none : (key : ℕ) → namings_of new.procs key ≡ 0
-  namings_none key = by_sum (namings_of new.procs key) refl
+  procs_none : (key : ℕ) → namings_of new.procs key ≡ 0
+  procs_none key = by_sum (namings_of new.procs key) refl
     where
       by_sum : (n : ℕ) → namings_of new.procs key ≡ n → n ≡ 0
       by_sum zero is = refl
@@ -143,11 +159,23 @@ module _ (bytes : ℕ) (old new : Heap) (kept : TableView) (empty : old ≡ empt
           let some : 0 < namings_in key (Some first_proc) = subst (λ (p : Proc). 0 < namings_in key (Some p)) same adds.adds in
           let none = none_named key in omega (arith, some, none))
 
+  leaves_none : (key : ℕ) → leaf_namings_of new.leaves key ≡ 0
+  leaves_none key = by_sum (leaf_namings_of new.leaves key) refl
+    where
+      by_sum : (n : ℕ) → leaf_namings_of new.leaves key ≡ n → n ≡ 0
+      by_sum zero is = refl
+      by_sum (suc n) is = absurd (
+          let adds = some_adds (leaf_namings_in key) new.leaves refl (omega (arith, is)) in
+          nothing_used (object new.leaves adds.key) (no_leaf adds.key) (ap is_some adds.is))
+
+  namings_none : (key : ℕ) → all_namings new key ≡ 0
+  namings_none key = let procs = procs_none key in let leaves = leaves_none key in omega (arith, procs, leaves)
+
   pub boot_owned : HasItsOwners new []
   boot_owned = record {
     objects = owns_now;
     named = record {
-      counts = λ key. ap desc_count (no_desc key) ∙ sym (let none = namings_none key in let zero : count_by (λ other. other == key) [] ≡ 0 = refl in let e : namings_of new.procs key + count_by (λ other. other == key) [] ≡ 0 = omega (arith, none, zero) in e);
+      counts = λ key. ap desc_count (no_desc key) ∙ sym (let none = namings_none key in let zero : count_by (λ other. other == key) [] ≡ 0 = refl in let e : all_namings new key + count_by (λ other. other == key) [] ≡ 0 = omega (arith, none, zero) in e);
       named = λ key used. absurd (nothing_used (object new.descs key) (no_desc key) used);
     };
     held = held_open_on old new (ap (λ (h : Heap). h.descs) moved.kept) (ap (λ (h : Heap). h.pipes) moved.kept) (ap (λ (h : Heap). h.socks) moved.kept) (ap (λ (h : Heap). h.chunks) moved.kept) before.held;

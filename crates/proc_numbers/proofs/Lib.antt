@@ -5,6 +5,9 @@ pub mod Droppable
 pub mod NumberCloses
 pub mod AllClose
 pub mod NumberOpens
+pub mod NumberParts
+pub mod NumberRooms
+pub mod NumberTurns
 pub mod NumberNames
 pub mod Fronts
 pub mod Changes
@@ -15,6 +18,7 @@ pub mod Made
 pub mod PipeMade
 pub mod PipeAnswers
 pub mod PipeSteps
+pub mod PlacedLeaves
 pub mod Booted
 pub mod NamedOpen
 pub mod OpenedBy

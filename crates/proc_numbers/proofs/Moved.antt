@@ -36,6 +36,9 @@ module _ (old new : Heap) (change : SocketsChange old new []) where
   pub same_procs : new.procs ≡ old.procs
   same_procs = ap (λ (h : Heap). h.procs) change.others.kept
 
+  same_leaves : new.leaves ≡ old.leaves
+  same_leaves = ap (λ (h : Heap). h.leaves) change.others.kept
+
   pub same_nodes : new.nodes ≡ old.nodes
   same_nodes = ap (λ (h : Heap). h.nodes) change.others.kept
 
@@ -57,7 +60,7 @@ module _ (old new : Heap) (change : SocketsChange old new []) where
     holds =
         let owns = change.objects in
         elsewhere_holds old new kept (record is.holds.owned.0 { queues = owns.0.queues }) same_procs (spaces_own (with_procs (processes old kept) is.holds.owned.0) is.holds.owned.1 owns) is.holds;
-    listed = listed_on old new kept same_procs is.listed;
+    listed = listed_on old new kept same_procs same_leaves is.listed;
     owners = owners_change old new [] change is.owners;
   }
 

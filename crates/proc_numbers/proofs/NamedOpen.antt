@@ -10,7 +10,7 @@ use Rattle.kheap_slabs.specs.declared.objects.Proc.{Proc}
 use Rattle.kheap_slabs.specs.Heap.{Heap}
 use Rattle.open_laws.specs.Described.{Counted, CountedList, counted_in}
 use Rattle.open_laws.specs.Open.{AreOpen, descriptor_by, descriptors_by}
-use Rattle.open_laws.specs.Owned.{HasItsOwners, names_desc, namings_in}
+use Rattle.open_laws.specs.Owned.{HasItsOwners, names_desc}
 use Rattle.open_laws.specs.Polled.{IsTargetIn}
 use Rattle.open_laws.proofs.DescribedLemmas.{at_place}
 use Rattle.open_laws.proofs.DropLemmas.{description_in}
@@ -23,6 +23,7 @@ use Rattle.posix_defs.specs.Files.State.{Files, descriptors_of}
 use Rattle.proc_numbers.specs.Having.{AreListed, HaveOpen, places_in}
 use Rattle.proc_numbers.specs.Naming.{named_by}
 use Rattle.proc_numbers.proofs.Listing.{found_before}
+use Rattle.proc_numbers.proofs.NumberParts.{named_part}
 use Rattle.proc_numbers.proofs.Sums.{one_if, part_of_sum}
 use Rattle.proc_table.specs.Procs.{numbers_in, proc_of}
 use Rattle.proc_table.specs.Table.{TableView, key_of, processes}
@@ -55,7 +56,7 @@ module _ (h : Heap) (kept : TableView) (pid key : ℕ) (proc : Proc) (listed : A
       → (desc : Desc) × (object h.descs held.desc ≡ Some desc) × IsTargetIn h desc.target
   desc_there owners fd held is =
       named_there h [] held.desc owners
-      (let some = names_some (numbers_in h proc) fd held is in let part = part_of_sum (namings_in held.desc) h.procs key proc there in omega (arith, some, part))
+      (named_part held.desc h key proc there (names_some (numbers_in h proc) fd held is))
 
   pub descriptors_are : (numbers : Numbers) (files : Files) → HaveOpen numbers h kept files → descriptors_of files pid ≡ descriptors_by numbers.descs (numbers_in h proc)
   descriptors_are numbers files have =

@@ -3,20 +3,20 @@ use Rattle.std.proofs.Common.{◌≡◌, ℕ, zero, suc, ◌<◌, ◌≤◌, ◌
 use Rattle.std.specs.Prelude.{count_by, slice_get, unwrap_or}
 use Rattle.std.specs.List.{list_any}
 use Rattle.std.proofs.lemmas.Bool.Decides.{eqb_tells}
-use Rattle.kheap_slabs.specs.Objects.{InUse, object}
 use Rattle.kheap_slabs.specs.declared.objects.Descriptor.{Descriptor as HeldDescriptor}
 use Rattle.kheap_slabs.specs.declared.objects.Proc.{Proc}
 use Rattle.kheap_slabs.specs.Heap.{Heap}
 use Rattle.open_laws.specs.Open.{descriptors_by}
-use Rattle.open_laws.specs.Owned.{names_desc, namings_in, namings_of}
+use Rattle.open_laws.specs.Owned.{all_namings, names_desc}
 use Rattle.posix_defs.specs.Files.Descriptors.{Descriptors, is_named, names_place, none_open}
 use Rattle.posix_defs.specs.Files.State.{Files}
 use Rattle.proc_table.specs.Procs.{no_descriptors, numbers_in, proc_of}
 use Rattle.proc_table.specs.Table.{TableView, processes}
-use Rattle.proc_table.proofs.PlaceLemmas.{eqb_same, key_of-proc, some_same}
+use Rattle.proc_table.proofs.PlaceLemmas.{eqb_same}
 use Rattle.proc_numbers.specs.Having.{AreListed, HaveDescriptors, places_in}
-use Rattle.proc_numbers.proofs.Listing.{found_by_pid, key_listed, pid_between}
-use Rattle.proc_numbers.proofs.Sums.{count_cons, get_within, none_any, one_any, one_if, or_true, part_of_sum, some_adds}
+use Rattle.proc_numbers.proofs.Listing.{found_by_pid, pid_between}
+use Rattle.proc_numbers.proofs.NumberParts.{named_part, named_whole}
+use Rattle.proc_numbers.proofs.Sums.{count_cons, get_within, none_any, one_any, one_if, or_true}
 
 -- ---- the descriptors of one process
 
@@ -68,7 +68,7 @@ module _ (number : ℕ → ℕ) (h : Heap) (kept : TableView) (files : Files) (k
       → descriptors ≡ descriptors_by number (places_in (numbers_in h) (proc_of (processes h kept) (suc i)))
   each_is i descriptors is = sym (ap (λ o. unwrap_or o none_open) is) ∙ have.each (suc i)
 
-  pub named_by_none : ((other : ℕ) → 0 < namings_of h.procs other → number other ≡ number key → other ≡ key) → namings_of h.procs key ≡ 0
+  pub named_by_none : ((other : ℕ) → 0 < all_namings h other → number other ≡ number key → other ≡ key) → all_namings h key ≡ 0
       → is_named files.descriptors (number key) ≡ false
   unfolding Apart
   named_by_none apart none =
@@ -80,20 +80,20 @@ module _ (number : ℕ → ℕ) (h : Heap) (kept : TableView) (files : Files) (k
       by_proc i (Some proc) is =
           let found = found_by_pid h.procs kept.listed (suc i) proc listed.stored is in
           hides number key (numbers_in h proc)
-          (λ other some same. apart other (let part = part_of_sum (namings_in other) h.procs found.key proc found.there in omega (arith, part, some)) same)
-          (let part = part_of_sum (namings_in key) h.procs found.key proc found.there in omega (arith, part, none))
+          (λ other some same. apart other (named_part other h found.key proc found.there some) same)
+          (nothing (count_by (names_desc key) (numbers_in h proc)) (λ some. (let part = named_part key h found.key proc found.there some in omega (arith, part, none))))
+        where
+          nothing : (n : ℕ) → (0 < n → ⊥) → n ≡ 0
+          nothing zero few = refl
+          nothing (suc n) few = absurd (few (omega arith))
 
-  pub named_by_some : 0 < namings_of h.procs key → is_named files.descriptors (number key) ≡ true
+  pub named_by_some : 0 < all_namings h key → is_named files.descriptors (number key) ≡ true
   named_by_some some =
-      let adds = some_adds (namings_in key) h.procs refl some in
-      let at = key_listed kept.listed 0 kept.last adds.key listed.rising (listed.all.listed adds.key (used adds.key adds.value adds.is)) in
-      let between = pid_between kept.listed 0 kept.last at.0 adds.key listed.rising at.1 in
-      let named = key_of-proc h.procs kept.listed at.0 adds.key listed.stored at.1 in
-      by_pid at.0 adds.value between.0 between.1 (named.3 ∙ ap Some (some_same (object h.procs adds.key) named.0 adds.value named.1 adds.is)) adds.adds
+      let by = named_whole key h kept listed some in
+      let found = found_by_pid h.procs kept.listed by.pid by.proc listed.stored by.found in
+      let between = pid_between kept.listed 0 kept.last by.pid found.key listed.rising found.named in
+      by_pid by.pid by.proc between.0 between.1 by.found by.names
     where
-      used : (at : ℕ) (proc : Proc) → object h.procs at ≡ Some proc → InUse h.procs at
-      used at proc is = ap is_some is
-
       by_pid : (pid : ℕ) (proc : Proc) → 0 < pid → pid ≤ kept.last → proc_of (processes h kept) pid ≡ Some proc → 0 < count_by (names_desc key) (numbers_in h proc)
           → is_named files.descriptors (number key) ≡ true
       by_pid zero proc above below is names = absurd (omega (arith, above))

@@ -1,5 +1,5 @@
 -- What a number of a process names, in the heap and in the machine.
-use Rattle.std.proofs.Common.{◌≡◌, ℕ, ℤ, pos, negsuc, zero, suc, ◌+◌, ◌<◌, ◌≤◌, Bool, true, false, List, [], ◌∷◌, drop, replicate, length, Option, None, Some, refl, ap, sym, ◌∙◌, subst, arith}
+use Rattle.std.proofs.Common.{◌≡◌, ℕ, ℤ, pos, negsuc, zero, suc, ◌+◌, ◌<◌, ◌≤◌, Bool, true, false, List, [], ◌∷◌, drop, replicate, length, Option, None, Some, IsSome, refl, ap, sym, ◌∙◌, subst, arith}
 use Rattle.std.specs.Prelude.{is_none, nat_lt, slice_index_or}
 use Rattle.std.specs.List.{position_from}
 use Rattle.std.specs.Option.{option_map}
@@ -14,7 +14,7 @@ use Rattle.kheap_slabs.specs.declared.objects.Proc.{Proc}
 use Rattle.kheap_slabs.specs.Heap.{Heap, IsWellFormed}
 use Rattle.open_laws.specs.Described.{Counted, counted_in}
 use Rattle.open_laws.specs.Open.{descriptor_by, descriptors_by}
-use Rattle.open_laws.specs.Owned.{HasItsOwners, desc_count, names_desc, namings_in}
+use Rattle.open_laws.specs.Owned.{HasItsOwners, desc_count, names_desc}
 use Rattle.open_laws.proofs.DescribedLemmas.{at_place}
 use Rattle.open_laws.proofs.DropLemmas.{description_in}
 use Rattle.open_laws.proofs.GoingLemmas.{counts_few}
@@ -28,8 +28,9 @@ use Rattle.proc_table.specs.Procs.{numbers_in, proc_of}
 use Rattle.proc_table.specs.Table.{TableView, processes}
 use Rattle.proc_table.proofs.PlaceLemmas.{eqb_same, some_same}
 use Rattle.proc_numbers.specs.Having.{AreListed, HaveOpen, places_in}
-use Rattle.proc_numbers.specs.Naming.{marked, named_at, named_by, places_of}
+use Rattle.proc_numbers.specs.Naming.{AreOpenBelow, marked, named_at, named_by, places_of}
 use Rattle.proc_numbers.proofs.Listing.{found_by_pid}
+use Rattle.proc_numbers.proofs.NumberParts.{named_part}
 use Rattle.proc_numbers.proofs.Sums.{one_if, part_of_sum}
 
 -- ---- the number that a call has
@@ -103,6 +104,7 @@ pub record IsFree (descriptors : List (Option Descriptor)) (from fd : ℕ) : Typ
   pub free : descriptor_at descriptors fd ≡ None
   pub within : fd < length descriptors
   pub above : from ≤ fd
+  pub least : (other : ℕ) → from ≤ other → other < fd → IsSome (descriptor_at descriptors other)
 
 record IsAfter (descriptors : List (Option Descriptor)) (before skipped fd : ℕ) : Type 0 where
   index : ℕ
@@ -110,25 +112,34 @@ record IsAfter (descriptors : List (Option Descriptor)) (before skipped fd : ℕ
   above : skipped ≤ index
   free : descriptor_at descriptors index ≡ None
   within : index < length descriptors
+  least : (other : ℕ) → skipped ≤ other → other < index → IsSome (descriptor_at descriptors other)
 
 found_after : (descriptors : List (Option Descriptor)) (at fd : ℕ) → position_from is_none at descriptors ≡ Some fd → IsAfter descriptors at 0 fd
 found_after [] at fd e = cc
-found_after (None ∷ rest) at fd e = let same : at ≡ fd = some_same (Some at) at fd refl e in record { index = zero; is = omega (arith, same); above = omega arith; free = refl; within = omega arith }
+found_after (None ∷ rest) at fd e = let same : at ≡ fd = some_same (Some at) at fd refl e in record { index = zero; is = omega (arith, same); above = omega arith; free = refl; within = omega arith; least = λ other most less. absurd (omega (arith, less)) }
 found_after (Some one ∷ rest) at fd e =
     let more = found_after rest (at + 1) fd e in
     let is = more.is in let short = more.within in
-    record { index = suc more.index; is = omega (arith, is); above = omega arith; free = more.free; within = omega (arith, short) }
+    record { index = suc more.index; is = omega (arith, is); above = omega arith; free = more.free; within = omega (arith, short); least = λ other most less. before more other less }
+  where
+    before : (more : IsAfter rest (at + 1) 0 fd) (other : ℕ) → other < suc more.index → IsSome (descriptor_at (Some one ∷ rest) other)
+    before more zero less = refl
+    before more (suc other) less = more.least other (omega arith) (omega (arith, less))
 
 skipped_after : (skipped before at fd : ℕ) (descriptors : List (Option Descriptor)) → at ≡ before + skipped → position_from is_none at (drop skipped descriptors) ≡ Some fd
     → IsAfter descriptors before skipped fd
 skipped_after zero before at fd descriptors e found =
     let it = found_after descriptors at fd found in let is = it.is in
-    record { index = it.index; is = omega (arith, is, e); above = omega arith; free = it.free; within = it.within }
+    record { index = it.index; is = omega (arith, is, e); above = omega arith; free = it.free; within = it.within; least = it.least }
 skipped_after (suc skipped) before at fd [] e found = cc
 skipped_after (suc skipped) before at fd (first ∷ rest) e found =
     let it = skipped_after skipped (before + 1) at fd rest (omega (arith, e)) found in
     let is = it.is in let above = it.above in let short = it.within in
-    record { index = suc it.index; is = omega (arith, is); above = omega (arith, above); free = it.free; within = omega (arith, short) }
+    record { index = suc it.index; is = omega (arith, is); above = omega (arith, above); free = it.free; within = omega (arith, short); least = between it }
+  where
+    between : (it : IsAfter rest (before + 1) skipped fd) (other : ℕ) → suc skipped ≤ other → other < suc it.index → IsSome (descriptor_at (first ∷ rest) other)
+    between it zero most less = absurd (omega (arith, most))
+    between it (suc other) most less = it.least other (omega (arith, most)) (omega (arith, less))
 
 pub lowest_free_is : (descriptors : List (Option Descriptor)) (from fd : ℕ) → lowest_free_from descriptors from ≡ Some fd → IsFree descriptors from fd
 lowest_free_is descriptors from fd found =
@@ -139,6 +150,7 @@ lowest_free_is descriptors from fd found =
       free = ap (descriptor_at descriptors) (sym same) ∙ it.free;
       within = subst (λ n. n < length descriptors) same it.within;
       above = subst (λ n. from ≤ n) same it.above;
+      least = λ other most less. it.least other most (omega (arith, less, same));
     }
 
 -- and so it is in the process
@@ -150,6 +162,15 @@ free_at h kept pid from fd found =
     by_slot : (o : Option HeldDescriptor) → named_at h kept pid fd ≡ o → option_map descriptor_in (named_at h kept pid fd) ≡ None → named_at h kept pid fd ≡ None
     by_slot None is none = is
     by_slot (Some held) is none = absurd (let some : Some (descriptor_in held) ≡ None = sym (ap (option_map descriptor_in) is) ∙ none in cc)
+
+-- and all before it are open
+pub open_below : (h : Heap) (kept : TableView) (pid from fd : ℕ) → lowest_free_from (descriptors_in (places_of h kept pid)) from ≡ Some fd → AreOpenBelow h kept pid from fd
+open_below h kept pid from fd found = λ other most less.
+    by_slot (named_at h kept pid other) (subst (λ o. IsSome o) (get_or-map (option_map descriptor_in) (places_of h kept pid) other None) ((lowest_free_is (descriptors_in (places_of h kept pid)) from fd found).least other most less))
+  where
+    by_slot : (o : Option HeldDescriptor) → IsSome (option_map descriptor_in o) → IsSome o
+    by_slot None some = some
+    by_slot (Some held) some = refl
 
 -- ---- in the heap
 
@@ -175,9 +196,9 @@ module _ (h : Heap) (kept : TableView) (hand : List ℕ) (listed : AreListed h k
           let slot : slice_index_or (numbers_in h proc) fd None ≡ Some held = sym (ap (λ o. slice_index_or (places_in (numbers_in h) o) fd None) found) ∙ is in
           let one = part_of_sum (λ o. one_if (names_desc held.desc o)) (numbers_in h proc) fd held slot in
           let it = ap one_if (eqb_same held.desc held.desc refl) in
-          let all = part_of_sum (namings_in held.desc) h.procs at.key proc at.there in
+          let all = named_part held.desc h at.key proc at.there (omega (arith, one, it)) in
           let counts = owners.named.counts held.desc in
-          by_desc (object h.descs held.desc) refl (omega (arith, one, it, all, counts))
+          by_desc (object h.descs held.desc) refl (omega (arith, all, counts))
 
   pub desc_named_by : (pid : ℕ) (fd : ℤ) (held : HeldDescriptor) → named_by h kept pid fd ≡ Some held → (desc : Desc) × (object h.descs held.desc ≡ Some desc)
   desc_named_by pid (pos fd) held is = desc_named pid fd held is

@@ -12,7 +12,7 @@ use Rattle.kheap_slabs.specs.declared.objects.Target.TheVariants as target
 use Rattle.kheap_slabs.specs.Heap.{Heap}
 use Rattle.open_laws.specs.Described.{AreDescribed, CountedList, counted_in, target_in}
 use Rattle.open_laws.specs.Open.{AreOpen, descriptor_by, descriptors_by}
-use Rattle.open_laws.specs.Owned.{CountsItsNames, IsThereFor, desc_count, names_desc, namings_in}
+use Rattle.open_laws.specs.Owned.{CountsItsNames, IsThereFor, desc_count, names_desc}
 use Rattle.open_laws.specs.Socketed.{AreSocketed}
 use Rattle.open_laws.proofs.DropLemmas.{piped_on, socketed_on}
 use Rattle.open_laws.specs.Placed.{Numbers, numbered}
@@ -28,6 +28,7 @@ use Rattle.proc_table.specs.Table.{TableView, processes}
 use Rattle.proc_table.proofs.PlaceLemmas.{eqb_same}
 use Rattle.proc_numbers.specs.Having.{AreListed, HaveOpen, places_in}
 use Rattle.proc_numbers.specs.Naming.{named_at, places_of}
+use Rattle.proc_numbers.proofs.NumberParts.{named_part}
 use Rattle.proc_numbers.proofs.Listing.{found_by_pid}
 use Rattle.proc_numbers.proofs.Sums.{one_if, part_of_sum}
 use Rattle.proc_numbers.proofs.Made.{counted_on, length_uncounted, made_described, uncounted_more, used_apart}
@@ -89,9 +90,9 @@ named_used h kept hand listed named pid fd held is = by_proc (proc_of (processes
         let slot : slice_index_or (numbers_in h proc) fd None ≡ Some held = sym (ap (λ o. slice_index_or (places_in (numbers_in h) o) fd None) found) ∙ is in
         let one = part_of_sum (λ o. one_if (names_desc held.desc o)) (numbers_in h proc) fd held slot in
         let it = ap one_if (eqb_same held.desc held.desc refl) in
-        let all = part_of_sum (namings_in held.desc) h.procs at.key proc at.there in
+        let all = named_part held.desc h at.key proc at.there (omega (arith, one, it)) in
         let counts = named.counts held.desc in
-        by_desc (object h.descs held.desc) (omega (arith, one, it, all, counts))
+        by_desc (object h.descs held.desc) (omega (arith, all, counts))
 
 module _ (old new : Heap) (sock key : ℕ) (vacant : object old.descs key ≡ None) (within : key < length old.descs)
     (kept_so : new ≡ record old { descs = put old.descs key (desc_on sock); high = new.high }) (numbers : Numbers) (files : Files) where

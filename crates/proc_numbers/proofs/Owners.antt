@@ -16,7 +16,7 @@ use Rattle.kheap_slabs.proofs.ObjectLemmas.{InUse-within}
 use Rattle.kheap_slabs.specs.Heap.{Heap}
 use Rattle.kheap_slabs.specs.Owners.{pipe_queues, sock_queues, spaces_of}
 use Rattle.open_laws.specs.Described.{node_in}
-use Rattle.open_laws.specs.Owned.{CountsItsNames, HasItsEnds, HasItsOwners, IsThereFor, desc_count, desc_count_at, has_read_end, has_write_end, namings_of, sock_in, socks_named}
+use Rattle.open_laws.specs.Owned.{CountsItsNames, HasItsEnds, HasItsOwners, IsThereFor, all_namings, desc_count, desc_count_at, has_read_end, has_write_end, sock_in, socks_named}
 use Rattle.open_laws.proofs.OwnerLemmas.{named_by, names}
 use Rattle.pipe_ends.proofs.StandingLemmas.{stands_on as pipe_stands_on, stands_same as pipe_stands_same}
 use Rattle.posix_defs.specs.SocketLinks.{NoneTwice}
@@ -228,7 +228,7 @@ module _ (old new : Heap) (sock key : ℕ) (vacant : object old.descs key ≡ No
           let one = made_named old.descs key desc vacant within other in
           let in_new : desc_count_at new.descs other ≡ desc_count_at (put old.descs key desc) other = ap (λ d. desc_count_at d other) descs_are in
           let before = but.named.counts other in
-          let in_procs : namings_of new.procs other ≡ namings_of old.procs other = ap (λ (h : Heap). namings_of h.procs other) kept in
+          let in_procs : all_namings new other ≡ all_namings old other = ap (λ (h : Heap). all_namings h other) kept in
           let more = count_cons (λ k. k == other) key hand in
           omega (arith, one, in_new, before, in_procs, more);
       named = λ other used. by_desc other (object new.descs other) refl used;

@@ -113,7 +113,7 @@ module _ (old made mid new : Heap) (one other here there : ℕ) (vacant : object
     at_other_sock = given (numbered numbers.socks one (length files.sockets)) other (length files.sockets + 1)
 
     listed_made : AreListed made kept
-    listed_made = listed_on old made kept (ap (λ (h : Heap). h.procs) others.kept) listed
+    listed_made = listed_on old made kept (ap (λ (h : Heap). h.procs) others.kept) (ap (λ (h : Heap). h.leaves) others.kept) listed
 
     free_there : object made.descs there ≡ None
     free_there = free_before made mid here there (desc_on one) free (ap (λ (h : Heap). h.descs) first) also_free
@@ -132,7 +132,7 @@ module _ (old made mid new : Heap) (one other here there : ℕ) (vacant : object
         (have_pair numbers old made kept others owners files have one other vacant used.0 also_vacant used.1 apart stands)
 
     have_new : HaveOpen numbers_new new kept (described_more files_mid (numbers_mid.socks other))
-    have_new = second_opens numbers_mid files_mid kept (here ∷ []) (listed_on made mid kept (ap (λ (h : Heap). h.procs) first) listed_made) then_but.named have_mid
+    have_new = second_opens numbers_mid files_mid kept (here ∷ []) (listed_on made mid kept (ap (λ (h : Heap). h.procs) first) (ap (λ (h : Heap). h.leaves) first) listed_made) then_but.named have_mid
 
     pub opens_both : OpensBoth numbers old new kept files here there
     opens_both = record {

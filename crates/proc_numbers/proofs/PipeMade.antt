@@ -18,7 +18,7 @@ use Rattle.chunk_queue.specs.Chained.{place_of}
 use Rattle.chunk_queue.proofs.HeldLemmas.{HasBytes-same}
 use Rattle.open_laws.specs.Described.{AreDescribed, Counted, CountedList, access_in, counted_in, node_in, target_in, uncounted}
 use Rattle.open_laws.specs.Open.{AreOpen, descriptor_by, descriptors_by}
-use Rattle.open_laws.specs.Owned.{CountsItsNames, HasItsEnds, HasItsOwners, IsHeldOpen, IsThereFor, desc_count, desc_count_at, has_read_end, has_write_end, is_on_pipe, namings_of, sock_in, socks_named}
+use Rattle.open_laws.specs.Owned.{CountsItsNames, HasItsEnds, HasItsOwners, IsHeldOpen, IsThereFor, all_namings, desc_count, desc_count_at, has_read_end, has_write_end, is_on_pipe, sock_in, socks_named}
 use Rattle.open_laws.specs.Piped.{ArePiped}
 use Rattle.open_laws.specs.Socketed.{AreSocketed}
 use Rattle.open_laws.proofs.DropLemmas.{socketed_on}
@@ -71,6 +71,9 @@ module _ (old new : Heap) (pipe reading writing : ℕ) (opens : PipeOpens old ne
 
   pub same_procs : new.procs ≡ old.procs
   same_procs = ap (λ (h : Heap). h.procs) opens.beside
+
+  pub same_leaves : new.leaves ≡ old.leaves
+  same_leaves = ap (λ (h : Heap). h.leaves) opens.beside
 
   same_socks : new.socks ≡ old.socks
   same_socks = ap (λ (h : Heap). h.socks) opens.beside
@@ -139,7 +142,7 @@ module _ (old new : Heap) (pipe reading writing : ℕ) (opens : PipeOpens old ne
           let other = made_named mid writing second opens.also_free mid_within key in
           let in_new : desc_count_at new.descs key ≡ desc_count_at (put mid writing second) key = ap (λ (d : List (Option Desc)). desc_count_at d key) opens.descs in
           let before = owners.named.counts key in
-          let in_procs : namings_of new.procs key ≡ namings_of old.procs key = ap (λ p. namings_of p key) same_procs in
+          let in_procs : all_namings new key ≡ all_namings old key = ap (λ (h : Heap). all_namings h key) opens.beside in
           let hand_one = count_cons (λ k. k == key) reading (writing ∷ hand) in
           let hand_other = count_cons (λ k. k == key) writing hand in
           omega (arith, one, other, in_new, before, in_procs, hand_one, hand_other);
@@ -372,7 +375,7 @@ module _ (old new : Heap) (pipe reading writing : ℕ) (opens : PipeOpens old ne
               have.descriptors.each pid
               ∙ same_by (places_of old kept pid)
               (λ fd held is. let desc = desc_named old kept hand listed owners pid fd held is in (keeps numbers have.list files have.opened).descs held.desc (ap is_some desc.1))
-              ∙ ap (λ (p : List (Option Proc)). descriptors_by then.descs (places_in (numbers_in old) (proc_of (procs_at p kept.listed) pid))) (sym same_procs);
+              ∙ ap (λ (h : Heap). descriptors_by then.descs (places_in (numbers_in h) (proc_of (procs_at h.procs kept.listed) pid))) (sym opens.beside);
           made = have.descriptors.made;
         };
       }

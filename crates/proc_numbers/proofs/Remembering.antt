@@ -12,7 +12,7 @@ use Rattle.kheap_slabs.specs.declared.objects.Sock.{Sock}
 use Rattle.kheap_slabs.specs.Heap.{Heap}
 use Rattle.kheap_slabs.specs.Owners.{IsOwned, Owners, OwnsItsObjects, pipe_queues, sock_queues, spaces_of, with_space}
 use Rattle.open_laws.specs.Open.{HaveFronts, descriptors_by}
-use Rattle.open_laws.specs.Owned.{namings_of}
+use Rattle.open_laws.specs.Owned.{all_namings}
 use Rattle.open_laws.proofs.GoingLemmas.{held_open_on, named_on, open_on}
 use Rattle.page_space.specs.Accounts.{AccountMoves, IsAccounted}
 use Rattle.page_space.specs.Contents.{SpaceMoves, StandsFor as IsMemory}
@@ -69,6 +69,9 @@ module _ (mid : Heap) (before : Purse) (new : Heap) (after : Purse) (kept : Tabl
   pub put_procs : new.procs ≡ mid.procs
   put_procs = ap (λ (h : Heap). h.procs) puts.moves.kept
 
+  put_leaves : new.leaves ≡ mid.leaves
+  put_leaves = ap (λ (h : Heap). h.leaves) puts.moves.kept
+
   put_pipes : new.pipes ≡ mid.pipes
   put_pipes = ap (λ (h : Heap). h.pipes) puts.moves.kept
 
@@ -110,10 +113,10 @@ module _ (mid : Heap) (before : Purse) (new : Heap) (after : Purse) (kept : Tabl
   pub kept_put : IsKept new kept
   kept_put = record {
     holds = (back-moves mid new new kept pid has.key has.proc space is.holds turns).holds;
-    listed = listed_on mid new kept put_procs is.listed;
+    listed = listed_on mid new kept put_procs put_leaves is.listed;
     owners = record {
       objects = objects_put is.owners.objects;
-      named = named_on mid new [] put_descs (λ other. ap (λ (p : List (Option Proc)). namings_of p other) put_procs) is.owners.named;
+      named = named_on mid new [] put_descs (λ other. ap (λ (h : Heap). all_namings h other) puts.moves.kept) is.owners.named;
       held = held_open_on mid new put_descs put_pipes put_socks put_chunks is.owners.held;
     };
   }
@@ -137,7 +140,7 @@ module _ (mid : Heap) (before : Purse) (new : Heap) (after : Purse) (kept : Tabl
     list = have.list;
     opened = open_on numbers mid new have.list files files put_descs put_pipes put_socks put_chunks refl refl refl have.opened;
     descriptors = record {
-      each = λ q. have.descriptors.each q ∙ ap (λ (objects : List (Option Proc)). descriptors_by numbers.descs (places_in (numbers_in mid) (proc_of (procs_at objects kept.listed) q))) (sym put_procs);
+      each = λ q. have.descriptors.each q ∙ ap (λ (h : Heap). descriptors_by numbers.descs (places_in (numbers_in h) (proc_of (procs_at h.procs kept.listed) q))) (sym puts.moves.kept);
       made = have.descriptors.made;
     };
   }

@@ -268,9 +268,9 @@ pub vacant_changed : (old new : Heap) → LeavesOthers old new → (key : ℕ) �
 vacant_changed old new others key vacant = ap (λ (h : Heap). object h.descs key) (sym others.kept) ∙ vacant
 
 pub beside_changed : (old new : Heap) → LeavesOthers old new
-    → new ≡ record old { procs = new.procs; descs = new.descs; pipes = new.pipes; chunks = new.chunks; socks = new.socks; high = new.high }
+    → new ≡ record old { procs = new.procs; leaves = new.leaves; descs = new.descs; pipes = new.pipes; chunks = new.chunks; socks = new.socks; high = new.high }
 beside_changed old new others =
-    subst (λ (h : Heap). h ≡ record old { procs = h.procs; descs = h.descs; pipes = h.pipes; chunks = h.chunks; socks = h.socks; high = h.high }) (sym others.kept) refl
+    subst (λ (h : Heap). h ≡ record old { procs = h.procs; leaves = h.leaves; descs = h.descs; pipes = h.pipes; chunks = h.chunks; socks = h.socks; high = h.high }) (sym others.kept) refl
 
 pub queues_changed : (old new : Heap) → LeavesOthers old new → QueuesStay old new → QueuesStand old new
 queues_changed old new others stay = record {

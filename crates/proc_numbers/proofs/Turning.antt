@@ -20,7 +20,7 @@ use Rattle.kheap_slabs.specs.Owners.{Owners, IsOwned, OwnsItsObjects, node_keys}
 use Rattle.kheap_slabs.specs.Spaces.{IsCounted}
 use Rattle.open_laws.specs.Open.{HaveFronts, descriptors_by}
 use Rattle.open_laws.specs.Described.{AreDescribed}
-use Rattle.open_laws.specs.Owned.{HasItsEnds, IsHeldOpen, IsThereFor, namings_of, sock_in, socks_named}
+use Rattle.open_laws.specs.Owned.{HasItsEnds, IsHeldOpen, IsThereFor, all_namings, sock_in, socks_named}
 use Rattle.open_laws.specs.Piped.{ArePiped}
 use Rattle.open_laws.proofs.DropLemmas.{socketed_on}
 use Rattle.open_laws.proofs.GoingLemmas.{named_on}
@@ -48,6 +48,9 @@ Says h key held pipe = (at : ℕ) × StandsFor h key pipe at
 module _ (old new : Heap) (key : ℕ) (others : LeavesOthers old new key) where
   pub same_procs : new.procs ≡ old.procs
   same_procs = ap (λ (h : Heap). h.procs) others.kept
+
+  same_leaves : new.leaves ≡ old.leaves
+  same_leaves = ap (λ (h : Heap). h.leaves) others.kept
 
   pub same_nodes : new.nodes ≡ old.nodes
   same_nodes = ap (λ (h : Heap). h.nodes) others.kept
@@ -102,7 +105,7 @@ module _ (old new : Heap) (key : ℕ) (others : LeavesOthers old new key) where
         socketed = socketed_on numbers old new files.sockets same_socks others.socks have.opened.socketed;
       };
       descriptors = record {
-        each = λ pid. have.descriptors.each pid ∙ ap (λ (objects : List (Option Proc)). descriptors_by numbers.descs (places_in (numbers_in old) (proc_of (procs_at objects kept.listed) pid))) (sym same_procs);
+        each = λ pid. have.descriptors.each pid ∙ ap (λ (h : Heap). descriptors_by numbers.descs (places_in (numbers_in h) (proc_of (procs_at h.procs kept.listed) pid))) (sym others.kept);
         made = have.descriptors.made;
       };
     }
@@ -151,10 +154,10 @@ module _ (old new : Heap) (key : ℕ) (others : LeavesOthers old new key) where
       pub kept_turned : (kept : TableView) → IsKept old kept → OwnsItsObjects new → IsKept new kept
       kept_turned kept is owns = record {
         holds = elsewhere_holds old new kept (record is.holds.owned.0 { queues = owns.0.queues }) same_procs (spaces_own (with_procs (processes old kept) is.holds.owned.0) is.holds.owned.1 owns) is.holds;
-        listed = listed_on old new kept same_procs is.listed;
+        listed = listed_on old new kept same_procs same_leaves is.listed;
         owners = record {
           objects = owns;
-          named = named_on old new [] same_descs (λ other. ap (λ (p : List (Option Proc)). namings_of p other) same_procs) is.owners.named;
+          named = named_on old new [] same_descs (λ other. ap (λ (h : Heap). all_namings h other) others.kept) is.owners.named;
           held = held_turned is.owners.held;
         };
       }

@@ -1,23 +1,28 @@
 -- What the processes of a table have open in the machine, and what a close leaves of it.
-use Rattle.std.specs.Prelude.{ℕ, ◌≡◌, List, length, Option, None, Some, slice_set}
-use Rattle.kheap_slabs.specs.Objects.{object, put}
+use Rattle.std.specs.Prelude.{ℕ, ◌≡◌, ◌+◌, List, length, Option, None, Some, slice_index_or, slice_set}
+use Rattle.kheap_slabs.specs.Objects.{object}
 use Rattle.kheap_slabs.specs.declared.objects.Desc.{Desc}
 use Rattle.kheap_slabs.specs.declared.objects.Descriptor.{Descriptor as HeldDescriptor}
 use Rattle.kheap_slabs.specs.declared.objects.Proc.{Proc}
 use Rattle.kheap_slabs.specs.Heap.{Heap}
 use Rattle.kheap_slabs.specs.Keys.{AreKeysOf}
+use Rattle.kheap_slabs.specs.Leaves.{HoldLeaves}
 use Rattle.open_laws.specs.Described.{CountedList, node_in, node_left}
 use Rattle.open_laws.specs.Open.{AreOpen, descriptors_by}
+use Rattle.open_laws.specs.Owned.{all_namings}
 use Rattle.open_laws.specs.Placed.{Numbers}
 use Rattle.posix_defs.specs.Files.State.{Files, descriptors_of}
-use Rattle.proc_table.specs.Procs.{no_descriptors, numbers_in, proc_of, with_numbers}
-use Rattle.proc_table.specs.Table.{AreBetween, AreStored, TableView, key_of, keys_of, processes}
+use Rattle.desc_table.specs.Numbered.{names_one}
+use Rattle.proc_table.specs.Moves.{NumbersTurn}
+use Rattle.proc_table.specs.Procs.{no_descriptors, numbers_in, proc_of}
+use Rattle.proc_table.specs.Table.{AreBetween, AreStored, TableView, keys_of, processes}
 
--- Each process of the heap is in the table, at its place, by rising pid.
+-- Each process of the heap is in the table, at its place, by rising pid, and each Leaf is one of theirs.
 pub record AreListed (h : Heap) (kept : TableView) : Type 0 where
   pub stored : AreStored h.procs kept.listed
   pub rising : AreBetween 0 kept.listed kept.last
   pub all : AreKeysOf h.procs (keys_of kept.listed)
+  pub leaves : HoldLeaves h.leaves (processes h kept)
 
 -- what a process has open by number, if it is there; who isn't has nothing open
 abbrev pub places_in : (Proc → List (Option HeldDescriptor)) → Option Proc → List (Option HeldDescriptor)
@@ -50,11 +55,13 @@ abbrev pub node_closed : List (Option Desc) → Option HeldDescriptor → Option
 node_closed descs None = None
 node_closed descs (Some held) = node_dropped (object descs held.desc)
 
--- A number of a process is open no more, in its Proc; of the other objects only Descs, Pipes, Chunks and Socks are others.
+-- A number of a process is open no more, in its Proc or its Leaf; of the other objects only Descs, Pipes, Chunks and Socks are others.
 pub record ClosesNumber (old new : Heap) (kept : TableView) (pid fd : ℕ) : Type 0 where
   pub key : ℕ
   pub proc : Proc
-  pub named : key_of kept.listed pid ≡ Some key
-  pub there : object old.procs key ≡ Some proc
-  pub procs : new.procs ≡ put old.procs key (with_numbers proc (slice_set (numbers_in old proc) fd None))
-  pub beside : new ≡ record old { procs = new.procs; descs = new.descs; pipes = new.pipes; chunks = new.chunks; socks = new.socks }
+  pub now : Proc
+  pub turns : NumbersTurn old new kept pid key proc now
+  pub numbers : numbers_in new now ≡ slice_set (numbers_in old proc) fd None
+  pub namings : (at : ℕ) → all_namings new at + names_one at (slice_index_or (numbers_in old proc) fd None) ≡ all_namings old at
+  pub beside : new
+      ≡ record old { procs = new.procs; leaves = new.leaves; descs = new.descs; pipes = new.pipes; chunks = new.chunks; socks = new.socks }

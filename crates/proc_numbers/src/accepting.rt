@@ -49,6 +49,7 @@ pub fn accept_number(
     requires opened { IsOpened heap.old procs.now place.pid on.now }
     requires pays { CanPay heap.old purse.old }
     requires left { 0 < purse.old.left.desc }
+    requires left_leaf { 0 < purse.old.left.leaf }
     ensures answers { (numbers : Numbers) (script : Script) (plain : Plain) → HaveOpen numbers heap.old procs.now plain.files
         → Accepts numbers heap.old heap.new procs.now script plain place.pid (plain_accept script plain place.pid on.now.fd) result }
     ensures nodes { OpensNoNode heap.old.descs → OpensNoNode heap.new.descs }
@@ -61,7 +62,7 @@ pub fn accept_number(
     ensures paid { IsPaid heap.old purse.old heap.new purse.new }
     ensures pays { CanPay heap.new purse.new }
     ensures spent { IfTaken result (purse.new
-        ≡ record purse.old { left = with_count purse.old.left class.Desc (purse.old.left.desc - 1) }) }
+        ≡ record purse.old { left = with_count (with_count purse.old.left class.Desc (purse.old.left.desc - 1)) class.Leaf purse.new.left.leaf }) }
 {
     match on.socket() {
         Ok(found) => accept_on(heap, purse, procs, place, found),
@@ -99,6 +100,7 @@ fn accept_on(
     requires named { Contains (socks_named heap.old.descs) on.key }
     requires pays { CanPay heap.old purse.old }
     requires left { 0 < purse.old.left.desc }
+    requires left_leaf { 0 < purse.old.left.leaf }
     ensures answers { (numbers : Numbers) (script : Script) (plain : Plain) (fd : ℤ) → HaveOpen numbers heap.old procs.now plain.files
         → ((answer : Opened → ℕ → Answer) → FindsSocket numbers script plain place.pid fd answer (Ok on))
         → Accepts numbers heap.old heap.new procs.now script plain place.pid (plain_accept script plain place.pid fd) result }
@@ -112,7 +114,7 @@ fn accept_on(
     ensures paid { IsPaid heap.old purse.old heap.new purse.new }
     ensures pays { CanPay heap.new purse.new }
     ensures spent { IfTaken result (purse.new
-        ≡ record purse.old { left = with_count purse.old.left class.Desc (purse.old.left.desc - 1) }) }
+        ≡ record purse.old { left = with_count (with_count purse.old.left class.Desc (purse.old.left.desc - 1)) class.Leaf purse.new.left.leaf }) }
 {
     let lowest = lowest_from(heap, procs, place, 0);
     match accept(heap, on.key, lowest.is_some(), on.nonblock) {

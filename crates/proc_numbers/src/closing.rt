@@ -1,6 +1,7 @@
 //! A process closes what it has open.
 
-ghost use Rattle.std.specs.Prelude.{◌≡◌, ◌<◌, [], None, Some, slice_index_or};
+ghost use Rattle.std.specs.Prelude.{◌≡◌, ◌<◌, [], IsSome, None, Some, slice_index_or};
+ghost use Rattle.kheap_slabs.specs.declared.objects.Descriptor.{Descriptor as HeldDescriptor};
 ghost use Rattle.kheap_slabs.specs.declared.objects.Proc.{Proc as HeldProc};
 ghost use Rattle.kheap_slabs.specs.Heap.{IsWellFormed};
 ghost use Rattle.kheap_slabs.specs.Paid.{TakesNothing};
@@ -13,13 +14,15 @@ ghost use Rattle.proc_table.specs.Procs.{numbers_in, proc_of};
 ghost use Rattle.proc_table.specs.Table.{IsPlaced, processes};
 ghost use Rattle.proc_numbers.specs.Queues.{QueuesStand};
 ghost use Rattle.proc_numbers.specs.Having.{AreListed, ClosesNumber, HaveOpen, OpensNoNode, node_closed};
+ghost use Rattle.proc_numbers.specs.Naming.{TurnsNumber, named_at};
 
-use desc_table::drop_desc;
-use kheap_slabs::{KHeap, Proc};
+use crate::finding::named_at;
+use desc_table::{Descs, drop_desc};
+use kheap_slabs::KHeap;
 use proc_table::{Place, ProcTable};
 
-/// A process has a number open no more (POSIX close). With the last descriptor that names it a description goes, and what it was
-/// open on is closed; a number that isn't open changes nothing.
+/// A process has a number open no more (POSIX close). With the last of its numbers that is open a Leaf goes. With the last descriptor
+/// that names it a description goes, and what it was open on is closed; a number that isn't open changes nothing.
 ///
 /// The answer is the node whose pin the caller then drops; None where no description of a node has gone.
 pub fn close_one(heap: &mut KHeap, procs: &ProcTable, place: Place, fd: u32) -> Option<u32>
@@ -38,20 +41,30 @@ pub fn close_one(heap: &mut KHeap, procs: &ProcTable, place: Place, fd: u32) -> 
     ensures queues { QueuesStand heap.old heap.new }
     ensures takes { TakesNothing heap.old heap.new }
 {
-    let proc = *procs.at(heap, place);
-    let mut descriptors = proc.descriptors;
-    let Some(descriptor) = descriptors[fd as usize] else {
+    if named_at(heap, procs, place, fd).is_none() {
         return None;
-    };
-    descriptors[fd as usize] = None;
-    heap.set_proc(
-        place.key,
-        Proc {
-            descriptors,
-            ..proc
-        },
-    );
-    drop_desc(heap, descriptor.desc)
+    }
+    let desc = clear_number(heap, procs, place, fd);
+    drop_desc(heap, desc)
+}
+
+// A number of a process that is open names nothing any more, in its Proc or its Leaf, which goes with the last of its numbers. The key
+// of the Desc that it named, which is in hand then.
+fn clear_number(heap: &mut KHeap, procs: &ProcTable, place: Place, fd: u32) -> u32
+    requires listed { AreListed heap.old procs.now }
+    requires there { IsPlaced procs.now place }
+    requires number { fd < most_descriptors }
+    requires is_open { IsSome (named_at heap.old procs.now place.pid fd) }
+    ensures named { (held : HeldDescriptor) → named_at heap.old procs.now place.pid fd ≡ Some held → result ≡ held.desc }
+    ensures turns { TurnsNumber heap.old heap.new procs.now place.pid fd None }
+    ensures takes { TakesNothing heap.old heap.new }
+{
+    is_well_formed(heap);
+    let proc = procs.at(heap, place);
+    let mut descs = Descs::of(proc.descriptors, proc.leaves);
+    let desc = descs.clear(heap, fd);
+    heap.set_proc_numbers(place.key, descs.places(), descs.leaves());
+    desc
 }
 
 // The heap is well formed: each row of its objects is as long as it was reserved.

@@ -6,6 +6,8 @@ ghost use Rattle.kheap_slabs.specs.Objects.{InUse, object};
 ghost use Rattle.kheap_slabs.specs.declared.objects.Desc.{Desc as HeldDesc};
 ghost use Rattle.kheap_slabs.specs.Paid.{CanPay, IsPaid, TakesNothing};
 ghost use Rattle.open_laws.specs.Described.{access_in, counted_in};
+ghost use Rattle.desc_table.specs.Copying.{spends_leaves};
+ghost use Rattle.kabi_types.specs.Arguments.{count_of};
 ghost use Rattle.open_laws.specs.Owned.{HasItsOwners};
 ghost use Rattle.open_laws.specs.Placed.{Numbers};
 ghost use Rattle.posix_defs.specs.Calls.OnDescriptors.{cloexec_bit, fcntl};
@@ -49,8 +51,8 @@ const O_NONBLOCK: u32 = 2048;
 /// bit 0 of the argument. F_GETFL tells the access mode, O_APPEND and O_NONBLOCK, and F_SETFL sets the last two as they are in the
 /// argument, for all numbers that name the description.
 ///
-/// The purse pays for what a number takes, which is nothing. EBADF where the number isn't open, EMFILE where no number is free for
-/// F_DUPFD, EINVAL where the command isn't one of these; nothing is changed then.
+/// The purse pays for the Leaf of a number that is named, where that isn't there. EBADF where the number isn't open, EMFILE where no
+/// number is free for F_DUPFD, EINVAL where the command isn't one of these; nothing is changed then.
 ///
 /// <https://pubs.opengroup.org/onlinepubs/9699919799/functions/fcntl.html>
 pub fn control(
@@ -67,17 +69,22 @@ pub fn control(
     requires there { IsPlaced procs.now place }
     requires opened { IsOpened heap.old procs.now place.pid on.now }
     requires pays { CanPay heap.old purse.old }
+    requires left { count_of cmd ≡ 0 → 0 < purse.old.left.leaf }
     ensures answers { (numbers : Numbers) (script : Script) (plain : Plain) → HaveOpen numbers heap.old procs.now plain.files
         → Answers numbers heap.new procs.now script plain place.pid (fcntl script plain place.pid on.now.fd cmd arg) (value_of result) }
     ensures nodes { OpensNoNode heap.old.descs → OpensNoNode heap.new.descs }
     ensures listed { AreListed heap.new procs.now }
     ensures owners { HasItsOwners heap.new [] }
     ensures changes { ChangesNumbers heap.old heap.new procs.now place.pid }
-    ensures beside { heap.new ≡ record heap.old { procs = heap.new.procs; descs = heap.new.descs } }
-    ensures unchanged { OnErr result (heap.new ≡ heap.old) }
-    ensures takes { TakesNothing heap.old heap.new }
+    ensures beside { heap.new ≡ record heap.old {
+      procs = heap.new.procs;
+      leaves = heap.new.leaves;
+      descs = heap.new.descs;
+      high = heap.new.high;
+    } }
+    ensures unchanged { OnErr result ((heap.new ≡ heap.old) × (purse.new ≡ purse.old)) }
     ensures paid { IsPaid heap.old purse.old heap.new purse.new }
-    ensures spent { purse.new ≡ purse.old }
+    ensures spent { purse.new ≡ spends_leaves purse.old purse.new }
 {
     let Some(found) = on.found else {
         return Err(Errno::EBADF);
@@ -87,7 +94,7 @@ pub fn control(
         F_GETFD => Ok(bit(found.close_on_exec)),
         F_SETFD => {
             let cloexec = has_flag(arg, FD_CLOEXEC);
-            mark_one(heap, procs, place, found.number, cloexec);
+            mark_one(heap, purse, procs, place, found.number, cloexec);
             Ok(0)
         }
         F_GETFL => Ok(status_bits(&found.desc)),

@@ -12,7 +12,7 @@ ghost use Rattle.posix_defs.specs.Files.State.{Files, opened_as};
 ghost use Rattle.kabi_types.specs.Arguments.{most_descriptors};
 ghost use Rattle.proc_table.specs.Table.{IsPlaced, TableView};
 ghost use Rattle.proc_numbers.specs.Having.{AreListed, HaveOpen, OpensNoNode};
-ghost use Rattle.proc_numbers.specs.Naming.{ChangesNumbers, named_at};
+ghost use Rattle.proc_numbers.specs.Naming.{ChangesNumbers, has_room, named_at};
 ghost use Rattle.proc_numbers.specs.Queues.{QueuesStand};
 ghost use Rattle.proc_numbers.specs.SocketOpening.{OpensMore, described_more, with_desc};
 ghost use Rattle.proc_numbers.specs.Owning.{HasOwnersBut, desc_on};
@@ -38,6 +38,7 @@ pub(crate) fn open_on(
     requires free { named_at heap.old procs.now place.pid fd ≡ None }
     requires pays { CanPay heap.old purse.old }
     requires left { 0 < purse.old.left.desc }
+    requires left_leaf { has_room heap.old procs.now place.pid fd ≡ false → 0 < purse.old.left.leaf }
     ensures opened { (numbers : Numbers) (files : Files) → HaveOpen numbers heap.old procs.now files
         → OpensMore numbers heap.old heap.new procs.now files
         (opened_as files place.pid fd false (description_of (numbers.socks sock))) }
@@ -50,7 +51,7 @@ pub(crate) fn open_on(
     ensures paid { IsPaid heap.old purse.old heap.new purse.new }
     ensures pays { CanPay heap.new purse.new }
     ensures spent { purse.new
-        ≡ record purse.old { left = with_count purse.old.left class.Desc (purse.old.left.desc - 1) } }
+        ≡ record purse.old { left = with_count (with_count purse.old.left class.Desc (purse.old.left.desc - 1)) class.Leaf purse.new.left.leaf } }
 {
     let desc = describe(heap, purse, sock);
     open_one(

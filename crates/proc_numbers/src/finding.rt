@@ -1,4 +1,4 @@
-//! What a call on a socket names, and which number of its caller is free.
+//! What a number names, also that of a call on a socket, and which number is free.
 
 ghost use Rattle.std.specs.Prelude.{◌≡◌, ◌<◌, ◌≤◌, ℕ, [], IfOk, IfSome, None};
 ghost use Rattle.std.specs.List.{Contains};
@@ -15,14 +15,14 @@ ghost use Rattle.kabi_types.specs.Arguments.{most_descriptors};
 ghost use Rattle.proc_table.specs.Table.{IsPlaced, TableView};
 ghost use Rattle.proc_numbers.specs.Found.{IsOpened};
 ghost use Rattle.proc_numbers.specs.Having.{AreListed, HaveOpen};
-ghost use Rattle.proc_numbers.specs.Naming.{named_at};
+ghost use Rattle.proc_numbers.specs.Naming.{AreOpenBelow, named_at};
 ghost use Rattle.proc_numbers.specs.Finding.{FindsSocket};
 
+use crate::closing::is_well_formed;
 use crate::lookups::Named;
-use crate::opening::places_of;
-use desc_table::Descs;
+use desc_table::{descriptor_of, lowest_of};
 use kabi_types::Errno;
-use kheap_slabs::{KHeap, Target};
+use kheap_slabs::{Descriptor, KHeap, Target};
 use proc_table::{Place, ProcTable};
 
 /// The socket that a number of a process is open on.
@@ -58,14 +58,26 @@ impl Named {
     }
 }
 
-// The lowest number of a process at or above one that is free.
-pub(crate) fn lowest_from(heap: &KHeap, procs: &ProcTable, place: Place, from: u32) -> Option<u32>
+/// What a number of a process names.
+pub fn named_at(heap: &KHeap, procs: &ProcTable, place: Place, fd: u32) -> Option<Descriptor>
+    requires listed { AreListed heap.now procs.now }
+    requires there { IsPlaced procs.now place }
+    requires number { fd < most_descriptors }
+    ensures { result ≡ named_at heap.now procs.now place.pid fd }
+{
+    is_well_formed(heap);
+    descriptor_of(heap, procs.at(heap, place), fd)
+}
+
+/// The lowest number of a process at or above one that is free; None where all from there to 127 are open.
+pub fn lowest_from(heap: &KHeap, procs: &ProcTable, place: Place, from: u32) -> Option<u32>
     requires listed { AreListed heap.now procs.now }
     requires there { IsPlaced procs.now place }
     ensures lowest { (numbers : Numbers) (files : Files) → HaveOpen numbers heap.now procs.now files
         → lowest_free_from (descriptors_of files place.pid) from ≡ result }
     ensures free { IfSome result (λ fd. (fd < most_descriptors) × (from ≤ fd) × (named_at heap.now procs.now place.pid fd ≡ None)) }
+    ensures least { IfSome result (AreOpenBelow heap.now procs.now place.pid from) }
 {
-    let descs = Descs::of(places_of(heap, procs, place));
-    descs.lowest(from)
+    is_well_formed(heap);
+    lowest_of(heap, procs.at(heap, place), from)
 }

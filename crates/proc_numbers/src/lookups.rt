@@ -19,6 +19,7 @@ ghost use Rattle.proc_table.specs.Table.{IsPlaced, TableView};
 ghost use Rattle.proc_numbers.specs.Found.{IsOffNodes, IsOnNode, IsOpened, opened_in};
 
 use crate::closing::is_well_formed;
+use desc_table::descriptor_of;
 use kabi_types::MOST_DESCRIPTORS;
 use kheap_slabs::{Access, Desc, KHeap, Target};
 use proc_table::{Place, ProcTable};
@@ -58,7 +59,7 @@ pub fn opened(heap: &KHeap, procs: &ProcTable, place: Place, fd: i64) -> Named
     let Some(number) = number_of(fd) else {
         return Named { fd, found: None };
     };
-    let held = proc.descriptors[number as usize];
+    let held = descriptor_of(heap, proc, number);
     let Some(descriptor) = held else {
         return Named { fd, found: None };
     };

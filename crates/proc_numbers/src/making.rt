@@ -18,6 +18,7 @@ ghost use Rattle.proc_numbers.specs.Answering.{pair_of, value_of};
 ghost use Rattle.proc_numbers.specs.PipeOpening.{AnswersAnew};
 ghost use Rattle.proc_numbers.specs.SocketOpening.{OpensBoth, StillUsed};
 
+use crate::closing::is_well_formed;
 use crate::describing::{describe, open_on};
 use crate::finding::lowest_from;
 use crate::opening::open_one;
@@ -43,6 +44,7 @@ pub fn make_socket(
     requires pays { CanPay heap.old purse.old }
     requires left_sock { 0 < purse.old.left.sock }
     requires left_desc { 0 < purse.old.left.desc }
+    requires left_leaf { 0 < purse.old.left.leaf }
     ensures answers { (numbers : Numbers) (script : Script) (plain : Plain) → HaveOpen numbers heap.old procs.now plain.files
         → AnswersAnew numbers heap.old heap.new procs.now script plain place.pid (socket script plain place.pid) (value_of result) }
     ensures nodes { OpensNoNode heap.old.descs → OpensNoNode heap.new.descs }
@@ -55,7 +57,7 @@ pub fn make_socket(
     ensures paid { IsPaid heap.old purse.old heap.new purse.new }
     ensures pays { CanPay heap.new purse.new }
     ensures spent { OnOk result (purse.new ≡ record purse.old {
-      left = with_count (with_count purse.old.left class.Sock (purse.old.left.sock - 1)) class.Desc (purse.old.left.desc - 1);
+      left = with_count (with_count (with_count purse.old.left class.Sock (purse.old.left.sock - 1)) class.Desc (purse.old.left.desc - 1)) class.Leaf purse.new.left.leaf;
     }) }
 {
     let Some(number) = lowest_from(heap, procs, place, 0) else {
@@ -84,6 +86,7 @@ pub fn make_pair(
     requires pays { CanPay heap.old purse.old }
     requires left_socks { 2 ≤ purse.old.left.sock }
     requires left_descs { 2 ≤ purse.old.left.desc }
+    requires left_leaf { 0 < purse.old.left.leaf }
     ensures answers { (numbers : Numbers) (script : Script) (plain : Plain) → HaveOpen numbers heap.old procs.now plain.files
         → AnswersAnew numbers heap.old heap.new procs.now script plain place.pid (socketpair script plain place.pid) (pair_of result) }
     ensures nodes { OpensNoNode heap.old.descs → OpensNoNode heap.new.descs }
@@ -96,7 +99,7 @@ pub fn make_pair(
     ensures paid { IsPaid heap.old purse.old heap.new purse.new }
     ensures pays { CanPay heap.new purse.new }
     ensures spent { OnOk result (purse.new ≡ record purse.old {
-      left = with_count (with_count purse.old.left class.Sock (purse.old.left.sock - 2)) class.Desc (purse.old.left.desc - 2);
+      left = with_count (with_count (with_count purse.old.left class.Sock (purse.old.left.sock - 2)) class.Desc (purse.old.left.desc - 2)) class.Leaf purse.new.left.leaf;
     }) }
 {
     let lowest = lowest_from(heap, procs, place, 0);
@@ -108,6 +111,7 @@ pub fn make_pair(
         return Err(Errno::EMFILE);
     };
     let ends = open_both(heap, purse);
+    is_well_formed(heap);
     let on_one = Descriptor {
         desc: ends.one,
         close_on_exec: false,

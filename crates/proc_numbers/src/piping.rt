@@ -18,8 +18,9 @@ ghost use Rattle.proc_numbers.specs.Queues.{QueuesStand};
 ghost use Rattle.proc_numbers.specs.Answering.{pair_of};
 ghost use Rattle.proc_numbers.specs.PipeOpening.{AnswersAnew, PipeOpens, end_of};
 
+use crate::closing::is_well_formed;
+use crate::finding::lowest_from;
 use crate::opening::open_one;
-use crate::sharing::lowest_from;
 use kabi_types::{Class, Errno};
 use kheap_slabs::{Access, Desc, DescFlags, Descriptor, KHeap, Purse, Target};
 use pipe_ends::pipe_make;
@@ -42,6 +43,7 @@ pub fn make_pipe(
     requires pays { CanPay heap.old purse.old }
     requires left_pipe { 0 < purse.old.left.pipe }
     requires left_descs { 2 ≤ purse.old.left.desc }
+    requires left_leaf { 0 < purse.old.left.leaf }
     ensures answers { (numbers : Numbers) (script : Script) (plain : Plain) → HaveOpen numbers heap.old procs.now plain.files
         → AnswersAnew numbers heap.old heap.new procs.now script plain place.pid (pipe script plain place.pid) (pair_of result) }
     ensures nodes { OpensNoNode heap.old.descs → OpensNoNode heap.new.descs }
@@ -54,18 +56,19 @@ pub fn make_pipe(
     ensures paid { IsPaid heap.old purse.old heap.new purse.new }
     ensures pays { CanPay heap.new purse.new }
     ensures spent { OnOk result (purse.new ≡ record purse.old {
-      left = with_count (with_count purse.old.left class.Pipe (purse.old.left.pipe - 1)) class.Desc (purse.old.left.desc - 2);
+      left = with_count (with_count (with_count purse.old.left class.Pipe (purse.old.left.pipe - 1)) class.Desc (purse.old.left.desc - 2)) class.Leaf purse.new.left.leaf;
     }) }
 {
     let lowest = lowest_from(heap, procs, place, 0);
     let Some(first) = lowest else {
         return Err(Errno::EMFILE);
     };
-    let next = lowest_from(heap, procs, place, first as u64 + 1);
+    let next = lowest_from(heap, procs, place, first + 1);
     let Some(second) = next else {
         return Err(Errno::EMFILE);
     };
     let ends = open_ends(heap, purse);
+    is_well_formed(heap);
     let reading = Descriptor {
         desc: ends.reading,
         close_on_exec: false,

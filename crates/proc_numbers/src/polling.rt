@@ -1,23 +1,21 @@
 //! `poll`.
 
-ghost use Rattle.std.specs.Prelude.{◌≡◌, ◌==◌, ◌&&◌, ◌≤◌, ℤ, length};
+ghost use Rattle.std.specs.Prelude.{◌≡◌, ◌==◌, ◌&&◌, ◌≤◌, length};
 ghost use Rattle.kabi_types.specs.Arguments.{is_minus_one};
 ghost use Rattle.kabi_types.specs.declared.calls.Call.{Call};
 ghost use Rattle.kabi_types.specs.declared.scripts.Script.{Script};
 ghost use Rattle.open_laws.specs.Placed.{Numbers};
 ghost use Rattle.posix_defs.specs.Account.{Account};
-ghost use Rattle.open_laws.specs.Open.{renumbered};
-ghost use Rattle.open_laws.specs.Polled.{IsOpenIn};
 ghost use Rattle.posix_defs.specs.Calls.Polling.{hits_of, poll, revents_of};
-ghost use Rattle.posix_defs.specs.Files.Descriptors.{descriptor_of};
-ghost use Rattle.posix_defs.specs.Files.State.{Files, descriptors_of};
+ghost use Rattle.posix_defs.specs.Files.State.{Files};
 ghost use Rattle.posix_defs.specs.Machine.{blocks};
 ghost use Rattle.posix_defs.specs.Plain.{Plain};
 ghost use Rattle.proc_numbers.specs.Having.{HaveOpen};
 ghost use Rattle.proc_table.specs.Table.{IsPlaced};
 ghost use Rattle.proc_numbers.specs.Standing.{IsKept, Leads, StandsFor};
 
-use desc_table::Descs;
+use crate::closing::is_well_formed;
+use desc_table::polled;
 use kabi_types::{PollEntry, PollHits, PollList, Reply, Revents};
 use kheap_slabs::KHeap;
 use posix_defs::Turned;
@@ -83,27 +81,17 @@ fn revents_of(heap: &KHeap, procs: &ProcTable, place: Place, entries: &[PollEntr
     ensures { (numbers : Numbers) (files : Files) → HaveOpen numbers heap.now procs.now files
         → result ≡ revents_of files place.pid entries.now }
 {
-    // These are many, so they are taken once and not for each entry.
-    let descs = descs_of(heap, procs, place);
+    is_well_formed(heap);
+    // Entries are many, so the process is looked up once and not for each.
+    let proc = procs.at(heap, place);
     let mut events = [0; 8];
     for index in 0..entries.len() {
-        events[index] = descs.polled(heap, &entries[index]);
+        events[index] = polled(heap, proc, &entries[index]);
     }
     let Some(revents) = Revents::of(&events[..entries.len()]) else {
         unreachable!();
     };
     revents
-}
-
-// What a process has open.
-fn descs_of(heap: &KHeap, procs: &ProcTable, place: Place) -> Descs
-    requires kept { IsKept heap.now procs.now }
-    requires there { IsPlaced procs.now place }
-    ensures open { (fd : ℤ) → IsOpenIn heap.now (descriptor_of result fd) }
-    ensures are { (numbers : Numbers) (files : Files) → HaveOpen numbers heap.now procs.now files
-        → descriptors_of files place.pid ≡ renumbered numbers.descs result }
-{
-    Descs::of(procs.at(heap, place).descriptors)
 }
 
 // How many entries are told something.

@@ -15,7 +15,7 @@ use Rattle.posix_defs.specs.Process.{Table, process_at}
 use Rattle.proc_table.specs.Accounting.{HasAccount}
 use Rattle.proc_table.specs.Changes.{cleared, ended, is_alone, is_other, left_behind, left_by, left_child}
 use Rattle.proc_table.specs.Moves.{MemoryStays, TableMoves}
-use Rattle.proc_table.specs.Procs.{HasClosed, HasEnded, HasNoMemoryOnce, IsLight, memory_at, no_nodes, proc_of}
+use Rattle.proc_table.specs.Procs.{HasClosed, HasEnded, HasNoMemoryOnce, IsLight, OpensNone, memory_at, no_nodes, proc_of}
 use Rattle.proc_table.specs.Standing.{AreFrom, IsTable, cleared_in, ends_in}
 use Rattle.proc_table.specs.Table.{Holds, TableView, objects_after, places_kept, processes}
 use Rattle.proc_table.proofs.AccountLemmas.{becomes_account}
@@ -34,14 +34,14 @@ cleared_light (proc ∷ procs) pid closed light = (
   record {
     light = light.0;
     empty = λ same. by_case (proc.pid == pid) refl same;
-    closed = λ same. as_open (proc.pid == pid) ∙ closed.0 (sym (with_nodes_pid pid no_nodes proc) ∙ same);
+    closed = λ same. as_open (proc.pid == pid) (closed.0 (sym (with_nodes_pid pid no_nodes proc) ∙ same));
   },
   cleared_light procs pid closed.1 light.1,
 )
   where
-    as_open : (b : Bool) → (cond b (record proc { nodes = no_nodes }) proc).descriptors ≡ proc.descriptors
-    as_open true = refl
-    as_open false = refl
+    as_open : (b : Bool) → OpensNone proc → OpensNone (cond b (record proc { nodes = no_nodes }) proc)
+    as_open true none = none
+    as_open false none = none
 
     by_case : (b : Bool) → (proc.pid == pid) ≡ b → (cleared pid proc).pid ≡ pid → keys_in (cleared pid proc).nodes ≡ []
     by_case true is same = ap (λ b. keys_in (cond b (record proc { nodes = no_nodes }) proc).nodes) is

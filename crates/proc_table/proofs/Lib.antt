@@ -12,6 +12,7 @@ pub mod SpaceLemmas
 pub mod EndLemmas
 pub mod WaitLemmas
 pub mod AddLemmas
+pub mod ForkCopies
 pub mod ForkLemmas
 pub mod BootLemmas
 pub mod MemoryLemmas
@@ -21,3 +22,5 @@ pub mod LawLemmas
 pub mod EndAll
 pub mod NumberLemmas
 pub mod OpenLemmas
+pub mod LeafEnds
+pub mod LeafTurns

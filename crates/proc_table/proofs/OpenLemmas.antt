@@ -4,29 +4,30 @@ use Rattle.std.specs.List.{AllByRecursion, filter_map}
 use Rattle.std.proofs.lemmas.Bool.{cases_lt}
 use Rattle.std.proofs.lemmas.List.{get_or_append_left, get_or_at, get_or_past}
 use Rattle.std.proofs.lemmas.Option.{unwrap_or-slice_get}
-use Rattle.std.specs.Prelude.{Result, Ok, Err, IfOk, OnErr}
-use Rattle.kabi_types.specs.declared.errnos.Errno.{Errno}
 use Rattle.kheap_slabs.specs.Objects.{object}
-use Rattle.kheap_slabs.specs.Purse.{Purse}
 use Rattle.kheap_slabs.specs.declared.objects.Desc.{Desc}
 use Rattle.kheap_slabs.specs.declared.objects.Descriptor.{Descriptor}
 use Rattle.kheap_slabs.specs.declared.objects.Proc.{Proc}
+use Rattle.kheap_slabs.specs.declared.objects.Leaf.{Leaf}
 use Rattle.kheap_slabs.specs.Heap.{Heap}
+use Rattle.kheap_slabs.specs.Leaves.{HoldLeaves, numbers_by}
 use Rattle.posix_defs.specs.Files.Descriptors.{none_open}
 use Rattle.posix_defs.specs.Files.State.{Files, boot_files, descriptors_of, with_heir}
 use Rattle.open_laws.specs.Open.{descriptors_by}
 use Rattle.open_laws.specs.Sharing.{CanShare, share_all}
 use Rattle.proc_table.specs.Changes.{after_wait, child_proc, cleared, ended, is_alone, is_other, left_behind, left_by, left_child, reaped_of, replaced, with_nodes}
-use Rattle.proc_table.specs.Moves.{IsForked, ProcTurns, SpaceTurns, TableMoves, sharing}
-use Rattle.proc_table.specs.Opening.{HaveOpen, HoldsBare}
+use Rattle.proc_table.specs.Moves.{HasCopies, IsForked, ProcTurns, TableMoves, sharing}
+use Rattle.proc_table.specs.Opening.{HaveOpen}
 use Rattle.proc_table.specs.Procs.{HasClosed, HasNoneOpenOnce, IsLight, NoneOpen, OpensNone, first_proc, no_descriptors, no_nodes, numbers_in, proc_of}
 use Rattle.proc_table.specs.Table.{Holds, TableView, processes}
 use Rattle.proc_table.specs.declared.reaped.Reaped.{Reaped}
 use Rattle.proc_table.specs.declared.reaped.Reaped.TheVariants.{NoChild, Nobody, Took}
-use Rattle.proc_table.proofs.AccountLemmas.{all_both, none_kept, none_more, pids_within}
+use Rattle.proc_table.proofs.AccountLemmas.{all_both, none_kept as gone_kept, none_more, pids_within}
 use Rattle.proc_table.proofs.FamilyLemmas.{filter_is, left_pid, proc_has_pid, reaped, reaped_pid}
 use Rattle.proc_table.proofs.OwnLemmas.{all_append, all_filter_map, all_weaker, has_it, rising_procs}
-use Rattle.proc_table.proofs.LawLemmas.{back-moves, back-procs, on-procs, only_one}
+use Rattle.proc_table.proofs.LawLemmas.{on-procs, only_one}
+use Rattle.proc_table.proofs.LeafTurns.{forked_others}
+use Rattle.proc_table.proofs.NumberLemmas.{KeepsNumbers, none_kept, none_numbers, numbers_kept}
 use Rattle.proc_table.proofs.PlaceLemmas.{eqb_is, key_of-proc, some_same}
 use Rattle.proc_table.proofs.TurnLemmas.{GoesLight, all_changed, goes_light, with_nodes_pid}
 use Rattle.proc_table.proofs.WaitLemmas.{took_ended}
@@ -47,7 +48,7 @@ pub have_through : (h : Heap) (P : Proc → Type 0) (becomes : Proc → Option P
     → HaveOpen (numbers_in h) procs last number files → HaveOpen (numbers_in h) (filter_map becomes procs) last number files
 have_through h P becomes procs last number files pids keeps nothing all have = record {
   placed = all_filter_map (λ proc. P proc × Placed h number files proc) (Placed h number files) becomes procs still (all_both P (Placed h number files) procs all have.placed);
-  gone = λ q none. gone q (none_kept becomes procs q pids none);
+  gone = λ q none. gone q (gone_kept becomes procs q pids none);
   made = have.made;
 }
   where
@@ -59,7 +60,7 @@ have_through h P becomes procs last number files pids keeps nothing all have = r
     gone q (inr (proc, there, goes)) =
         let placed : Placed h number files proc = has_it (Placed h number files) procs q proc have.placed there in
         ap (descriptors_of files) (sym (proc_has_pid procs q proc there))
-        ∙ (placed ∙ (ap (descriptors_by number) (nothing proc (has_it P procs q proc all there) goes) ∙ none_by number))
+        ∙ (placed ∙ (ap (descriptors_by number) (none_numbers h proc (nothing proc (has_it P procs q proc all there) goes)) ∙ none_by number))
 
 -- all of them stay
 pub have_changed : (h : Heap) (P : Proc → Type 0) (change : Proc → Proc) (procs : List Proc) (last : ℕ) (number : ℕ → ℕ) (files : Files)
@@ -74,19 +75,12 @@ have_changed h P change procs last number files pids keeps all have =
 
 -- ---- other nodes
 
-nodes_descriptors : (pid : ℕ) (nodes : List (Option ℕ)) (proc : Proc) → (with_nodes pid nodes proc).descriptors ≡ proc.descriptors
-nodes_descriptors pid nodes proc = by_case (proc.pid == pid)
+pub nodes_numbers : (pid : ℕ) (nodes : List (Option ℕ)) (proc : Proc) → KeepsNumbers (with_nodes pid nodes proc) proc
+nodes_numbers pid nodes proc = by_case (proc.pid == pid)
   where
-    by_case : (b : Bool) → (cond b (record proc { nodes = nodes }) proc).descriptors ≡ proc.descriptors
-    by_case true = refl
-    by_case false = refl
-
-nodes_status : (pid : ℕ) (nodes : List (Option ℕ)) (proc : Proc) → (with_nodes pid nodes proc).status ≡ proc.status
-nodes_status pid nodes proc = by_case (proc.pid == pid)
-  where
-    by_case : (b : Bool) → (cond b (record proc { nodes = nodes }) proc).status ≡ proc.status
-    by_case true = refl
-    by_case false = refl
+    by_case : (b : Bool) → KeepsNumbers (cond b (record proc { nodes = nodes }) proc) proc
+    by_case true = record { descriptors = refl; leaves = refl }
+    by_case false = record { descriptors = refl; leaves = refl }
 
 any : (procs : List Proc) → AllByRecursion (λ (p : Proc). Unit {0}) procs
 any [] = tt
@@ -95,33 +89,38 @@ any (proc ∷ procs) = (tt, any procs)
 pub have_nodes : (h : Heap) (pid : ℕ) (nodes : List (Option ℕ)) (procs : List Proc) (last : ℕ) (number : ℕ → ℕ) (files : Files)
     → HaveOpen (numbers_in h) procs last number files → HaveOpen (numbers_in h) (map (with_nodes pid nodes) procs) last number files
 have_nodes h pid nodes procs last number files =
-    have_changed h (λ p. Unit {0}) (with_nodes pid nodes) procs last number files (with_nodes_pid pid nodes) (λ proc its. nodes_descriptors pid nodes proc) (any procs)
+    have_changed h (λ p. Unit {0}) (with_nodes pid nodes) procs last number files (with_nodes_pid pid nodes) (λ proc its. numbers_kept h (with_nodes pid nodes proc) proc (nodes_numbers pid nodes proc)) (any procs)
 
 -- ---- one ends
 
-left_descriptors : (pid status : ℕ) (proc now : Proc) → left_behind pid status proc ≡ Some now → now.descriptors ≡ proc.descriptors
-left_descriptors pid status proc now is = by_pid (proc.pid == pid) is
+left_numbers : (pid status : ℕ) (proc now : Proc) → left_behind pid status proc ≡ Some now → KeepsNumbers now proc
+left_numbers pid status proc now is = by_pid (proc.pid == pid) is
   where
-    child : (told : Option ℕ) → left_child told proc ≡ Some now → now.descriptors ≡ proc.descriptors
-    child None e = cc
-    child (Some over) e = cc
+    from : (was : Proc) → was.descriptors ≡ proc.descriptors → was.leaves ≡ proc.leaves → Some was ≡ Some now → KeepsNumbers now proc
+    from was descriptors leaves e =
+        let same = some_same (Some was) was now refl e in
+        record { descriptors = ap (λ (p : Proc). p.descriptors) (sym same) ∙ descriptors; leaves = ap (λ (p : Proc). p.leaves) (sym same) ∙ leaves }
 
-    by_parent : (b : Bool) → cond b (left_child proc.status proc) (Some proc) ≡ Some now → now.descriptors ≡ proc.descriptors
+    child : (told : Option ℕ) → left_child told proc ≡ Some now → KeepsNumbers now proc
+    child None e = from (record proc { parent = 1 }) refl refl e
+    child (Some over) e = absurd (cc)
+
+    by_parent : (b : Bool) → cond b (left_child proc.status proc) (Some proc) ≡ Some now → KeepsNumbers now proc
     by_parent true e = child proc.status e
-    by_parent false e = cc
+    by_parent false e = from proc refl refl e
 
-    by_pid : (b : Bool) → cond b (Some (record proc { status = Some status })) (cond (proc.parent == pid) (left_child proc.status proc) (Some proc)) ≡ Some now → now.descriptors ≡ proc.descriptors
-    by_pid true e = cc
+    by_pid : (b : Bool) → cond b (Some (record proc { status = Some status })) (cond (proc.parent == pid) (left_child proc.status proc) (Some proc)) ≡ Some now → KeepsNumbers now proc
+    by_pid true e = from (record proc { status = Some status }) refl refl e
     by_pid false e = by_parent (proc.parent == pid) e
 
 -- who has ended has nothing open
-abbrev Over : Proc → Type 0
-Over proc = HasNoneOpenOnce proc.status proc.descriptors
+abbrev pub Over : Proc → Type 0
+Over proc = HasNoneOpenOnce proc.status proc.descriptors proc.leaves
 
 left_nothing : (pid status : ℕ) (proc : Proc) → Over proc → left_behind pid status proc ≡ None → OpensNone proc
 left_nothing pid status proc over is = by_pid (proc.pid == pid) is
   where
-    child : (told : Option ℕ) → HasNoneOpenOnce told proc.descriptors → left_child told proc ≡ None → OpensNone proc
+    child : (told : Option ℕ) → HasNoneOpenOnce told proc.descriptors proc.leaves → left_child told proc ≡ None → OpensNone proc
     child None its e = absurd (cc)
     child (Some status) its e = its
 
@@ -134,33 +133,35 @@ left_nothing pid status proc over is = by_pid (proc.pid == pid) is
     by_pid false e = by_parent (proc.parent == pid) e
 
 -- the same once memory is cleared
-over_cleared : (pid : ℕ) (procs : List Proc) → AllByRecursion IsLight procs → AllByRecursion Over (map (cleared pid) procs)
+pub over_cleared : (pid : ℕ) (procs : List Proc) → AllByRecursion IsLight procs → AllByRecursion Over (map (cleared pid) procs)
 over_cleared pid [] light = tt
 over_cleared pid (proc ∷ procs) light = (
-  let its = light.0 in
-      subst (λ (status : Option ℕ). HasNoneOpenOnce status (cleared pid proc).descriptors) (sym (nodes_status pid no_nodes proc))
-      (subst (HasNoneOpenOnce proc.status) (sym (nodes_descriptors pid no_nodes proc)) its.descriptors),
+  by_case (proc.pid == pid),
   over_cleared pid procs light.1,
 )
+  where
+    by_case : (b : Bool) → Over (cond b (record proc { nodes = no_nodes }) proc)
+    by_case true = let its = light.0 in its.descriptors
+    by_case false = let its = light.0 in its.descriptors
 
 have_left : (h : Heap) (pid status : ℕ) (procs : List Proc) (last : ℕ) (number : ℕ → ℕ) (files : Files) → AllByRecursion IsLight procs
     → HaveOpen (numbers_in h) procs last number files → HaveOpen (numbers_in h) (left_by pid status procs) last number files
 have_left h pid status procs last number files light have =
-    have_through h Over (left_behind pid status) (map (cleared pid) procs) last number files (left_pid pid status) (λ proc now over is. left_descriptors pid status proc now is)
+    have_through h Over (left_behind pid status) (map (cleared pid) procs) last number files (left_pid pid status) (λ proc now over is. numbers_kept h now proc (left_numbers pid status proc now is))
     (left_nothing pid status) (over_cleared pid procs light) (have_nodes h pid no_nodes procs last number files have)
 
-abbrev Closed : ℕ → Proc → Type 0
+abbrev pub Closed : ℕ → Proc → Type 0
 Closed pid proc = proc.pid ≡ pid → OpensNone proc
 
 closed_cleared : (pid : ℕ) (procs : List Proc) → HasClosed procs pid → HasClosed (map (cleared pid) procs) pid
 closed_cleared pid [] closed = tt
 closed_cleared pid (proc ∷ procs) closed =
-    ((λ own. nodes_descriptors pid no_nodes proc ∙ closed.0 (sym (with_nodes_pid pid no_nodes proc) ∙ own)), closed_cleared pid procs closed.1)
+    ((λ own. none_kept (cleared pid proc) proc (nodes_numbers pid no_nodes proc) (closed.0 (sym (with_nodes_pid pid no_nodes proc) ∙ own))), closed_cleared pid procs closed.1)
 
-closed_left : (pid status : ℕ) (procs : List Proc) → HasClosed procs pid → HasClosed (left_by pid status procs) pid
+pub closed_left : (pid status : ℕ) (procs : List Proc) → HasClosed procs pid → HasClosed (left_by pid status procs) pid
 closed_left pid status procs closed =
     all_filter_map (Closed pid) (Closed pid) (left_behind pid status) (map (cleared pid) procs)
-    (λ proc now its is own. left_descriptors pid status proc now is ∙ its (sym (left_pid pid status proc now is) ∙ own)) (closed_cleared pid procs closed)
+    (λ proc now its is own. none_kept now proc (left_numbers pid status proc now is) (its (sym (left_pid pid status proc now is) ∙ own))) (closed_cleared pid procs closed)
 
 -- the process of a pid goes
 have_gone : (h : Heap) (pid : ℕ) (procs : List Proc) (last : ℕ) (number : ℕ → ℕ) (files : Files) → HasClosed procs pid
@@ -168,7 +169,7 @@ have_gone : (h : Heap) (pid : ℕ) (procs : List Proc) (last : ℕ) (number : �
 have_gone h pid procs last number files closed have =
     subst (λ (list : List Proc). HaveOpen (numbers_in h) list last number files) (filter_is (is_other pid) procs)
     (have_through h (Closed pid) (reaped pid) procs last number files (λ proc now is. ap (λ (p : Proc). p.pid) (reaped_pid pid proc now is))
-    (λ proc now its is. ap (λ (p : Proc). p.descriptors) (reaped_pid pid proc now is))
+    (λ proc now its is. ap (numbers_in h) (reaped_pid pid proc now is))
     (λ proc its is. its (own proc (proc.pid == pid) refl is)) closed have)
   where
     own : (proc : Proc) (b : Bool) → (proc.pid == pid) ≡ b → cond (not b) (Some proc) None ≡ None → proc.pid ≡ pid
@@ -235,14 +236,17 @@ heir_other files pid (suc n) apart = open_at (with_heir files pid) n ∙ (more (
 heir_new : (files : Files) (pid : ℕ) → descriptors_of (with_heir files pid) (suc (length files.descriptors)) ≡ descriptors_of files pid
 heir_new files pid = open_at (with_heir files pid) (length files.descriptors) ∙ get_or_at files.descriptors (descriptors_of files pid) [] none_open (length files.descriptors) refl
 
-pub have_forked : (old new : Heap) (was now : TableView) (pid child : ℕ) (number : ℕ → ℕ) (files : Files) → Holds old was → child ≡ was.last + 1 → IsForked old was new now pid child
+pub have_forked : (old new : Heap) (was now : TableView) (pid child : ℕ) (number : ℕ → ℕ) (files : Files) → Holds old was → HoldLeaves old.leaves (processes old was) → child ≡ was.last + 1
+    → (forked : IsForked old was new now pid child) → HasCopies old new forked.parent (child_proc forked.parent child forked.nodes forked.leaves)
     → HaveOpen (numbers_in old) (processes old was) was.last number files → HaveOpen (numbers_in new) (processes new now) now.last number (with_heir files pid)
-have_forked old new was now pid child number files holds next forked have = record {
-  placed = subst (AllByRecursion (Placed old number (with_heir files pid))) (sym forked.processes_are)
-      (all_append (Placed old number (with_heir files pid)) (processes old was) (its ∷ [])
-      (all_weaker (λ p. Placed old number files p × ((0 < p.pid) × (p.pid ≤ was.last))) (Placed old number (with_heir files pid)) (processes old was)
-      (λ p both. heir_other files pid p.pid (λ same. let low = both.1.1 in omega (arith, same, low, made)) ∙ both.0)
-      (all_both (Placed old number files) (λ p. (0 < p.pid) × (p.pid ≤ was.last)) (processes old was) have.placed (pids_within old.procs was.listed 0 was.last holds.stored holds.rising)))
+have_forked old new was now pid child number files holds hold next forked copies have = record {
+  placed = subst (AllByRecursion (Placed new number (with_heir files pid))) (sym forked.processes_are)
+      (all_append (Placed new number (with_heir files pid)) (processes old was) (its ∷ [])
+      (all_weaker (λ p. (Placed old number files p × (numbers_in new p ≡ numbers_in old p)) × ((0 < p.pid) × (p.pid ≤ was.last))) (Placed new number (with_heir files pid)) (processes old was)
+      (λ p both. heir_other files pid p.pid (λ same. let low = both.1.1 in omega (arith, same, low, made)) ∙ (both.0.0 ∙ ap (descriptors_by number) (sym both.0.1)))
+      (all_both (λ p. Placed old number files p × (numbers_in new p ≡ numbers_in old p)) (λ p. (0 < p.pid) × (p.pid ≤ was.last)) (processes old was)
+      (all_both (Placed old number files) (λ p. numbers_in new p ≡ numbers_in old p) (processes old was) have.placed (forked_others old new (processes old was) forked.parent its hold copies))
+      (pids_within old.procs was.listed 0 was.last holds.stored holds.rising)))
       (child_placed, tt));
   gone = λ q none.
       let before = none_more (processes old was) its q (ap (λ (procs : List Proc). proc_of procs q) (sym forked.processes_are) ∙ none) in
@@ -251,7 +255,7 @@ have_forked old new was now pid child number files holds next forked have = reco
 }
   where
     its : Proc
-    its = child_proc forked.parent child forked.nodes
+    its = child_proc forked.parent child forked.nodes forked.leaves
 
     made : length files.descriptors ≡ was.last
     made = have.made
@@ -261,15 +265,15 @@ have_forked old new was now pid child number files holds next forked have = reco
         ap (descriptors_of files) (sym (proc_has_pid (processes old was) pid forked.parent forked.parent_is))
         ∙ has_it (Placed old number files) (processes old was) pid forked.parent have.placed forked.parent_is
 
-    child_placed : descriptors_of (with_heir files pid) child ≡ descriptors_by number (numbers_in old forked.parent)
+    child_placed : descriptors_of (with_heir files pid) child ≡ descriptors_by number (numbers_in new its)
     child_placed =
         let is : child ≡ suc (length files.descriptors) = omega (arith, next, made) in
-        ap (descriptors_of (with_heir files pid)) is ∙ (heir_new files pid ∙ parent_placed)
+        ap (descriptors_of (with_heir files pid)) is ∙ (heir_new files pid ∙ (parent_placed ∙ ap (descriptors_by number) (sym copies.numbers)))
 
 -- ---- at boot
 
 pub have_booted : (h : Heap) (number : ℕ → ℕ) (blocks : ℕ) → HaveOpen (numbers_in h) (first_proc ∷ []) 1 number (boot_files blocks)
-have_booted h number blocks = record { placed = (sym (none_by number), tt); gone = nothing; made = refl }
+have_booted h number blocks = record { placed = (sym (ap (descriptors_by number) (none_numbers h first_proc (refl, refl)) ∙ none_by number), tt); gone = nothing; made = refl }
   where
     nothing : (q : ℕ) → proc_of (first_proc ∷ []) q ≡ None → descriptors_of (boot_files blocks) q ≡ none_open
     nothing zero gone = refl
@@ -280,18 +284,18 @@ have_booted h number blocks = record { placed = (sym (none_by number), tt); gone
 
 pub bare_nodes : (pid : ℕ) (nodes : List (Option ℕ)) (procs : List Proc) → NoneOpen procs → NoneOpen (map (with_nodes pid nodes) procs)
 bare_nodes pid nodes [] bare = tt
-bare_nodes pid nodes (proc ∷ procs) bare = (nodes_descriptors pid nodes proc ∙ bare.0, bare_nodes pid nodes procs bare.1)
+bare_nodes pid nodes (proc ∷ procs) bare = (none_kept (with_nodes pid nodes proc) proc (nodes_numbers pid nodes proc) bare.0, bare_nodes pid nodes procs bare.1)
 
 bare_gone : (pid : ℕ) (procs : List Proc) → NoneOpen procs → NoneOpen (filter (is_other pid) procs)
 bare_gone pid procs bare =
     subst NoneOpen (filter_is (is_other pid) procs)
-    (all_filter_map OpensNone OpensNone (reaped pid) procs (λ proc now its is. ap (λ (p : Proc). p.descriptors) (reaped_pid pid proc now is) ∙ its) bare)
+    (all_filter_map OpensNone OpensNone (reaped pid) procs (λ proc now its is. subst OpensNone (sym (reaped_pid pid proc now is)) its) bare)
 
 pub bare_ended : (pid status : ℕ) (procs : List Proc) → NoneOpen procs → NoneOpen (ended pid status procs)
 bare_ended pid status procs bare = by_case (is_alone pid procs)
   where
     left : NoneOpen (left_by pid status procs)
-    left = all_filter_map OpensNone OpensNone (left_behind pid status) (map (cleared pid) procs) (λ proc now its is. left_descriptors pid status proc now is ∙ its) (bare_nodes pid no_nodes procs bare)
+    left = all_filter_map OpensNone OpensNone (left_behind pid status) (map (cleared pid) procs) (λ proc now its is. none_kept now proc (left_numbers pid status proc now is) its) (bare_nodes pid no_nodes procs bare)
 
     by_case : (b : Bool) → NoneOpen (cond b (filter (is_other pid) (left_by pid status procs)) (left_by pid status procs))
     by_case true = bare_gone pid (left_by pid status procs) left
@@ -310,8 +314,8 @@ bare_replaced pid now (proc ∷ procs) its bare = (by_case (proc.pid == pid), ba
     by_case true = its
     by_case false = bare.0
 
-pub bare_forked : (pid child : ℕ) (nodes : List (Option ℕ)) (parent : Proc) (procs : List Proc) → proc_of procs pid ≡ Some parent → NoneOpen procs → NoneOpen (procs ++ child_proc parent child nodes ∷ [])
-bare_forked pid child nodes parent procs there bare = all_append OpensNone procs (child_proc parent child nodes ∷ []) bare (has_it OpensNone procs pid parent bare there, tt)
+pub bare_forked : (pid child : ℕ) (nodes : List (Option ℕ)) (parent : Proc) (procs : List Proc) → proc_of procs pid ≡ Some parent → NoneOpen procs → NoneOpen (procs ++ child_proc parent child nodes parent.leaves ∷ [])
+bare_forked pid child nodes parent procs there bare = all_append OpensNone procs (child_proc parent child nodes parent.leaves ∷ []) bare (has_it OpensNone procs pid parent bare there, tt)
 
 pub bare_closed : (pid : ℕ) (procs : List Proc) → NoneOpen procs → HasClosed procs pid
 bare_closed pid procs bare = all_weaker OpensNone (Closed pid) procs (λ proc its own. its) bare
@@ -320,13 +324,14 @@ bare_closed pid procs bare = all_weaker OpensNone (Closed pid) procs (λ proc it
 pub bare_shares : (h : Heap) (pid : ℕ) (parent : Proc) (procs : List Proc) (descs : List (Option Desc)) → proc_of procs pid ≡ Some parent → NoneOpen procs
     → CanShare descs (numbers_in h parent) × (share_all descs (numbers_in h parent) ≡ descs)
 bare_shares h pid parent procs descs there bare =
-    subst (λ (places : List (Option Descriptor)). CanShare descs places × (share_all descs places ≡ descs)) (sym (has_it OpensNone procs pid parent bare there))
+    subst (λ (places : List (Option Descriptor)). CanShare descs places × (share_all descs places ≡ descs)) (sym (none_numbers h parent (has_it OpensNone procs pid parent bare there)))
     (record { there = λ key some. absurd (omega (arith, some)); small = λ key some. absurd (omega (arith, some)) }, refl)
 
 pub bare_moves : (old new : Heap) (was now : TableView) (pid : ℕ) (parent : Proc) → proc_of (processes old was) pid ≡ Some parent → NoneOpen (processes old was)
-    → new.descs ≡ share_all old.descs (numbers_in old parent) → TableMoves (sharing old new) was new now → TableMoves old was new now
-bare_moves old new was now pid parent there bare shared moves =
-    subst (λ (d : List (Option Desc)). TableMoves (record old { descs = d }) was new now) (shared ∙ (bare_shares old pid parent (processes old was) old.descs there bare).1) moves
+    → new.descs ≡ share_all old.descs (numbers_in old parent) → new.leaves ≡ old.leaves → TableMoves (sharing old new) was new now → TableMoves old was new now
+bare_moves old new was now pid parent there bare shared leaves moves =
+    subst (λ (d : List (Option Desc)). TableMoves (record old { descs = d }) was new now) (shared ∙ (bare_shares old pid parent (processes old was) old.descs there bare).1)
+    (subst (λ (l : List (Option Leaf)). TableMoves (record old { descs = new.descs; leaves = l }) was new now) leaves moves)
 
 -- ---- a process goes on
 
@@ -336,23 +341,7 @@ have_turned old new kept pid key proc now number files holds turns have =
     let named = key_of-proc old.procs kept.listed pid key holds.stored turns.found in
     let same : named.0 ≡ proc = some_same (object old.procs key) named.0 proc named.1 turns.there in
     let own : proc.pid ≡ pid = ap (λ (p : Proc). p.pid) (sym same) ∙ named.2 in
-    subst (λ (procs : List Proc). HaveOpen (numbers_in old) procs kept.last number files) (sym (on-procs old new kept pid key proc now holds turns))
+    subst (λ (leaves : List (Option Leaf)). HaveOpen (λ p. numbers_by leaves p.descriptors p.leaves) (processes new kept) kept.last number files) (sym (ap (λ (h : Heap). h.leaves) turns.after))
+    (subst (λ (procs : List Proc). HaveOpen (numbers_in old) procs kept.last number files) (sym (on-procs old new kept pid key proc now holds turns))
     (have_replaced old pid proc now (processes old kept) kept.last number files (ap (λ (p : Proc). p.pid) turns.same ∙ own) (ap (numbers_in old) turns.same)
-    (only_one (processes old kept) 0 pid proc (rising_procs old.procs kept.listed 0 kept.last holds.stored holds.rising) (named.3 ∙ ap Some same)) have)
-
--- ---- a table without anything open
-
-pub bare_fork : (old new : Heap) (was now : TableView) (before after : Purse) (pid : ℕ) (result : Result ℕ Errno) → IfOk result (λ child. IsForked old was new now pid child)
-    → OnErr result ((new ≡ old) × (now ≡ was) × (after ≡ before)) → NoneOpen (processes old was) → NoneOpen (processes new now)
-bare_fork old new was now before after pid (Ok child) forked unchanged bare =
-    subst NoneOpen (sym forked.processes_are) (bare_forked pid child forked.nodes forked.parent (processes old was) forked.parent_is bare)
-bare_fork old new was now before after pid (Err errno) forked unchanged bare =
-    subst (λ (h : Heap). NoneOpen (processes h now)) (sym unchanged.0) (subst (λ (kept : TableView). NoneOpen (processes old kept)) (sym unchanged.1) bare)
-
-pub holds_back : (old mid new : Heap) (kept : TableView) (pid key : ℕ) (proc : Proc) (now : List (Option ℕ)) → HoldsBare old kept → SpaceTurns old mid new kept pid key proc now → HoldsBare new kept
-holds_back old mid new kept pid key proc now bare turns =
-    let moves = back-moves old mid new kept pid key proc now bare.holds turns in
-    record {
-      holds = moves.holds;
-      none = subst NoneOpen (sym (back-procs old mid new kept pid key proc now bare.holds turns)) (bare_nodes pid now (processes old kept) bare.none);
-    }
+    (only_one (processes old kept) 0 pid proc (rising_procs old.procs kept.listed 0 kept.last holds.stored holds.rising) (named.3 ∙ ap Some same)) have))

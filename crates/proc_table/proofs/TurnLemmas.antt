@@ -4,7 +4,6 @@ use Rattle.std.specs.List.{AllByRecursion, filter_map}
 use Rattle.std.specs.Option.{option_and_then}
 use Rattle.std.proofs.lemmas.Bool.Decides.{eqb_tells}
 use Rattle.kheap_slabs.specs.Objects.{object, put}
-use Rattle.kheap_slabs.specs.declared.objects.Descriptor.{Descriptor}
 use Rattle.kheap_slabs.specs.declared.objects.Node.{Node}
 use Rattle.kheap_slabs.specs.declared.objects.Page.{Page}
 use Rattle.kheap_slabs.specs.declared.objects.Proc.{Proc}
@@ -16,7 +15,7 @@ use Rattle.kheap_laws.proofs.OwnerLemmas.{IsOwned-same, IsOwned-space_from_front
 use Rattle.page_space.specs.Contents.{content_at, IsOwnedWith}
 use Rattle.proc_table.specs.Changes.{is_other, with_nodes}
 use Rattle.proc_table.specs.Moves.{MemoryStays, TableMoves}
-use Rattle.proc_table.specs.Procs.{IsLight, HasNoMemoryOnce, HasNoneOpenOnce, OpensNone, no_descriptors, proc_of}
+use Rattle.proc_table.specs.Procs.{IsLight, HasNoMemoryOnce, HasNoneOpenOnce, OpensNone, proc_of}
 use Rattle.proc_table.specs.Table.{AreStored, Holds, TableView, key_of, keys_of, places_kept, processes, procs_at, with_procs}
 use Rattle.proc_table.specs.declared.places.Place.{Place}
 use Rattle.proc_table.proofs.PlaceLemmas.{Follows, IsAt, Misses, eqb_other, eqb_same, follows_keys, follows_one, follows_procs, follows_stored, key_of-misses, key_of-proc, object_missed, some_same, stored_is}
@@ -84,9 +83,9 @@ empty_once : (status : Option ℕ) (nodes : List (Option ℕ)) (over : ℕ) → 
 empty_once None nodes over is memory = cc
 empty_once (Some status) nodes over is memory = memory
 
-pub closed_once : (status : Option ℕ) (descriptors : List (Option Descriptor)) (over : ℕ) → status ≡ Some over → HasNoneOpenOnce status descriptors → descriptors ≡ no_descriptors
-closed_once None descriptors over is closed = absurd (cc)
-closed_once (Some status) descriptors over is closed = closed
+pub closed_once : (status : Option ℕ) (proc : Proc) (over : ℕ) → status ≡ Some over → HasNoneOpenOnce status proc.descriptors proc.leaves → OpensNone proc
+closed_once None proc over is closed = absurd (cc)
+closed_once (Some status) proc over is closed = closed
 
 none_above : (procs : List Proc) (before pid : ℕ) → AreRising before procs → pid ≤ before → AllByRecursion IsLight procs → AllByRecursion (GoesLight pid) procs
 none_above [] before pid rising low light = tt
@@ -109,7 +108,7 @@ goes_light (first ∷ procs) before pid proc over rising is ended light =
           record {
             light = light.0;
             empty = λ it. empty_once first.status first.nodes over (ap (λ p. p.status) one ∙ ended) light.0.memory;
-            closed = λ it. closed_once first.status first.descriptors over (ap (λ p. p.status) one ∙ ended) light.0.descriptors;
+            closed = λ it. closed_once first.status first over (ap (λ p. p.status) one ∙ ended) light.0.descriptors;
           },
           none_above procs first.pid pid rising.1 (let e = same.1 in omega arith) light.1,
         )

@@ -28,9 +28,9 @@ cleared pid = with_nodes pid no_nodes
 abbrev pub replaced : ℕ → Proc → Proc → Proc
 replaced pid now proc = if proc.pid == pid then now else proc
 
--- a child of a process, with this pid and these nodes
-abbrev pub child_proc : Proc → ℕ → List (Option ℕ) → Proc
-child_proc parent pid nodes = record parent { pid = pid; parent = parent.pid; nodes = nodes }
+-- a child of a process, with this pid, these nodes and these Leaves
+abbrev pub child_proc : Proc → ℕ → List (Option ℕ) → List (Option ℕ) → Proc
+child_proc parent pid nodes leaves = record parent { pid = pid; parent = parent.pid; nodes = nodes; leaves = leaves }
 
 -- a live child gets the first process as parent; one that has ended goes
 abbrev pub left_child : Option ℕ → Proc → Option Proc

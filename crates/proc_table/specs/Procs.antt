@@ -5,6 +5,8 @@ use Rattle.kabi_types.specs.Arguments.{most_descriptors}
 use Rattle.kheap_slabs.specs.declared.objects.Descriptor.{Descriptor}
 use Rattle.kheap_slabs.specs.declared.objects.Proc.{Proc}
 use Rattle.kheap_slabs.specs.Heap.{Heap}
+use Rattle.kheap_slabs.specs.Leaves.{no_row, numbers_by}
+use Rattle.desc_table.specs.Copying.{no_leaves}
 use Rattle.page_space.specs.Contents.{content_at}
 use Rattle.posix_defs.specs.Memory.{Memory}
 use Rattle.posix_defs.specs.Process.{Process, Status, Alive, Ended}
@@ -16,13 +18,13 @@ abbrev pub status_of : Option ℕ → Status
 status_of None = Alive
 status_of (Some status) = Ended status
 
--- what a process has open, by number
+-- what a process has open, by number, with the Leaves that its Proc names
 abbrev pub numbers_in : Heap → Proc → List (Option Descriptor)
-numbers_in h proc = proc.descriptors
+numbers_in h proc = numbers_by h.leaves proc.descriptors proc.leaves
 
--- the process, where other numbers are open in it
-abbrev pub with_numbers : Proc → List (Option Descriptor) → Proc
-with_numbers proc numbers = record proc { descriptors = numbers }
+-- the process with the numbers that another one's Proc has and names
+abbrev pub with_numbers : Proc → Proc → Proc
+with_numbers proc now = record proc { descriptors = now.descriptors; leaves = now.leaves }
 
 -- the bytes of each page of a space, by its number
 unfoldable pub memory_at : Heap → List (Option ℕ) → Memory
@@ -59,7 +61,7 @@ pub record HasEnded (procs : List Proc) (pid : ℕ) : Type 0 where
 abbrev pub no_nodes : List (Option ℕ)
 no_nodes = None ∷ None ∷ None ∷ None ∷ []
 
--- no descriptor is open
+-- no descriptor is open, of all numbers
 abbrev pub no_descriptors : List (Option Descriptor)
 no_descriptors = replicate most_descriptors None
 
@@ -71,13 +73,18 @@ first_proc = record {
   status = None;
   cwd = root;
   control = at_start 0;
-  descriptors = no_descriptors;
+  descriptors = no_row;
   nodes = no_nodes;
+  leaves = no_leaves;
 }
 
--- no number is open in the process
+-- the process, once none is
+abbrev pub closed_all : Proc → Proc
+closed_all proc = record proc { descriptors = no_row; leaves = no_leaves }
+
+-- no number is open in the process: none of the first ones, and no Leaf of it is there
 abbrev pub OpensNone : Proc → Type 0
-OpensNone proc = proc.descriptors ≡ no_descriptors
+OpensNone proc = (proc.descriptors ≡ no_row) × (proc.leaves ≡ no_leaves)
 
 -- the space is empty where the process has ended
 abbrev pub HasNoMemoryOnce : Option ℕ → List (Option ℕ) → Type 0
@@ -85,14 +92,14 @@ HasNoMemoryOnce None nodes = Unit {0}
 HasNoMemoryOnce (Some status) nodes = keys_in nodes ≡ []
 
 -- no descriptor is open where the process has ended
-abbrev pub HasNoneOpenOnce : Option ℕ → List (Option Descriptor) → Type 0
-HasNoneOpenOnce None descriptors = Unit {0}
-HasNoneOpenOnce (Some status) descriptors = descriptors ≡ no_descriptors
+abbrev pub HasNoneOpenOnce : Option ℕ → List (Option Descriptor) → List (Option ℕ) → Type 0
+HasNoneOpenOnce None descriptors leaves = Unit {0}
+HasNoneOpenOnce (Some status) descriptors leaves = (descriptors ≡ no_row) × (leaves ≡ no_leaves)
 
 -- a process that has ended has no memory, and no descriptor is open in it
 pub record IsLight (proc : Proc) : Type 0 where
   pub memory : HasNoMemoryOnce proc.status proc.nodes
-  pub descriptors : HasNoneOpenOnce proc.status proc.descriptors
+  pub descriptors : HasNoneOpenOnce proc.status proc.descriptors proc.leaves
 
 -- the process of that pid has no descriptor open
 abbrev pub HasClosed : List Proc → ℕ → Type 0

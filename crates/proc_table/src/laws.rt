@@ -6,7 +6,8 @@ ghost use Rattle.kabi_types.specs.declared.scripts.Script.{Script};
 ghost use Rattle.kheap_slabs.specs.Objects.{object};
 ghost use Rattle.kheap_slabs.specs.declared.objects.Desc.{Desc};
 ghost use Rattle.kheap_slabs.specs.declared.objects.Proc.{Proc};
-ghost use Rattle.kheap_slabs.specs.Heap.{Heap};
+ghost use Rattle.kheap_slabs.specs.Heap.{Heap, empty_heap};
+ghost use Rattle.kheap_slabs.specs.Leaves.{HoldLeaves};
 ghost use Rattle.kheap_slabs.specs.Owners.{Owners, IsOwned};
 ghost use Rattle.page_space.specs.Accounts.{AccountMoves, IsAccounted};
 ghost use Rattle.page_space.specs.Contents.{IsOwnedWith, StandsFor};
@@ -21,7 +22,7 @@ ghost use Rattle.posix_defs.specs.Waiting.{waitpid};
 ghost use Rattle.proc_table.specs.Accounting.{HasAccount};
 ghost use Rattle.open_laws.specs.Sharing.{CanShare, share_all};
 ghost use Rattle.proc_table.specs.Changes.{after_wait, child_proc, ended, forked_as, is_other, reaped_of, replaced, with_nodes};
-ghost use Rattle.proc_table.specs.Moves.{IsForked, MemoryStays, ProcTurns, SpaceTurns, TableMoves, sharing};
+ghost use Rattle.proc_table.specs.Moves.{HasCopies, IsForked, MemoryStays, NumbersTurn, ProcTurns, SpaceTurns, TableMoves, sharing};
 ghost use Rattle.proc_table.specs.Opening.{HaveOpen};
 ghost use Rattle.proc_table.specs.Procs.{HasClosed, NoneOpen, OpensNone, first_proc, memory_at, numbers_in, proc_of, process_of};
 ghost use Rattle.proc_table.specs.Standing.{IsTable, answered_fork, answered_wait, ends_from, ends_in, found_in};
@@ -114,7 +115,8 @@ pub fn the_table_answers_as_the_machine()
 pub fn descriptors_go_on()
     ensures booted { (h : Heap) (number : ℕ → ℕ) (blocks : ℕ) → HaveOpen (numbers_in h) (first_proc ∷ []) 1 number (boot_files blocks) }
     ensures forked { (old : Heap) (new : Heap) (was : TableView) (now : TableView) (pid : ℕ) (child : ℕ) (number : ℕ → ℕ) (files : Files)
-        → Holds old was → child ≡ was.last + 1 → IsForked old was new now pid child
+        → Holds old was → HoldLeaves old.leaves (processes old was) → child ≡ was.last + 1 → (forked : IsForked old was new now pid child)
+        → HasCopies old new forked.parent (child_proc forked.parent child forked.nodes forked.leaves)
         → HaveOpen (numbers_in old) (processes old was) was.last number files
         → HaveOpen (numbers_in new) (processes new now) now.last number (with_heir files pid) }
     ensures ended { (h : Heap) (kept : TableView) (pid : ℕ) (status : ℕ) (number : ℕ → ℕ) (files : Files)
@@ -132,6 +134,34 @@ pub fn descriptors_go_on()
         → HaveOpen (numbers_in new) (processes new kept) kept.last number files }
 {}
 
+/// The Leaves of the processes go on being all that there are, each with one owner and a number open in it: at boot, where the numbers of
+/// one process turn, which leaves those of all others what they were, where a child gets its own, where one that has nothing open ends,
+/// where one is waited for, where memory is another, and where a process goes on.
+pub fn leaves_go_on()
+    ensures booted { (heap : ℕ) → HoldLeaves (empty_heap heap).leaves (first_proc ∷ []) }
+    ensures turned { (old : Heap) (new : Heap) (kept : TableView) (pid : ℕ) (key : ℕ) (proc : Proc) (now : Proc)
+        → Holds old kept → HoldLeaves old.leaves (processes old kept) → NumbersTurn old new kept pid key proc now
+        → HoldLeaves new.leaves (processes new kept) }
+    ensures others { (old : Heap) (new : Heap) (kept : TableView) (pid : ℕ) (key : ℕ) (proc : Proc) (now : Proc) (q : ℕ) (other : Proc)
+        → Holds old kept → HoldLeaves old.leaves (processes old kept) → NumbersTurn old new kept pid key proc now
+        → q ≢ pid → proc_of (processes old kept) q ≡ Some other → numbers_in new other ≡ numbers_in old other }
+    ensures forked { (old : Heap) (new : Heap) (was : TableView) (now : TableView) (pid : ℕ) (child : ℕ)
+        → HoldLeaves old.leaves (processes old was) → (forked : IsForked old was new now pid child)
+        → HasCopies old new forked.parent (child_proc forked.parent child forked.nodes forked.leaves)
+        → HoldLeaves new.leaves (processes new now) }
+    ensures ended { (h : Heap) (kept : TableView) (pid : ℕ) (status : ℕ)
+        → Holds h kept → HasClosed (processes h kept) pid → HoldLeaves h.leaves (processes h kept)
+        → HoldLeaves h.leaves (ended pid status (processes h kept)) }
+    ensures waited { (h : Heap) (kept : TableView) (parent : ℕ) (which : ℤ) (answer : Reaped)
+        → Holds h kept → answer ≡ reaped_of parent which (processes h kept) → HoldLeaves h.leaves (processes h kept)
+        → HoldLeaves h.leaves (after_wait answer (processes h kept)) }
+    ensures remembers { (h : Heap) (pid : ℕ) (nodes : List (Option ℕ)) (procs : List Proc)
+        → HoldLeaves h.leaves procs → HoldLeaves h.leaves (map (with_nodes pid nodes) procs) }
+    ensures replaced { (old : Heap) (new : Heap) (kept : TableView) (pid : ℕ) (key : ℕ) (proc : Proc) (now : Proc)
+        → Holds old kept → ProcTurns old new kept pid key proc now
+        → HoldLeaves old.leaves (processes old kept) → HoldLeaves new.leaves (processes new kept) }
+{}
+
 /// Where no process has a descriptor open none has one after any call, any may end, and a fork shares nothing.
 pub fn nothing_open_stays_nothing_open()
     ensures closed { (pid : ℕ) (procs : List Proc) → NoneOpen procs → HasClosed procs pid }
@@ -140,10 +170,10 @@ pub fn nothing_open_stays_nothing_open()
         → CanShare descs (numbers_in h parent) × (share_all descs (numbers_in h parent) ≡ descs) }
     ensures moves { (old : Heap) (new : Heap) (was : TableView) (now : TableView) (pid : ℕ) (parent : Proc)
         → proc_of (processes old was) pid ≡ Some parent → NoneOpen (processes old was)
-        → new.descs ≡ share_all old.descs (numbers_in old parent)
+        → new.descs ≡ share_all old.descs (numbers_in old parent) → new.leaves ≡ old.leaves
         → TableMoves (sharing old new) was new now → TableMoves old was new now }
     ensures forked { (pid : ℕ) (child : ℕ) (nodes : List (Option ℕ)) (parent : Proc) (procs : List Proc)
-        → proc_of procs pid ≡ Some parent → NoneOpen procs → NoneOpen (procs ++ child_proc parent child nodes ∷ []) }
+        → proc_of procs pid ≡ Some parent → NoneOpen procs → NoneOpen (procs ++ child_proc parent child nodes parent.leaves ∷ []) }
     ensures ended { (pid : ℕ) (status : ℕ) (procs : List Proc) → NoneOpen procs → NoneOpen (ended pid status procs) }
     ensures waited { (answer : Reaped) (procs : List Proc) → NoneOpen procs → NoneOpen (after_wait answer procs) }
     ensures remembers { (pid : ℕ) (nodes : List (Option ℕ)) (procs : List Proc)

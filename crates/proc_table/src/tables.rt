@@ -8,6 +8,7 @@ ghost use Rattle.kabi_types.specs.Counts.{with_count};
 ghost use Rattle.kheap_slabs.specs.Objects.{object, InUse};
 ghost use Rattle.kheap_slabs.specs.declared.objects.Proc.{Proc as HeldProc};
 ghost use Rattle.kheap_slabs.specs.Heap.{Heap, live_bytes, Makes};
+ghost use Rattle.kheap_slabs.specs.Leaves.{HoldLeaves};
 ghost use Rattle.kheap_slabs.specs.Owners.{Owners, IsOwned};
 ghost use Rattle.kheap_slabs.specs.Paid.{CanPay, IsPaid, PaysExactly, TakesNothing};
 ghost use Rattle.posix_defs.specs.Killing.{kill};
@@ -17,7 +18,7 @@ ghost use Rattle.posix_defs.specs.Memory.{Frames, after_clear, boot_frames};
 ghost use Rattle.proc_table.specs.Accounting.{HasAccount, forked_account};
 ghost use Rattle.proc_table.specs.Changes.{after_wait, cleared, ended, forked_as, child_proc, is_alone, is_full_at, is_other, is_wanted, left_behind, reaped_of, told_of, verdict};
 ghost use Rattle.open_laws.specs.Sharing.{CanShare, share_all};
-ghost use Rattle.proc_table.specs.Moves.{IsAdded, IsForked, MemoryStays, TableMoves, sharing};
+ghost use Rattle.proc_table.specs.Moves.{HasCopies, IsAdded, IsForked, MemoryStays, TableMoves, sharing};
 ghost use Rattle.proc_table.specs.Procs.{HasClosed, HasEnded, IsAlive, first_proc, numbers_in, proc_of, target_of};
 ghost use Rattle.proc_table.specs.Standing.{IsTable, answered_by, cleared_in, ends_in, forked_in, found_in, waited_in};
 ghost use Rattle.proc_table.specs.Table.{AreBetween, AreStored, Holds, IsPlaced, key_of, key_of_target, no_table, objects_after, places_kept, processes};
@@ -26,7 +27,7 @@ use crate::children::{INIT, is_wanted, judge, leave_one};
 use crate::places::{MOST, Place, find, find_target, keep_others};
 use crate::reaped::Reaped;
 use arrayvec::ArrayVec;
-use desc_table::share_descs;
+use desc_table::copy_numbers;
 use kabi_types::{Class, Control, Errno};
 use kheap_slabs::{KHeap, Proc, Purse};
 use page_space::Space;
@@ -79,6 +80,7 @@ impl ProcTable {
             },
             descriptors: [None; 32],
             nodes: [None; 4],
+            leaves: [None; 3],
         });
         let mut listed = ArrayVec::new();
         listed.push(Place { pid: INIT, key });
@@ -154,13 +156,20 @@ impl ProcTable {
         self.listed.len() == MOST || self.last == u32::MAX
     }
 
-    // Puts a child of a process in the heap, with the next pid and this space.
-    fn add_child(&mut self, heap: &mut KHeap, purse: &mut Purse, parent: &Proc, space: &Space)
+    // Puts a child of a process in the heap, with the next pid, this space and these Leaves.
+    fn add_child(
+        &mut self,
+        heap: &mut KHeap,
+        purse: &mut Purse,
+        parent: &Proc,
+        space: &Space,
+        leaves: [Option<u32>; 3],
+    )
         requires pid { self.old.last < 4294967295 }
         requires few { length self.old.listed < 64 }
         requires room { CanPay heap.old purse.old }
         requires left { 0 < purse.old.left.proc }
-        ensures added { IsAdded heap.old purse.old self.old heap.new purse.new self.new (child_proc parent.now (self.old.last + 1) space.now) }
+        ensures added { IsAdded heap.old purse.old self.old heap.new purse.new self.new (child_proc parent.now (self.old.last + 1) space.now leaves) }
         ensures groups { length space.now ≡ 4 }
     {
         self.last += 1;
@@ -169,6 +178,7 @@ impl ProcTable {
             pid: self.last,
             parent: parent.pid,
             nodes: space.nodes(),
+            leaves,
             ..*parent
         });
         self.listed.push(Place {
@@ -178,7 +188,8 @@ impl ProcTable {
     }
 
     /// Makes a child of a process, and answers its pid, the one behind the last. It is what its parent is, its memory too, and
-    /// has the same descriptors open: each description counts those that name it once more.
+    /// has the same descriptors open: each description counts those that name it once more, and each of the parent's Leaves has its
+    /// copy.
     ///
     /// EAGAIN where 64 processes are there, alive or ended and not waited for, or where the last pid is 4294967295; nothing is
     /// changed then.
@@ -190,6 +201,8 @@ impl ProcTable {
         requires room { CanPay heap.old purse.old }
         requires left_proc { 0 < purse.old.left.proc }
         requires left_nodes { 4 ≤ purse.old.left.node }
+        requires left_leaves { 3 ≤ purse.old.left.leaf }
+        requires own { HoldLeaves heap.old.leaves (processes heap.old self.old) }
         requires shares { (parent : HeldProc) → proc_of (processes heap.old self.old) pid ≡ Some parent
             → CanShare heap.old.descs (numbers_in heap.old parent) }
         ensures answer { result ≡ forked_as (length self.old.listed) self.old.last }
@@ -198,12 +211,15 @@ impl ProcTable {
         ensures table { (table : Table) → IsTable heap.old self.old table → IsTable heap.new self.new (forked_in table pid result) }
         ensures account { (frames : Frames) → HasAccount heap.old self.old frames → HasAccount heap.new self.new (forked_account frames pid result) }
         ensures moves { TableMoves (sharing heap.old heap.new) self.old heap.new self.new }
+        ensures own { HoldLeaves heap.new.leaves (processes heap.new self.new) }
+        ensures copies { IfOk result (λ child. (parent : HeldProc) (its : HeldProc) → proc_of (processes heap.old self.old) pid ≡ Some parent
+            → proc_of (processes heap.new self.new) child ≡ Some its → HasCopies heap.old heap.new parent its) }
         ensures shared { OnOk result ((parent : HeldProc) → proc_of (processes heap.old self.old) pid ≡ Some parent
             → heap.new.descs ≡ share_all heap.old.descs (numbers_in heap.old parent)) }
         ensures paid { IsPaid heap.old purse.old heap.new purse.new }
         ensures exact { PaysExactly class.Node heap.old purse.old heap.new purse.new }
         ensures spent { OnOk result (purse.new ≡ record purse.old {
-          left = with_count (with_count purse.old.left class.Node purse.new.left.node) class.Proc (purse.old.left.proc - 1);
+          left = with_count (with_count (with_count purse.old.left class.Leaf purse.new.left.leaf) class.Node purse.new.left.node) class.Proc (purse.old.left.proc - 1);
         }) }
     {
         if self.is_full() {
@@ -212,9 +228,9 @@ impl ProcTable {
         match self.proc(heap, pid) {
             Some(parent) => {
                 let parent = *parent;
-                share_descs(heap, &parent.descriptors);
+                let leaves = copy_numbers(heap, purse, &parent.descriptors, &parent.leaves);
                 let space = Space::fork_from(heap, purse, &Space::of(parent.nodes));
-                self.add_child(heap, purse, &parent, &space);
+                self.add_child(heap, purse, &parent, &space, leaves);
                 Ok(self.last)
             }
             None => unreachable!(),

@@ -3,6 +3,7 @@ use Rattle.std.proofs.Common.{◌≡◌, ℕ, ◌<◌, ◌==◌, Bool, true, fal
 use Rattle.std.specs.List.{AllByRecursion}
 use Rattle.std.specs.Option.{option_map}
 use Rattle.kabi_types.specs.declared.scripts.Script.{Script}
+use Rattle.kheap_slabs.specs.Leaves.{no_row}
 use Rattle.kheap_slabs.specs.Objects.{object, put}
 use Rattle.kheap_slabs.specs.declared.objects.Descriptor.{Descriptor as HeldDescriptor}
 use Rattle.kheap_slabs.specs.declared.objects.Proc.{Proc}
@@ -16,7 +17,7 @@ use Rattle.proc_numbers.specs.Having.{AreListed}
 use Rattle.proc_files.specs.Ending.{ClosesEach}
 use Rattle.proc_files.specs.Names.{AreBound, name_of}
 use Rattle.proc_table.specs.Accounting.{HasAccount}
-use Rattle.proc_table.specs.Procs.{IsAlive, IsLight, no_descriptors, proc_of, process_of, with_numbers}
+use Rattle.proc_table.specs.Procs.{IsAlive, IsLight, closed_all, proc_of, process_of}
 use Rattle.proc_table.specs.Standing.{AreFrom, IsTable}
 use Rattle.proc_table.specs.Table.{Holds, TableView, processes, procs_at}
 use Rattle.proc_table.proofs.AccountLemmas.{becomes_account}
@@ -50,14 +51,19 @@ module _ (old new : Heap) (kept : TableView) (pid : ℕ) (holds : Holds old kept
       let named = key_of-proc old.procs kept.listed pid at holds.stored closes.changes.named in
       ap (λ (p : Proc). p.pid) (some_same (object old.procs at) was named.0 closes.changes.there named.1) ∙ named.2
 
-  empties : new.procs ≡ put old.procs at (with_numbers was no_descriptors)
-  empties = closes.changes.procs ∙ ap (λ (places : List (Option HeldDescriptor)). put old.procs at (with_numbers was places)) closes.none
+  empties : new.procs ≡ put old.procs at (closed_all was)
+  empties =
+      closes.changes.procs
+      ∙ ap (λ (p : Proc). put old.procs at p)
+      (closes.changes.same
+      ∙ (ap (λ (places : List (Option HeldDescriptor)). record was { descriptors = places; leaves = closes.changes.now.leaves }) closes.none.0
+      ∙ ap (λ (keys : List (Option ℕ)). record was { descriptors = no_row; leaves = keys }) closes.none.1))
 
   follows : Follows becomes old.procs new.procs kept.listed
   follows = subst (λ procs. Follows becomes old.procs procs kept.listed) (sym empties)
-      (follows_one becomes old.procs at pid was (Some (with_numbers was no_descriptors)) kept.listed 0 kept.last
+      (follows_one becomes old.procs at pid was (Some (closed_all was)) kept.listed 0 kept.last
       (λ proc apart. ap Some (shut_other pid proc apart)) closes.changes.there
-      (ap (λ b. Some (cond b (with_numbers was no_descriptors) was)) (eqb_same was.pid pid has_pid)) holds.stored holds.rising closes.changes.named)
+      (ap (λ b. Some (cond b (closed_all was) was)) (eqb_same was.pid pid has_pid)) holds.stored holds.rising closes.changes.named)
 
   pub shut_procs : processes new kept ≡ map (shut pid) (processes old kept)
   shut_procs =
@@ -84,7 +90,7 @@ module _ (old new : Heap) (kept : TableView) (pid : ℕ) (holds : Holds old kept
       in_heap : (proc : Proc) → process_of new proc ≡ process_of old proc
       in_heap proc = process_of-same old new proc (λ page. content_kept old new proc.nodes page same_nodes same_pages)
 
-      by_pid : (proc : Proc) (b : Bool) → process_of new (cond b (with_numbers proc no_descriptors) proc) ≡ process_of old proc
+      by_pid : (proc : Proc) (b : Bool) → process_of new (cond b (closed_all proc) proc) ≡ process_of old proc
       by_pid proc true = in_heap proc
       by_pid proc false = in_heap proc
 
@@ -123,7 +129,7 @@ alive_shut procs now pid is alive = record {
   runs = by_pid (alive.proc.pid == pid) ∙ alive.runs;
 }
   where
-    by_pid : (b : Bool) → (cond b (with_numbers alive.proc no_descriptors) alive.proc).status ≡ alive.proc.status
+    by_pid : (b : Bool) → (cond b (closed_all alive.proc) alive.proc).status ≡ alive.proc.status
     by_pid true = refl
     by_pid false = refl
 
@@ -138,6 +144,7 @@ pub kept_shut : (script : Script) (old : Objects) (heap : Heap) (tree : TreeView
 kept_shut script old heap tree names pid kept closes listed owners bound long caches = record {
   holds = shut_holds old.heap heap old.procs pid kept.holds closes listed owners.objects;
   all = listed.all;
+  leaves = listed.leaves;
   owners = owners;
   groups = subst (AllByRecursion (λ proc. length proc.nodes ≡ 4)) (sym is) (all_shut (λ proc. length proc.nodes ≡ 4) pid (procs_of old) (λ proc four. four) kept.groups);
   calls = subst (AreAtCalls script) (sym is)

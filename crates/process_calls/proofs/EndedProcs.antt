@@ -9,6 +9,9 @@ use Rattle.prog_ctl.specs.Runnable.{Rests, Stands}
 use Rattle.proc_table.specs.Changes.{cleared, ended, is_alone, is_other, left_behind, left_by, left_child}
 use Rattle.proc_table.specs.Moves.{TableMoves}
 use Rattle.proc_table.specs.Procs.{HasClosed, no_nodes, proc_of}
+use Rattle.kheap_slabs.specs.Heap.{Heap}
+use Rattle.kheap_slabs.specs.Leaves.{HoldLeaves}
+use Rattle.proc_table.proofs.LeafEnds.{hold_ended}
 use Rattle.proc_table.proofs.FamilyLemmas.{left_pid}
 use Rattle.proc_table.proofs.OwnLemmas.{all_filter, all_filter_map}
 use Rattle.proc_table.proofs.PlaceLemmas.{eqb_other, eqb_same, some_same}
@@ -65,6 +68,7 @@ pub kept_ended : (script : Script) (old new : Objects) (pid status : ℕ) → Ar
     → procs_of new ≡ ended pid status (procs_of old) → AreKept script new
 kept_ended script old new pid status kept tree names closed moves is =
     kept_on script old new kept tree names moves
+    (subst (HoldLeaves new.heap.leaves) (sym is) (subst (λ leaves. HoldLeaves leaves (ended pid status (procs_of old))) (sym (ap (λ (h : Heap). h.leaves) moves.kept)) (hold_ended old.heap old.procs pid status kept.holds closed kept.leaves)))
     (subst (AllByRecursion (λ proc. length proc.nodes ≡ 4)) (sym is)
     (all_ended (λ proc. length proc.nodes ≡ 4) pid status (procs_of old) (record { cleared = λ proc four. refl; moved = λ proc four. four; over = λ proc four. four }) kept.groups))
     (subst (AreAtCalls script) (sym is)

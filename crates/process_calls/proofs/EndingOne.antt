@@ -15,7 +15,7 @@ use Rattle.proc_files.specs.Holders.{holders}
 use Rattle.proc_table.specs.Changes.{ended, is_other}
 use Rattle.proc_table.specs.Moves.{TableMoves}
 use Rattle.proc_table.specs.Opening.{HaveOpen as TableOpen}
-use Rattle.proc_table.specs.Procs.{HasClosed, no_descriptors, numbers_in, proc_of, with_numbers}
+use Rattle.proc_table.specs.Procs.{HasClosed, closed_all, numbers_in, proc_of}
 use Rattle.proc_table.proofs.OpenLemmas.{have_ended}
 use Rattle.proc_table.proofs.PlaceLemmas.{eqb_other}
 use Rattle.store_objects.specs.declared.objects.Objects.{Objects}
@@ -24,7 +24,7 @@ use Rattle.store_objects.specs.Trees.{but_root}
 use Rattle.store_objects.specs.Working.{OnlyPins, directories_in, left_pins}
 use Rattle.store_objects.proofs.GoingOn.{rising_in}
 use Rattle.store_objects.proofs.HeldNodes.{one_if, whole}
-use Rattle.store_objects.proofs.Opening.{by_pids, by_procs}
+use Rattle.store_objects.proofs.Opening.{by_pids, by_procs, leaves_on}
 use Rattle.store_objects.proofs.Pinning.{pinned_procs}
 use Rattle.store_objects.proofs.WorkPlaces.{away, behind, count, ended_work, holds_it, others_hold}
 use Rattle.process_calls.specs.Endings.{HoldBeside, HoldFilesOf, shut, workers_at}
@@ -40,9 +40,10 @@ opens_ended script mid new pid status numbers files kept closed moves is last ha
       (ap (λ (h : Heap). h.socks) moves.kept) (ap (λ (h : Heap). h.chunks) moves.kept) refl refl refl have.opened;
   descriptors = by_pids new.heap numbers.descs (procs_of new) new.procs.last files
       (subst (λ procs. TableOpen (numbers_in new.heap) procs new.procs.last numbers.descs files) (sym is)
+      (leaves_on mid.heap new.heap numbers.descs (ended pid status (procs_of mid)) new.procs.last files (ap (λ (h : Heap). h.leaves) moves.kept)
       (subst (λ n. TableOpen (numbers_in mid.heap) (ended pid status (procs_of mid)) n numbers.descs files) (sym last)
       (have_ended mid.heap mid.procs pid status numbers.descs files kept.holds closed
-      (by_procs mid.heap numbers.descs (procs_of mid) mid.procs.last files (rising_in script mid kept) have.descriptors))));
+      (by_procs mid.heap numbers.descs (procs_of mid) mid.procs.last files (rising_in script mid kept) have.descriptors)))));
 }
 
 -- ---- where it worked
@@ -59,9 +60,9 @@ shut_work pid (proc ∷ procs) = by_pid (proc.pid == pid) refl (shut_work pid pr
     others = filter (is_other pid) procs
 
     by_pid : (b : Bool) → (proc.pid == pid) ≡ b → directories_in rest ≡ directories_in others
-        → directories_in (cond (is_other pid (cond b (with_numbers proc no_descriptors) proc)) (cond b (with_numbers proc no_descriptors) proc ∷ rest) rest)
+        → directories_in (cond (is_other pid (cond b (closed_all proc) proc)) (cond b (closed_all proc) proc ∷ rest) rest)
         ≡ directories_in (cond (not b) (proc ∷ others) others)
-    by_pid true e same = ap (λ b. directories_in (cond (not b) (with_numbers proc no_descriptors ∷ rest) rest)) e ∙ same
+    by_pid true e same = ap (λ b. directories_in (cond (not b) (closed_all proc ∷ rest) rest)) e ∙ same
     by_pid false e same = ap (λ b. directories_in (cond (not b) (proc ∷ rest) rest)) e ∙ ap (behind proc) same
 
 -- so all others hold what they held, and it holds its directory no more

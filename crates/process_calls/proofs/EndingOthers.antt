@@ -16,6 +16,7 @@ use Rattle.proc_numbers.specs.Having.{HaveOpen, places_in}
 use Rattle.proc_table.specs.Procs.{IsAlive, IsLight, no_descriptors, numbers_in, proc_of, process_of, status_of}
 use Rattle.proc_table.specs.Standing.{IsTable, ends_from, ends_in}
 use Rattle.proc_table.specs.Table.{Holds}
+use Rattle.proc_table.proofs.NumberLemmas.{none_numbers}
 use Rattle.proc_table.proofs.AccountLemmas.{pids_within}
 use Rattle.proc_table.proofs.FamilyLemmas.{proc_has_pid, process_is}
 use Rattle.proc_table.proofs.OwnLemmas.{has_it}
@@ -152,7 +153,7 @@ unopened numbers objects files holds have pid not_running =
     by_proc (Some proc) is =
         let light : IsLight proc = has_it IsLight (procs_of objects) pid proc holds.light is in
         let ended = over proc.status (sym (running_as (procs_of objects) pid proc (is_some proc.status) is refl) ∙ not_running) in
-        ap (λ o. descriptors_by numbers.descs (places_in (numbers_in objects.heap) o)) is ∙ ap (descriptors_by numbers.descs) (closed_once proc.status proc.descriptors ended.0 ended.1 light.descriptors)
+        ap (λ o. descriptors_by numbers.descs (places_in (numbers_in objects.heap) o)) is ∙ ap (descriptors_by numbers.descs) (none_numbers objects.heap proc (closed_once proc.status proc ended.0 ended.1 light.descriptors))
 
 -- those that have nothing open are passed over
 closes_past : (k more pid : ℕ) (files : Files) → ((q : ℕ) → pid ≤ q → q < pid + k → descriptors_of files q ≡ none_open)

@@ -35,19 +35,21 @@ use Rattle.proc_files.specs.Holders.{holders, openings, times}
 use Rattle.proc_files.proofs.Openings.{same_nodes}
 use Rattle.proc_table.specs.Accounting.{HasAccount}
 use Rattle.proc_table.specs.Changes.{child_proc, forked_as, is_full_at, replaced}
-use Rattle.open_laws.specs.Open.{AreOpen}
-use Rattle.open_laws.specs.Sharing.{after_shares, hand_with}
+use Rattle.open_laws.specs.Sharing.{after_shares, share_all}
+use Rattle.open_laws.proofs.CloseLemmas.{described}
 use Rattle.open_laws.proofs.GoingLemmas.{open_on}
 use Rattle.open_laws.proofs.ShareLemmas.{opened_all}
-use Rattle.proc_table.specs.Moves.{IsForked, TableMoves, sharing}
+use Rattle.proc_table.specs.Moves.{HasCopies, IsForked, TableMoves, sharing}
 use Rattle.proc_table.specs.Procs.{numbers_in, proc_of}
+use Rattle.kheap_slabs.specs.Leaves.{HoldLeaves}
+use Rattle.proc_table.proofs.LeafTurns.{forked_all}
 use Rattle.proc_table.proofs.OpenLemmas.{have_forked}
 use Rattle.proc_table.specs.Standing.{IsTable, answered_fork, forked_in}
 use Rattle.proc_table.specs.Table.{TableView}
 use Rattle.proc_table.proofs.AccountLemmas.{pids_within}
 use Rattle.proc_table.proofs.FamilyLemmas.{proc_has_pid}
 use Rattle.proc_table.proofs.LawLemmas.{fork_is, on-account, on-table}
-use Rattle.proc_table.proofs.OwnLemmas.{all_append, has_it}
+use Rattle.proc_table.proofs.OwnLemmas.{all_append, all_weaker, has_it}
 use Rattle.proc_table.proofs.PlaceLemmas.{eqb_other, eqb_same}
 use Rattle.store_objects.specs.declared.objects.Objects.{Objects}
 use Rattle.store_objects.specs.Files.{HaveFiles}
@@ -62,11 +64,10 @@ use Rattle.store_objects.proofs.WorkPlaces.{count, directories_from, entered_oth
 use Rattle.store_objects.proofs.WorkingOn.{all_and, entered_by_one, works_among}
 use Rattle.store_objects.specs.Trees.{TreeStays, but_root, pins_in}
 use Rattle.store_objects.specs.Working.{AreDirectories, OnlyPins, directories_in, entered_pins}
-use Rattle.store_objects.proofs.Namings.{names_by, names_forked, names_in, names_in_hand}
 use Rattle.store_objects.proofs.Opening.{by_pids, by_procs, files_moved, settled_on}
 use Rattle.store_objects.proofs.Leading.{led_on}
 use Rattle.store_objects.proofs.Replies.{GoesOn, does_fail}
-use Rattle.process_calls.proofs.Sharing.{HasShared, keeps_shared}
+use Rattle.process_calls.proofs.Sharing.{HasShared, keeps_shared, owners_shared}
 use Rattle.process_calls.proofs.Waits.{kept_by}
 
 -- who is found where one more stands behind the others
@@ -107,6 +108,23 @@ somebody (first ∷ procs) child q own = go (first.pid == q) (somebody procs chi
     go true rest = refl
     go false rest = rest
 
+-- the last one has its pid alone
+found_last : (procs : List Proc) (child : Proc) → AllByRecursion (λ p. p.pid ≢ child.pid) procs → proc_of (procs ++ child ∷ []) child.pid ≡ Some child
+found_last [] child all = ap (λ b. cond b (Some child) None) (eqb_same child.pid child.pid refl)
+found_last (first ∷ procs) child all =
+    ap (λ b. cond b (Some first) (proc_of (procs ++ child ∷ []) child.pid)) (eqb_other first.pid child.pid all.0) ∙ found_last procs child all.1
+
+-- so what is said of the child of that pid is said of the one that was made
+pub copied : (script : Script) (old mid : Objects) (pid child : ℕ) → AreKept script old → (forked : IsForked old.heap old.procs mid.heap mid.procs pid child) → child ≡ old.procs.last + 1
+    → ((parent its : Proc) → proc_of (procs_of old) pid ≡ Some parent → proc_of (procs_of mid) child ≡ Some its → HasCopies old.heap mid.heap parent its)
+    → HasCopies old.heap mid.heap forked.parent (child_proc forked.parent child forked.nodes forked.leaves)
+copied script old mid pid child kept forked number each =
+    each forked.parent (child_proc forked.parent child forked.nodes forked.leaves) forked.parent_is
+    (ap (λ procs. proc_of procs child) forked.processes_are
+    ∙ found_last (procs_of old) (child_proc forked.parent child forked.nodes forked.leaves)
+    (all_weaker (λ (p : Proc). (0 < p.pid) × (p.pid ≤ old.procs.last)) (λ p. p.pid ≢ child) (procs_of old) (λ p both same. (let l : p.pid ≤ old.procs.last = both.1 in omega (arith, l, same, number)))
+    (pids_within old.heap.procs old.procs.listed 0 old.procs.last kept.holds.stored kept.holds.rising)))
+
 -- the controls of those made before, and the last one's
 at_front : (controls : List Control) (last d : Control) (pid : ℕ) → pid ≤ length controls → unwrap_or (at_pid (controls ++ last ∷ []) pid) d ≡ unwrap_or (at_pid controls pid) d
 at_front controls last d zero h = refl
@@ -139,7 +157,7 @@ forked_world script world pid = record world { plain = with_child script world.p
 -- The table has made a child.
 module _ (script : Script) (old mid : Objects) (pid child : ℕ) (control : Control) (kept : AreKept script old) (runs : Runs old pid control)
     (moves : TableMoves (sharing old.heap mid.heap) old.procs mid.heap mid.procs) (tree : mid.tree ≡ old.tree) (names : mid.names ≡ old.names) (shared : HasShared old mid runs.proc)
-    (forked : IsForked old.heap old.procs mid.heap mid.procs pid child) where
+    (forked : IsForked old.heap old.procs mid.heap mid.procs pid child) (copies : HasCopies old.heap mid.heap forked.parent (child_proc forked.parent child forked.nodes forked.leaves)) where
   same_parent : forked.parent ≡ runs.proc
   same_parent = some_same (proc_of (procs_of old) pid) forked.parent runs.proc forked.parent_is runs.found
 
@@ -147,26 +165,24 @@ module _ (script : Script) (old mid : Objects) (pid child : ℕ) (control : Cont
   at_call : IsAtCall script forked.parent
   at_call = has_it (λ proc. proc.status ≡ None → IsAtCall script proc) (procs_of old) pid forked.parent kept.calls forked.parent_is (ap (λ p. p.status) same_parent ∙ runs.up)
 
+  leaves_forked : HoldLeaves mid.heap.leaves (procs_of mid)
+  leaves_forked = forked_all old.heap mid.heap old.procs mid.procs pid child kept.leaves forked copies
+
   pub kept_forked : AreKept script mid
   kept_forked =
-      kept_with script (sharing old.heap mid.heap) old.procs old.tree old.names mid (hand_with (numbers_in old.heap runs.proc) []) (keeps_shared script old mid runs.proc kept shared) tree names moves
+      kept_with script (sharing old.heap mid.heap) old.procs old.tree old.names mid (keeps_shared script old mid kept) tree names moves leaves_forked
+      (owners_shared script old mid runs.proc (child_proc forked.parent child forked.nodes forked.leaves) kept shared
+      (subst (λ (p : Proc). HasCopies old.heap mid.heap p (child_proc forked.parent child forked.nodes forked.leaves)) same_parent copies) leaves_forked moves)
       (subst (AllByRecursion (λ proc. length proc.nodes ≡ 4)) (sym forked.processes_are)
-      (all_append (λ proc. length proc.nodes ≡ 4) (procs_of old) (child_proc forked.parent child forked.nodes ∷ []) kept.groups (forked.groups, tt)))
+      (all_append (λ proc. length proc.nodes ≡ 4) (procs_of old) (child_proc forked.parent child forked.nodes forked.leaves ∷ []) kept.groups (forked.groups, tt)))
       (subst (AreAtCalls script) (sym forked.processes_are)
-      (all_append (λ proc. proc.status ≡ None → IsAtCall script proc) (procs_of old) (child_proc forked.parent child forked.nodes ∷ []) kept.calls
+      (all_append (λ proc. proc.status ≡ None → IsAtCall script proc) (procs_of old) (child_proc forked.parent child forked.nodes forked.leaves ∷ []) kept.calls
       ((λ up. record { stands = at_call.stands; rests = at_call.rests }), tt)))
-      (λ key.
-      let now = ap (names_in key) forked.processes_are in
-      let more = names_forked key forked.parent child forked.nodes (procs_of old) in
-      let parent = ap (names_by key) same_parent in
-      let hand = names_in_hand key (numbers_in old.heap runs.proc) [] in
-      let nothing : count_by (λ (other : ℕ). other == key) [] ≡ 0 = refl in
-      omega (arith, now, more, parent, hand, nothing))
 
   pub child_there : is_some (proc_of (procs_of mid) child) ≡ true
   child_there =
       ap (λ procs. is_some (proc_of procs child)) forked.processes_are
-      ∙ somebody (procs_of old) (child_proc forked.parent child forked.nodes) child refl
+      ∙ somebody (procs_of old) (child_proc forked.parent child forked.nodes forked.leaves) child refl
 
   -- who made it was made before
   pub made_before : child ≡ old.procs.last + 1 → pid ≢ child
@@ -179,22 +195,22 @@ module _ (script : Script) (old mid : Objects) (pid child : ℕ) (control : Cont
 -- The child goes on at another control.
 module _ (script : Script) (old mid moved : Objects) (pid child : ℕ) (control next : Control) (kept : AreKept script old) (runs : Runs old pid control)
     (moves : TableMoves (sharing old.heap mid.heap) old.procs mid.heap mid.procs) (tree : mid.tree ≡ old.tree) (names : mid.names ≡ old.names) (shared : HasShared old mid runs.proc)
-    (forked : IsForked old.heap old.procs mid.heap mid.procs pid child)
+    (forked : IsForked old.heap old.procs mid.heap mid.procs pid child) (copies : HasCopies old.heap mid.heap forked.parent (child_proc forked.parent child forked.nodes forked.leaves))
     (number : child ≡ old.procs.last + 1) (turned : MovesOn mid child next moved) where
   pub between : AreKept script mid
-  between = kept_forked script old mid pid child control kept runs moves tree names shared forked
+  between = kept_forked script old mid pid child control kept runs moves tree names shared forked copies
 
   abbrev pub now : Proc
   now = record turned.proc { control = next }
 
   abbrev pub made : Proc
-  made = child_proc forked.parent child forked.nodes
+  made = child_proc forked.parent child forked.nodes forked.leaves
 
   own : now.pid ≡ child
   own = proc_has_pid (procs_of mid) child turned.proc turned.found
 
   apart : pid ≢ child
-  apart = made_before script old mid pid child control kept runs moves tree names shared forked number
+  apart = made_before script old mid pid child control kept runs moves tree names shared forked copies number
 
   pub kept_child : Stands script next → Rests script next → AreKept script moved
   kept_child stands rests = kept_moved script mid moved child next between turned stands rests
@@ -246,12 +262,11 @@ module _ (script : Script) (old mid moved : Objects) (pid child : ℕ) (control 
         numbers = have.numbers;
         opened = record {
           list = after_shares have.numbers.descs opened.list (numbers_in old.heap runs.proc);
-          opened = open_on have.numbers (sharing old.heap mid.heap) mid.heap (after_shares have.numbers.descs opened.list (numbers_in old.heap runs.proc)) files (with_heir files pid)
-              (ap (λ (h : Heap). h.descs) moves.kept) (ap (λ (h : Heap). h.pipes) moves.kept) (ap (λ (h : Heap). h.socks) moves.kept) (ap (λ (h : Heap). h.chunks) moves.kept) refl refl refl
-              (subst (λ (descs : List (Option Desc)). AreOpen have.numbers (record old.heap { descs = descs }) (after_shares have.numbers.descs opened.list (numbers_in old.heap runs.proc)) files) (sym shared.descs)
-              (opened_all have.numbers old.heap opened.list files (numbers_in old.heap runs.proc) shared.can opened.opened));
+          opened = open_on have.numbers (described old.heap (share_all old.heap.descs (numbers_in old.heap runs.proc))) mid.heap (after_shares have.numbers.descs opened.list (numbers_in old.heap runs.proc)) files (with_heir files pid)
+              shared.descs (ap (λ (h : Heap). h.pipes) moves.kept) (ap (λ (h : Heap). h.socks) moves.kept) (ap (λ (h : Heap). h.chunks) moves.kept) refl refl refl
+              (opened_all have.numbers old.heap opened.list files (numbers_in old.heap runs.proc) shared.can opened.opened);
           descriptors = by_pids mid.heap have.numbers.descs (procs_of mid) mid.procs.last (with_heir files pid)
-              (have_forked old.heap mid.heap old.procs mid.procs pid child have.numbers.descs files kept.holds number forked
+              (have_forked old.heap mid.heap old.procs mid.procs pid child have.numbers.descs files kept.holds kept.leaves number forked copies
               (by_procs old.heap have.numbers.descs (procs_of old) old.procs.last files (rising_in script old kept) opened.descriptors));
         };
         fronts = record {
@@ -295,7 +310,7 @@ module _ (script : Script) (old mid moved : Objects) (pid child : ℕ) (control 
 -- The child holds the directory that it works in.
 module _ (script : Script) (old mid moved pinned : Objects) (pid child directory : ℕ) (control next : Control) (kept : AreKept script old) (runs : Runs old pid control)
     (moves : TableMoves (sharing old.heap mid.heap) old.procs mid.heap mid.procs) (same_tree : mid.tree ≡ old.tree) (same_names : mid.names ≡ old.names) (shared : HasShared old mid runs.proc)
-    (forked : IsForked old.heap old.procs mid.heap mid.procs pid child)
+    (forked : IsForked old.heap old.procs mid.heap mid.procs pid child) (copies : HasCopies old.heap mid.heap forked.parent (child_proc forked.parent child forked.nodes forked.leaves))
     (number : child ≡ old.procs.last + 1) (turned : MovesOn mid child next moved) (at : directory ≡ runs.proc.cwd) (only : OnlyPins moved pinned)
     (lets : (tree : Tree) (pins : ℕ → ℕ) → TreeStands moved.heap moved.tree tree pins → TreeStands pinned.heap pinned.tree tree (entered_pins pins directory)) where
   mid_kept : AreKept script mid

@@ -20,6 +20,8 @@ use Rattle.proc_table.specs.Moves.{SpaceTurns, TableMoves}
 use Rattle.proc_numbers.specs.Having.{HaveDescriptors}
 use Rattle.proc_table.specs.Opening.{HaveOpen as TableOpen}
 use Rattle.proc_table.specs.Procs.{memory_at, numbers_in, proc_of, process_of}
+use Rattle.kheap_slabs.specs.Leaves.{HoldLeaves}
+use Rattle.proc_table.proofs.LeafEnds.{hold_nodes}
 use Rattle.proc_table.proofs.OpenLemmas.{have_nodes}
 use Rattle.proc_table.specs.Standing.{IsTable}
 use Rattle.proc_table.specs.Table.{Holds, TableView, processes}
@@ -29,7 +31,7 @@ use Rattle.store_objects.specs.declared.objects.Objects.{Objects}
 use Rattle.store_objects.specs.Objects.{AreAtCalls, AreKept, IsAtCall, Runs, procs_of}
 use Rattle.store_objects.specs.Standing.{AreProcesses, StandsFor, remembered_in}
 use Rattle.store_objects.proofs.Namings.{names_in, names_nodes}
-use Rattle.store_objects.proofs.Opening.{by_pids, by_procs, files_moved}
+use Rattle.store_objects.proofs.Opening.{by_pids, by_procs, files_moved, leaves_on}
 use Rattle.store_objects.proofs.GoingOn.{rising_in, some_same}
 use Rattle.store_objects.proofs.Keeping.{kept_on, moved_caches}
 use Rattle.store_objects.proofs.TreesOn.{tree_goes_on, works_on}
@@ -95,8 +97,10 @@ pub kept_back : (script : Script) (old new : Objects) (mid : Heap) (pid key : �
     → SpaceTurns old.heap mid new.heap old.procs pid key proc now → new.procs ≡ old.procs → new.tree ≡ old.tree → new.names ≡ old.names → length now ≡ 4 → AreKept script new
 kept_back script old new mid pid key proc now kept turns same tree names four =
     let procs = procs_back script old new mid pid key proc now kept.holds turns same in
+    let moves = back-moves old.heap mid new.heap old.procs pid key proc now kept.holds turns in
     kept_on script old new kept tree names
-    (subst (TableMoves old.heap old.procs new.heap) (sym same) (back-moves old.heap mid new.heap old.procs pid key proc now kept.holds turns))
+    (subst (TableMoves old.heap old.procs new.heap) (sym same) moves)
+    (subst (HoldLeaves new.heap.leaves) (sym procs) (subst (λ leaves. HoldLeaves leaves (map (with_nodes pid now) (procs_of old))) (sym (ap (λ (h : Heap). h.leaves) moves.kept)) (hold_nodes old.heap pid now (procs_of old) kept.leaves)))
     (subst (AllByRecursion (λ p. length p.nodes ≡ 4)) (sym procs) (all_with_nodes (λ p. length p.nodes ≡ 4) pid now (procs_of old) (λ p long. four) kept.groups))
     (subst (AreAtCalls script) (sym procs)
     (all_with_nodes (λ p. p.status ≡ None → IsAtCall script p) pid now (procs_of old) (λ p at up. let here = at up in record { stands = here.stands; rests = here.rests }) kept.calls))
@@ -161,6 +165,7 @@ stand_back script old new mid pid key proc now world after memory stands turns s
         subst (λ (procs : TableView). HaveDescriptors (numbers_in new.heap) number (processes new.heap procs) procs.last world.plain.files) (sym same)
         (by_pids new.heap number (processes new.heap old.procs) old.procs.last world.plain.files
         (subst (λ procs. TableOpen (numbers_in new.heap) procs old.procs.last number world.plain.files) (sym (back-procs old.heap mid new.heap old.procs pid key proc now stands.kept.holds turns))
+        (leaves_on old.heap new.heap number (map (with_nodes pid now) (procs_of old)) old.procs.last world.plain.files (ap (λ (h : Heap). h.leaves) moves.kept)
         (have_nodes old.heap pid now (procs_of old) old.procs.last number world.plain.files
-        (by_procs old.heap number (procs_of old) old.procs.last world.plain.files (rising_in script old stands.kept) have)))))
+        (by_procs old.heap number (procs_of old) old.procs.last world.plain.files (rising_in script old stands.kept) have))))))
         stands.files

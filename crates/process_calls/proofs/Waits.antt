@@ -28,6 +28,9 @@ use Rattle.proc_table.specs.Changes.{after_wait, is_other, reaped_of}
 use Rattle.proc_table.specs.Moves.{TableMoves}
 use Rattle.proc_table.specs.Opening.{HaveOpen as TableOpen}
 use Rattle.proc_table.specs.Procs.{HasEnded, numbers_in, proc_of}
+use Rattle.kheap_slabs.specs.Heap.{Heap}
+use Rattle.kheap_slabs.specs.Leaves.{HoldLeaves}
+use Rattle.proc_table.proofs.LeafEnds.{hold_waited}
 use Rattle.proc_table.proofs.OpenLemmas.{have_waited}
 use Rattle.proc_table.specs.Standing.{IsTable, answered_wait, waited_in}
 use Rattle.proc_table.specs.declared.reaped.Reaped.{Reaped}
@@ -47,7 +50,7 @@ use Rattle.store_objects.specs.Working.{directories_in}
 use Rattle.store_objects.specs.Files.{HaveFiles}
 use Rattle.store_objects.proofs.Leading.{led_blocked, led_on}
 use Rattle.store_objects.proofs.Namings.{names_in, names_waited}
-use Rattle.store_objects.proofs.Opening.{by_pids, by_procs, files_moved}
+use Rattle.store_objects.proofs.Opening.{by_pids, by_procs, files_moved, leaves_on}
 use Rattle.store_objects.proofs.Replies.{GoesOn}
 use Rattle.store_objects.proofs.WithoutOne.{found_gone, found_other}
 
@@ -70,6 +73,7 @@ pub kept_waited : (script : Script) (old mid : Objects) (parent : ℕ) (which : 
     → told ≡ reaped_of parent which (procs_of old) → procs_of mid ≡ after_wait told (procs_of old) → AreKept script mid
 kept_waited script old mid parent which told kept moves tree names is procs =
     kept_on script old mid kept tree names moves
+    (subst (HoldLeaves mid.heap.leaves) (sym procs) (subst (λ leaves. HoldLeaves leaves (after_wait told (procs_of old))) (sym (ap (λ (h : Heap). h.leaves) moves.kept)) (hold_waited old.heap old.procs parent which told kept.holds is kept.leaves)))
     (subst (AllByRecursion (λ proc. length proc.nodes ≡ 4)) (sym procs) (all_waited (λ proc. length proc.nodes ≡ 4) told (procs_of old) kept.groups))
     (subst (AreAtCalls script) (sym procs) (all_waited (λ proc. proc.status ≡ None → IsAtCall script proc) told (procs_of old) kept.calls))
     (λ key. ap (names_in key) procs ∙ names_waited key old.heap old.procs parent which told kept.holds is)
@@ -150,9 +154,10 @@ module _ (script : Script) (old mid : Objects) (pid : ℕ) (which options : ℤ)
           (λ number have.
           by_pids mid.heap number (procs_of mid) mid.procs.last world.plain.files
           (subst (λ ps. TableOpen (numbers_in mid.heap) ps mid.procs.last number world.plain.files) (sym procs)
+          (leaves_on old.heap mid.heap number (after_wait told (procs_of old)) mid.procs.last world.plain.files (ap (λ (h : Heap). h.leaves) moves.kept)
           (subst (λ n. TableOpen (numbers_in old.heap) (after_wait told (procs_of old)) n number world.plain.files) (sym last)
           (have_waited old.heap old.procs pid which told number world.plain.files stands.kept.holds is
-          (by_procs old.heap number (procs_of old) old.procs.last world.plain.files (rising_in script old stands.kept) have)))))
+          (by_procs old.heap number (procs_of old) old.procs.last world.plain.files (rising_in script old stands.kept) have))))))
           stands.files
 
       -- who is told has ended, and so works nowhere

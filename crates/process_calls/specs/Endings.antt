@@ -6,7 +6,7 @@ use Rattle.posix_defs.specs.Files.State.{Files}
 use Rattle.posix_defs.specs.Memory.{Frames, after_clear}
 use Rattle.posix_defs.specs.Plain.{root}
 use Rattle.proc_files.specs.NameHolding.{HoldNames}
-use Rattle.proc_table.specs.Procs.{IsAlive, no_descriptors, with_numbers}
+use Rattle.proc_table.specs.Procs.{IsAlive, closed_all}
 use Rattle.store_objects.specs.Objects.{is_running, procs_of}
 use Rattle.store_objects.specs.Trees.{but_root}
 use Rattle.store_objects.specs.Working.{directories_in}
@@ -20,7 +20,7 @@ pub record IsLowestBehind (procs : List Proc) (pid found : ℕ) : Type 0 where
 
 -- the process of that pid has nothing open any more
 abbrev pub shut : ℕ → Proc → Proc
-shut pid proc = if proc.pid == pid then with_numbers proc no_descriptors else proc
+shut pid proc = if proc.pid == pid then closed_all proc else proc
 
 -- the account after these processes have lost their memory in turn
 abbrev pub cleared_in_turn : Frames → List ℕ → Frames

@@ -35,6 +35,7 @@ pub fn fork(script: &Script, objects: &mut Objects, purse: &mut Purse, caller: &
     requires room { CanPay objects.old.heap purse.old }
     requires left_proc { 0 < purse.old.left.proc }
     requires left_nodes { 4 ≤ purse.old.left.node }
+    requires left_leaves { 3 ≤ purse.old.left.leaf }
     ensures kept { AreKept script.now objects.new }
     ensures paid { IsPaid objects.old.heap purse.old objects.new.heap purse.new }
     ensures does { Performs script.now objects.old caller.now.place.pid Call.Fork (λ plain. fork script.now plain caller.now.place.pid) result objects.new }

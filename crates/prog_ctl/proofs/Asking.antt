@@ -17,7 +17,7 @@ use Rattle.posix_defs.specs.Needs.{bound, cost}
 use Rattle.posix_defs.specs.PriceList.{price_of}
 use Rattle.posix_defs.specs.declared.prices.Price.{Price}
 use Rattle.posix_defs.specs.declared.prices.Price.TheVariants.{Always}
-use Rattle.prog_ctl.specs.Runnable.{TakesPath}
+use Rattle.prog_ctl.specs.Runnable.{IsNeverWrong, TakesPath}
 use Rattle.prog_ctl.specs.Waits.{asked_for}
 
 -- a call is of the kind of which it was made
@@ -91,6 +91,17 @@ fault_on_path kind.Mkdir numbers texts done takes = refl
 fault_on_path kind.Rmdir numbers texts done takes = refl
 fault_on_path kind.Unlink numbers texts done takes = refl
 fault_on_path _ numbers texts done takes = absurd takes
+
+-- of these calls nothing can be wrong
+pub fault_never : (which : CallKind) (numbers : List ℤ) (texts : List (List ℕ)) (done : ℕ) → IsNeverWrong which → argument_fault (made which numbers texts done) ≡ None
+fault_never kind.Fork numbers texts done never = refl
+fault_never kind.Dup numbers texts done never = refl
+fault_never kind.Dup2 numbers texts done never = refl
+fault_never kind.Pipe numbers texts done never = refl
+fault_never kind.Socket numbers texts done never = refl
+fault_never kind.Socketpair numbers texts done never = refl
+fault_never kind.Accept numbers texts done never = refl
+fault_never _ numbers texts done never = absurd never
 
 -- the bound of a call, by what is wrong with it
 pub bound_by_fault : (which : CallKind) (numbers : List ℤ) (texts : List (List ℕ)) (done bytes : ℕ) (right : Bool) (fault : Option Errno) → price_of which ≡ Always bytes

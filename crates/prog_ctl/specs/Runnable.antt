@@ -34,6 +34,17 @@ TakesPath kind.Rmdir = ⊤
 TakesPath kind.Unlink = ⊤
 TakesPath _ = ⊥
 
+-- no operand of a call of this kind can be wrong, and the call may make objects
+abbrev pub IsNeverWrong : CallKind → Type 0
+IsNeverWrong kind.Fork = ⊤
+IsNeverWrong kind.Dup = ⊤
+IsNeverWrong kind.Dup2 = ⊤
+IsNeverWrong kind.Pipe = ⊤
+IsNeverWrong kind.Socket = ⊤
+IsNeverWrong kind.Socketpair = ⊤
+IsNeverWrong kind.Accept = ⊤
+IsNeverWrong _ = ⊥
+
 -- the calls of this kind take bytes, two paths, a path and flags, or a list of entries
 abbrev pub TakesMore : CallKind → Type 0
 TakesMore kind.Store = ⊤

@@ -8,7 +8,7 @@ ghost use Rattle.posix_defs.specs.Needs.{bound};
 ghost use Rattle.posix_defs.specs.PriceList.{price_of};
 ghost use Rattle.posix_defs.specs.ScriptLines.{shape_of};
 ghost use Rattle.posix_defs.specs.declared.prices.Price.TheVariants.{Always};
-ghost use Rattle.prog_ctl.specs.Runnable.{IsOperand, IsRunnableAt, TakesPath, most_text};
+ghost use Rattle.prog_ctl.specs.Runnable.{IsNeverWrong, IsOperand, IsRunnableAt, TakesPath, most_text};
 ghost use Rattle.prog_ctl.specs.Waits.{asked_for};
 
 use crate::made::made;
@@ -30,7 +30,7 @@ fn bound_made(control: &Control, kind: CallKind, operands: &[Operand], texts: &[
 }
 
 /// The same of a call of which a price is known that goes by its kind alone: it is nothing where its paths are wrong. Calls that take
-/// paths and nothing else aren't made for it.
+/// paths and nothing else aren't made for it, nor are those of which no operand can be wrong.
 fn bound_at(
     control: &Control,
     kind: CallKind,
@@ -46,6 +46,9 @@ fn bound_at(
 {
     if takes_path(kind) {
         return only_if(names_path(texts), bytes);
+    }
+    if is_never_wrong(kind) {
+        return bytes;
     }
     match kind {
         CallKind::Link => only_if(names_paths(texts), bytes),
@@ -80,6 +83,22 @@ fn takes_path(kind: CallKind) -> bool
             | CallKind::Mkdir
             | CallKind::Rmdir
             | CallKind::Unlink
+    )
+}
+
+/// Whether no operand of a call of this kind can be wrong, of those that may make objects.
+fn is_never_wrong(kind: CallKind) -> bool
+    ensures { result ≡ true → IsNeverWrong kind }
+{
+    matches!(
+        kind,
+        CallKind::Fork
+            | CallKind::Dup
+            | CallKind::Dup2
+            | CallKind::Pipe
+            | CallKind::Socket
+            | CallKind::Socketpair
+            | CallKind::Accept
     )
 }
 

@@ -9,7 +9,7 @@ use Rattle.kheap_slabs.specs.declared.objects.Target.{Target}
 use Rattle.kheap_slabs.specs.declared.objects.Target.TheVariants as target
 use Rattle.kheap_slabs.proofs.ObjectLemmas.{object_of}
 use Rattle.kheap_slabs.specs.Heap.{Heap}
-use Rattle.open_laws.specs.Owned.{HasItsOwners, desc_count_at, namings_of, sock_in, sock_of}
+use Rattle.open_laws.specs.Owned.{HasItsOwners, all_namings, desc_count_at, sock_in, sock_of}
 use Rattle.open_laws.proofs.OwnerLemmas.{names}
 use Rattle.posix_defs.specs.Socket.{Socket, new_socket, waiting_of}
 use Rattle.posix_defs.specs.SocketLinks.{WaitsFor}
@@ -40,7 +40,7 @@ open_in h socket key owners on = by_desc (object h.descs key) refl on
       desc = desc;
       there = is;
       on = by_target desc.target e;
-      named = no_more (desc_count_at h.descs key) (namings_of h.procs key) (owners.named.counts key)
+      named = no_more (desc_count_at h.descs key) (all_namings h key) (owners.named.counts key)
           (owners.named.named key (let used : InUse h.descs key = rw is refl in used));
     }
 

@@ -99,6 +99,7 @@ module _ (script : Script) (old : Objects) (new : Heap) (is : IsKept new old.pro
   kept_mid kept = record {
     holds = is.holds;
     all = is.listed.all;
+    leaves = is.listed.leaves;
     owners = is.owners;
     groups = subst (λ (procs : List (Option Proc)). AllByRecursion (λ proc. length proc.nodes ≡ 4) (procs_at procs old.procs.listed)) (sym rest.procs) kept.groups;
     calls = subst (λ (procs : List (Option Proc)). AreAtCalls script (procs_at procs old.procs.listed)) (sym rest.procs) kept.calls;

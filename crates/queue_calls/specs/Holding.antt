@@ -7,7 +7,7 @@ use Rattle.kheap_slabs.specs.declared.objects.Sock.{Sock}
 use Rattle.kheap_slabs.specs.declared.objects.Target.TheVariants as target
 use Rattle.kheap_slabs.specs.Heap.{Heap}
 use Rattle.kheap_slabs.specs.Spaces.{keys_in}
-use Rattle.open_laws.specs.Owned.{namings_of}
+use Rattle.open_laws.specs.Owned.{all_namings}
 
 -- some process has a number open on it
 pub record IsOpenIn (h : Heap) (socket : ℕ) : Type 0 where
@@ -15,7 +15,7 @@ pub record IsOpenIn (h : Heap) (socket : ℕ) : Type 0 where
   pub desc : Desc
   pub there : object h.descs key ≡ Some desc
   pub on : desc.target ≡ target.Sock socket
-  pub named : 0 < namings_of h.procs key
+  pub named : 0 < all_namings h key
 
 -- it waits for another to take it
 pub record WaitsIn (h : Heap) (socket : ℕ) : Type 0 where

@@ -42,6 +42,7 @@ pub fn accept(
     requires opened { IsOpened objects.old.heap objects.old.procs caller.now.place.pid on.now }
     requires room { CanPay objects.old.heap purse.old }
     requires left_desc { 0 < purse.old.left.desc }
+    requires left_leaf { 0 < purse.old.left.leaf }
     ensures kept { AreKept script.now objects.new }
     ensures paid { IsPaid objects.old.heap purse.old objects.new.heap purse.new }
     ensures does { Performs script.now objects.old caller.now.place.pid (Call.Accept on.now.fd) (λ plain. accept script.now plain caller.now.place.pid on.now.fd) result objects.new }

@@ -1,7 +1,9 @@
 //! `dup` and `fcntl`, which close nothing.
 
+ghost use Rattle.std.specs.Prelude.{◌≡◌, ◌<◌};
+ghost use Rattle.kabi_types.specs.Arguments.{count_of};
 ghost use Rattle.kabi_types.specs.declared.calls.Call.{Call};
-ghost use Rattle.kheap_slabs.specs.Paid.{CanPay, IsPaid, TakesNothing};
+ghost use Rattle.kheap_slabs.specs.Paid.{CanPay, IsPaid};
 ghost use Rattle.posix_defs.specs.Calls.OnDescriptors.{dup, fcntl};
 ghost use Rattle.proc_numbers.specs.Found.{IsOpened};
 ghost use Rattle.proc_table.specs.Table.{IsPlaced};
@@ -32,8 +34,8 @@ pub fn dup(
     requires placed { IsPlaced objects.old.procs caller.now.place }
     requires opened { IsOpened objects.old.heap objects.old.procs caller.now.place.pid on.now }
     requires room { CanPay objects.old.heap purse.old }
+    requires left_leaf { 0 < purse.old.left.leaf }
     ensures kept { AreKept script.now objects.new }
-    ensures takes { TakesNothing objects.old.heap objects.new.heap }
     ensures paid { IsPaid objects.old.heap purse.old objects.new.heap purse.new }
     ensures does { Performs script.now objects.old caller.now.place.pid (Call.Dup on.now.fd) (λ plain. dup script.now plain caller.now.place.pid on.now.fd) result objects.new }
 {
@@ -60,8 +62,8 @@ pub fn fcntl(
     requires placed { IsPlaced objects.old.procs caller.now.place }
     requires opened { IsOpened objects.old.heap objects.old.procs caller.now.place.pid on.now }
     requires room { CanPay objects.old.heap purse.old }
+    requires left_leaf { count_of cmd ≡ 0 → 0 < purse.old.left.leaf }
     ensures kept { AreKept script.now objects.new }
-    ensures takes { TakesNothing objects.old.heap objects.new.heap }
     ensures paid { IsPaid objects.old.heap purse.old objects.new.heap purse.new }
     ensures does { Performs script.now objects.old caller.now.place.pid (Call.Fcntl on.now.fd cmd arg) (λ plain. fcntl script.now plain caller.now.place.pid on.now.fd cmd arg) result objects.new }
 {

@@ -27,6 +27,7 @@ pub fn socket(script: &Script, objects: &mut Objects, purse: &mut Purse, caller:
     requires room { CanPay objects.old.heap purse.old }
     requires left_sock { 0 < purse.old.left.sock }
     requires left_desc { 0 < purse.old.left.desc }
+    requires left_leaf { 0 < purse.old.left.leaf }
     ensures kept { AreKept script.now objects.new }
     ensures paid { IsPaid objects.old.heap purse.old objects.new.heap purse.new }
     ensures does { Performs script.now objects.old caller.now.place.pid Call.Socket (λ plain. socket script.now plain caller.now.place.pid) result objects.new }
@@ -52,6 +53,7 @@ pub fn socketpair(
     requires room { CanPay objects.old.heap purse.old }
     requires left_socks { 2 ≤ purse.old.left.sock }
     requires left_descs { 2 ≤ purse.old.left.desc }
+    requires left_leaf { 0 < purse.old.left.leaf }
     ensures kept { AreKept script.now objects.new }
     ensures paid { IsPaid objects.old.heap purse.old objects.new.heap purse.new }
     ensures does { Performs script.now objects.old caller.now.place.pid Call.Socketpair (λ plain. socketpair script.now plain caller.now.place.pid) result objects.new }

@@ -27,6 +27,7 @@ pub fn pipe(script: &Script, objects: &mut Objects, purse: &mut Purse, caller: &
     requires room { CanPay objects.old.heap purse.old }
     requires left_pipe { 0 < purse.old.left.pipe }
     requires left_descs { 2 ≤ purse.old.left.desc }
+    requires left_leaf { 0 < purse.old.left.leaf }
     ensures kept { AreKept script.now objects.new }
     ensures paid { IsPaid objects.old.heap purse.old objects.new.heap purse.new }
     ensures does { Performs script.now objects.old caller.now.place.pid Call.Pipe (λ plain. pipe script.now plain caller.now.place.pid) result objects.new }

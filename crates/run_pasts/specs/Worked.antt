@@ -132,15 +132,15 @@ crowded_script = of_one 8192 (
 abbrev pub crowding : List Entry → List Entry
 crowding rest =
     gave 1 kind.Fork 2 ∷ gave 1 kind.Fork 3 ∷ gave 1 kind.Fork 4 ∷ gave 1 kind.Fork 5 ∷ entry.Slept 1 kind.Waitpid
-    ∷ gave 2 kind.Fork 6 ∷ gave 2 kind.Fork 7 ∷ rest
+    ∷ gave 2 kind.Fork 6 ∷ rest
 
 -- this process is killed for the second one's fork
 abbrev pub falls : ℕ → Entry
-falls pid = entry.Killed pid 2 2560 3712
+falls pid = entry.Killed pid 2 3328 3200
 
 abbrev pub crowded : List Entry
 crowded = crowding (
-    falls 7 ∷ falls 6 ∷ falls 5 ∷ falls 4 ∷ falls 3 ∷ falls 2
+    falls 6 ∷ falls 5 ∷ falls 4 ∷ falls 3 ∷ falls 2
     ∷ entry.Done 1 kind.Waitpid (Waited 2 9) ∷ entry.Ended 1 kind.Exit 0 ∷ [])
 
 -- ---- what a call has cached goes again

@@ -35,10 +35,10 @@ pub fn a_refusal_is_followed()
 /// The heaviest are killed, of equals the youngest first, so that the fork of one of them may fit, who is the last of them; not
 /// out of order, not with other live bytes, and not while what is asked for fits.
 pub fn kills_are_followed()
-    ensures all { good crowded_script crowded ≡ 15 }
-    ensures order { good crowded_script (crowding (falls 6 ∷ [])) ≡ 7 }
-    ensures live { good crowded_script (crowding (Killed 7 2 2560 3776 ∷ [])) ≡ 7 }
-    ensures sleeper { good crowded_script (crowding (Killed 7 1 0 3712 ∷ [])) ≡ 7 }
+    ensures all { good crowded_script crowded ≡ 13 }
+    ensures order { good crowded_script (crowding (falls 5 ∷ [])) ≡ 6 }
+    ensures live { good crowded_script (crowding (Killed 6 2 3328 3264 ∷ [])) ≡ 6 }
+    ensures sleeper { good crowded_script (crowding (Killed 6 1 0 3200 ∷ [])) ≡ 6 }
     ensures first { good crowded_script (falls 2 ∷ []) ≡ 0 }
 {}
 

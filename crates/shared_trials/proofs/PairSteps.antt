@@ -7,7 +7,7 @@ use Rattle.kabi_types.specs.declared.entries.Cached.TheVariants.{Name, Block, Vn
 use Rattle.kabi_types.specs.declared.scripts.Script.{Script}
 use Rattle.posix_defs.specs.declared.turner.Turned.{Turned}
 use Rattle.posix_defs.specs.declared.turner.Turned.TheVariants.{Gone}
-use Rattle.posix_defs.specs.Calls.OnSockets.{bind}
+use Rattle.posix_defs.specs.Calls.OnFiles.{open_file}
 use Rattle.posix_defs.specs.Machine.{would_block}
 use Rattle.posix_defs.specs.Memory.{no_places}
 use Rattle.posix_defs.specs.Files.Closing.{after_end_of}
@@ -58,13 +58,13 @@ IsCall heap pid now cached (Some act) = call_as act ≡ call_of (pair heap) (wor
 
 first_calls : (heap : ℕ) (now : Scene) (cached : Bool) → IsCall heap 1 now cached (first_act now)
 first_calls heap Young cached = refl
-first_calls heap (Alone next.Bind) cached = refl
+first_calls heap (Alone next.Open) cached = refl
 first_calls heap (Alone next.Exit) cached = refl
-first_calls heap (Two next.Bind b) cached = refl
+first_calls heap (Two next.Open b) cached = refl
 first_calls heap (Two next.Exit b) cached = refl
-first_calls heap (Exited next.Bind) cached = refl
+first_calls heap (Exited next.Open) cached = refl
 first_calls heap (Exited next.Exit) cached = refl
-first_calls heap (Killed next.Bind b) cached = refl
+first_calls heap (Killed next.Open b) cached = refl
 first_calls heap (Killed next.Exit b) cached = refl
 first_calls heap Over cached = tt
 first_calls heap (BothOver b) cached = tt
@@ -72,7 +72,7 @@ first_calls heap (BothOver b) cached = tt
 second_calls : (heap : ℕ) (now : Scene) (cached : Bool) → IsCall heap 2 now cached (second_act now)
 second_calls heap Young cached = tt
 second_calls heap (Alone a) cached = tt
-second_calls heap (Two a next.Bind) cached = refl
+second_calls heap (Two a next.Open) cached = refl
 second_calls heap (Two a next.Exit) cached = refl
 second_calls heap (Exited a) cached = tt
 second_calls heap (Killed a b) cached = tt
@@ -86,34 +86,34 @@ HasTurn heap pid now cached after (Some act) =
     Answers (pair heap) (world_at now cached) pid (call_as act) (told_of (Some act)) (world_at after (cached_by (Some act) cached))
 
 first_turns : (heap : ℕ) (now : Scene) (cached : Bool) → HasTurn heap 1 now cached (first_after now) (first_act now)
-unfolding bind bound need_of no_places none_open after_end_of
-first_turns heap Young false = record { answer = (refl, refl); account = refl; may_keep = may_keep (Two next.Bind next.Bind) false; live = lit≤ tt; names = lit≤ tt; blocks = lit≤ tt; vnodes = lit≤ tt; reads = lit≤ tt; untouched = λ _. (refl, refl); left = λ _. tt; known = λ _. refl }
-first_turns heap Young true = record { answer = (refl, refl); account = refl; may_keep = may_keep (Two next.Bind next.Bind) true; live = lit≤ tt; names = lit≤ tt; blocks = lit≤ tt; vnodes = lit≤ tt; reads = lit≤ tt; untouched = λ _. (refl, refl); left = λ _. tt; known = λ _. refl }
-first_turns heap (Alone next.Bind) false = record { answer = (refl, refl); account = refl; may_keep = may_keep (Alone next.Exit) true; live = lit≤ tt; names = lit≤ tt; blocks = lit≤ tt; vnodes = lit≤ tt; reads = lit≤ tt; untouched = λ e. cc; left = λ _. tt; known = λ _. refl }
-first_turns heap (Alone next.Bind) true = record { answer = (refl, refl); account = refl; may_keep = may_keep (Alone next.Exit) true; live = lit≤ tt; names = lit≤ tt; blocks = lit≤ tt; vnodes = lit≤ tt; reads = lit≤ tt; untouched = λ e. cc; left = λ _. tt; known = λ _. refl }
+unfolding open_file bound need_of no_places none_open after_end_of
+first_turns heap Young false = record { answer = (refl, refl); account = refl; may_keep = may_keep (Two next.Open next.Open) false; live = lit≤ tt; names = lit≤ tt; blocks = lit≤ tt; vnodes = lit≤ tt; reads = lit≤ tt; untouched = λ _. (refl, refl); left = λ _. tt; known = λ _. refl }
+first_turns heap Young true = record { answer = (refl, refl); account = refl; may_keep = may_keep (Two next.Open next.Open) true; live = lit≤ tt; names = lit≤ tt; blocks = lit≤ tt; vnodes = lit≤ tt; reads = lit≤ tt; untouched = λ _. (refl, refl); left = λ _. tt; known = λ _. refl }
+first_turns heap (Alone next.Open) false = record { answer = (refl, refl); account = refl; may_keep = may_keep (Alone next.Exit) true; live = lit≤ tt; names = lit≤ tt; blocks = lit≤ tt; vnodes = lit≤ tt; reads = lit≤ tt; untouched = λ e. cc; left = λ _. tt; known = λ _. refl }
+first_turns heap (Alone next.Open) true = record { answer = (refl, refl); account = refl; may_keep = may_keep (Alone next.Exit) true; live = lit≤ tt; names = lit≤ tt; blocks = lit≤ tt; vnodes = lit≤ tt; reads = lit≤ tt; untouched = λ e. cc; left = λ _. tt; known = λ _. refl }
 first_turns heap (Alone next.Exit) false = record { answer = (refl, refl); account = refl; may_keep = may_keep Over false; live = lit≤ tt; names = lit≤ tt; blocks = lit≤ tt; vnodes = lit≤ tt; reads = lit≤ tt; untouched = λ _. (refl, refl); left = λ _. tt; known = λ _. refl }
 first_turns heap (Alone next.Exit) true = record { answer = (refl, refl); account = refl; may_keep = may_keep Over true; live = lit≤ tt; names = lit≤ tt; blocks = lit≤ tt; vnodes = lit≤ tt; reads = lit≤ tt; untouched = λ _. (refl, refl); left = λ _. tt; known = λ _. refl }
-first_turns heap (Two next.Bind b) false = record { answer = (refl, refl); account = refl; may_keep = may_keep (Two next.Exit b) true; live = lit≤ tt; names = lit≤ tt; blocks = lit≤ tt; vnodes = lit≤ tt; reads = lit≤ tt; untouched = λ e. cc; left = λ _. tt; known = λ _. refl }
-first_turns heap (Two next.Bind b) true = record { answer = (refl, refl); account = refl; may_keep = may_keep (Two next.Exit b) true; live = lit≤ tt; names = lit≤ tt; blocks = lit≤ tt; vnodes = lit≤ tt; reads = lit≤ tt; untouched = λ e. cc; left = λ _. tt; known = λ _. refl }
+first_turns heap (Two next.Open b) false = record { answer = (refl, refl); account = refl; may_keep = may_keep (Two next.Exit b) true; live = lit≤ tt; names = lit≤ tt; blocks = lit≤ tt; vnodes = lit≤ tt; reads = lit≤ tt; untouched = λ e. cc; left = λ _. tt; known = λ _. refl }
+first_turns heap (Two next.Open b) true = record { answer = (refl, refl); account = refl; may_keep = may_keep (Two next.Exit b) true; live = lit≤ tt; names = lit≤ tt; blocks = lit≤ tt; vnodes = lit≤ tt; reads = lit≤ tt; untouched = λ e. cc; left = λ _. tt; known = λ _. refl }
 first_turns heap (Two next.Exit b) false = record { answer = (refl, refl); account = refl; may_keep = may_keep (BothOver b) false; live = lit≤ tt; names = lit≤ tt; blocks = lit≤ tt; vnodes = lit≤ tt; reads = lit≤ tt; untouched = λ _. (refl, refl); left = λ _. tt; known = λ _. refl }
 first_turns heap (Two next.Exit b) true = record { answer = (refl, refl); account = refl; may_keep = may_keep (BothOver b) true; live = lit≤ tt; names = lit≤ tt; blocks = lit≤ tt; vnodes = lit≤ tt; reads = lit≤ tt; untouched = λ _. (refl, refl); left = λ _. tt; known = λ _. refl }
-first_turns heap (Exited next.Bind) false = record { answer = (refl, refl); account = refl; may_keep = may_keep (Exited next.Exit) true; live = lit≤ tt; names = lit≤ tt; blocks = lit≤ tt; vnodes = lit≤ tt; reads = lit≤ tt; untouched = λ e. cc; left = λ _. tt; known = λ _. refl }
-first_turns heap (Exited next.Bind) true = record { answer = (refl, refl); account = refl; may_keep = may_keep (Exited next.Exit) true; live = lit≤ tt; names = lit≤ tt; blocks = lit≤ tt; vnodes = lit≤ tt; reads = lit≤ tt; untouched = λ e. cc; left = λ _. tt; known = λ _. refl }
+first_turns heap (Exited next.Open) false = record { answer = (refl, refl); account = refl; may_keep = may_keep (Exited next.Exit) true; live = lit≤ tt; names = lit≤ tt; blocks = lit≤ tt; vnodes = lit≤ tt; reads = lit≤ tt; untouched = λ e. cc; left = λ _. tt; known = λ _. refl }
+first_turns heap (Exited next.Open) true = record { answer = (refl, refl); account = refl; may_keep = may_keep (Exited next.Exit) true; live = lit≤ tt; names = lit≤ tt; blocks = lit≤ tt; vnodes = lit≤ tt; reads = lit≤ tt; untouched = λ e. cc; left = λ _. tt; known = λ _. refl }
 first_turns heap (Exited next.Exit) false = record { answer = (refl, refl); account = refl; may_keep = may_keep (BothOver next.Exit) false; live = lit≤ tt; names = lit≤ tt; blocks = lit≤ tt; vnodes = lit≤ tt; reads = lit≤ tt; untouched = λ _. (refl, refl); left = λ _. tt; known = λ _. refl }
 first_turns heap (Exited next.Exit) true = record { answer = (refl, refl); account = refl; may_keep = may_keep (BothOver next.Exit) true; live = lit≤ tt; names = lit≤ tt; blocks = lit≤ tt; vnodes = lit≤ tt; reads = lit≤ tt; untouched = λ _. (refl, refl); left = λ _. tt; known = λ _. refl }
-first_turns heap (Killed next.Bind b) false = record { answer = (refl, refl); account = refl; may_keep = may_keep (Killed next.Exit b) true; live = lit≤ tt; names = lit≤ tt; blocks = lit≤ tt; vnodes = lit≤ tt; reads = lit≤ tt; untouched = λ e. cc; left = λ _. tt; known = λ _. refl }
-first_turns heap (Killed next.Bind b) true = record { answer = (refl, refl); account = refl; may_keep = may_keep (Killed next.Exit b) true; live = lit≤ tt; names = lit≤ tt; blocks = lit≤ tt; vnodes = lit≤ tt; reads = lit≤ tt; untouched = λ e. cc; left = λ _. tt; known = λ _. refl }
+first_turns heap (Killed next.Open b) false = record { answer = (refl, refl); account = refl; may_keep = may_keep (Killed next.Exit b) true; live = lit≤ tt; names = lit≤ tt; blocks = lit≤ tt; vnodes = lit≤ tt; reads = lit≤ tt; untouched = λ e. cc; left = λ _. tt; known = λ _. refl }
+first_turns heap (Killed next.Open b) true = record { answer = (refl, refl); account = refl; may_keep = may_keep (Killed next.Exit b) true; live = lit≤ tt; names = lit≤ tt; blocks = lit≤ tt; vnodes = lit≤ tt; reads = lit≤ tt; untouched = λ e. cc; left = λ _. tt; known = λ _. refl }
 first_turns heap (Killed next.Exit b) false = record { answer = (refl, refl); account = refl; may_keep = may_keep (BothOver b) false; live = lit≤ tt; names = lit≤ tt; blocks = lit≤ tt; vnodes = lit≤ tt; reads = lit≤ tt; untouched = λ _. (refl, refl); left = λ _. tt; known = λ _. refl }
 first_turns heap (Killed next.Exit b) true = record { answer = (refl, refl); account = refl; may_keep = may_keep (BothOver b) true; live = lit≤ tt; names = lit≤ tt; blocks = lit≤ tt; vnodes = lit≤ tt; reads = lit≤ tt; untouched = λ _. (refl, refl); left = λ _. tt; known = λ _. refl }
 first_turns heap Over cached = tt
 first_turns heap (BothOver b) cached = tt
 
 second_turns : (heap : ℕ) (now : Scene) (cached : Bool) → HasTurn heap 2 now cached (second_after now) (second_act now)
-unfolding bind bound need_of no_places none_open after_end_of
+unfolding open_file bound need_of no_places none_open after_end_of
 second_turns heap Young cached = tt
 second_turns heap (Alone a) cached = tt
-second_turns heap (Two a next.Bind) false = record { answer = (refl, refl); account = refl; may_keep = may_keep (Two a next.Exit) true; live = lit≤ tt; names = lit≤ tt; blocks = lit≤ tt; vnodes = lit≤ tt; reads = lit≤ tt; untouched = λ e. cc; left = λ _. tt; known = λ _. refl }
-second_turns heap (Two a next.Bind) true = record { answer = (refl, refl); account = refl; may_keep = may_keep (Two a next.Exit) true; live = lit≤ tt; names = lit≤ tt; blocks = lit≤ tt; vnodes = lit≤ tt; reads = lit≤ tt; untouched = λ e. cc; left = λ _. tt; known = λ _. refl }
+second_turns heap (Two a next.Open) false = record { answer = (refl, refl); account = refl; may_keep = may_keep (Two a next.Exit) true; live = lit≤ tt; names = lit≤ tt; blocks = lit≤ tt; vnodes = lit≤ tt; reads = lit≤ tt; untouched = λ e. cc; left = λ _. tt; known = λ _. refl }
+second_turns heap (Two a next.Open) true = record { answer = (refl, refl); account = refl; may_keep = may_keep (Two a next.Exit) true; live = lit≤ tt; names = lit≤ tt; blocks = lit≤ tt; vnodes = lit≤ tt; reads = lit≤ tt; untouched = λ e. cc; left = λ _. tt; known = λ _. refl }
 second_turns heap (Two a next.Exit) false = record { answer = (refl, refl); account = refl; may_keep = may_keep (Exited a) false; live = lit≤ tt; names = lit≤ tt; blocks = lit≤ tt; vnodes = lit≤ tt; reads = lit≤ tt; untouched = λ _. (refl, refl); left = λ _. tt; known = λ _. refl }
 second_turns heap (Two a next.Exit) true = record { answer = (refl, refl); account = refl; may_keep = may_keep (Exited a) true; live = lit≤ tt; names = lit≤ tt; blocks = lit≤ tt; vnodes = lit≤ tt; reads = lit≤ tt; untouched = λ _. (refl, refl); left = λ _. tt; known = λ _. refl }
 second_turns heap (Exited a) cached = tt
@@ -207,24 +207,24 @@ pair_calls heap now cached (suc (suc (suc n))) = tt
 
 -- it never blocks
 first_ready : (heap : ℕ) (now : Scene) (cached : Bool) → is_some (first_act now) ≡ true → would_block (pair heap) (world_at now cached).plain 1 ≡ false
-unfolding bind none_open
+unfolding open_file none_open
 first_ready heap Young cached lives = refl
-first_ready heap (Alone next.Bind) cached lives = refl
+first_ready heap (Alone next.Open) cached lives = refl
 first_ready heap (Alone next.Exit) cached lives = refl
-first_ready heap (Two next.Bind b) cached lives = refl
+first_ready heap (Two next.Open b) cached lives = refl
 first_ready heap (Two next.Exit b) cached lives = refl
-first_ready heap (Exited next.Bind) cached lives = refl
+first_ready heap (Exited next.Open) cached lives = refl
 first_ready heap (Exited next.Exit) cached lives = refl
-first_ready heap (Killed next.Bind b) cached lives = refl
+first_ready heap (Killed next.Open b) cached lives = refl
 first_ready heap (Killed next.Exit b) cached lives = refl
 first_ready heap Over cached lives = cc
 first_ready heap (BothOver b) cached lives = cc
 
 second_ready : (heap : ℕ) (now : Scene) (cached : Bool) → is_some (second_act now) ≡ true → would_block (pair heap) (world_at now cached).plain 2 ≡ false
-unfolding bind none_open
+unfolding open_file none_open
 second_ready heap Young cached lives = cc
 second_ready heap (Alone a) cached lives = cc
-second_ready heap (Two a next.Bind) cached lives = refl
+second_ready heap (Two a next.Open) cached lives = refl
 second_ready heap (Two a next.Exit) cached lives = refl
 second_ready heap (Exited a) cached lives = cc
 second_ready heap (Killed a b) cached lives = cc
@@ -241,13 +241,13 @@ pair_ready heap now cached (suc (suc (suc n))) lives = absurd (nobody (sym (who_
 -- a live process's call is refused
 first_refuses : (heap : ℕ) (now : Scene) (cached : Bool) → is_some (first_act now) ≡ true → world_at (first_refused now) cached ≡ refused_in (pair heap) (world_at now cached) 1
 first_refuses heap Young cached lives = refl
-first_refuses heap (Alone next.Bind) cached lives = refl
+first_refuses heap (Alone next.Open) cached lives = refl
 first_refuses heap (Alone next.Exit) cached lives = refl
-first_refuses heap (Two next.Bind b) cached lives = refl
+first_refuses heap (Two next.Open b) cached lives = refl
 first_refuses heap (Two next.Exit b) cached lives = refl
-first_refuses heap (Exited next.Bind) cached lives = refl
+first_refuses heap (Exited next.Open) cached lives = refl
 first_refuses heap (Exited next.Exit) cached lives = refl
-first_refuses heap (Killed next.Bind b) cached lives = refl
+first_refuses heap (Killed next.Open b) cached lives = refl
 first_refuses heap (Killed next.Exit b) cached lives = refl
 first_refuses heap Over cached lives = cc
 first_refuses heap (BothOver b) cached lives = cc
@@ -255,7 +255,7 @@ first_refuses heap (BothOver b) cached lives = cc
 second_refuses : (heap : ℕ) (now : Scene) (cached : Bool) → is_some (second_act now) ≡ true → world_at (second_refused now) cached ≡ refused_in (pair heap) (world_at now cached) 2
 second_refuses heap Young cached lives = cc
 second_refuses heap (Alone a) cached lives = cc
-second_refuses heap (Two a next.Bind) cached lives = refl
+second_refuses heap (Two a next.Open) cached lives = refl
 second_refuses heap (Two a next.Exit) cached lives = refl
 second_refuses heap (Exited a) cached lives = cc
 second_refuses heap (Killed a b) cached lives = cc

@@ -11,7 +11,7 @@ use Rattle.kabi_types.specs.declared.scripts.Operand.TheVariants.{Number}
 use Rattle.kabi_types.specs.declared.scripts.Policy.TheVariants.{Heaviest}
 use Rattle.kabi_types.specs.declared.scripts.Script.{Script}
 use Rattle.kabi_types.specs.declared.scripts.Statement.TheVariants.{Invoke}
-use Rattle.kabi_types.specs.declared.errnos.Errno.TheVariants.{EBADF}
+use Rattle.kabi_types.specs.declared.errnos.Errno.TheVariants.{ENOENT}
 use Rattle.kabi_types.specs.declared.replies.Reply.TheVariants.{Fail, Val}
 use Rattle.posix_defs.specs.declared.turner.Turned.{Turned}
 use Rattle.posix_defs.specs.declared.turner.Turned.TheVariants.{Done, Ended, Gone}
@@ -30,7 +30,7 @@ use Rattle.shared_trials.specs.declared.scenes.Scene.TheVariants as scene
 use Rattle.shared_trials.specs.declared.scenes.Who.{Who}
 use Rattle.shared_trials.specs.declared.scenes.Who.TheVariants as one
 
--- `fork`, `bind 3 "/d"` where 3 isn't open, and the end, on so much heap
+-- `fork`, `open "/d" O_RDONLY` where there is no such file, and the end, on so much heap
 abbrev pub pair : ℕ → Script
 pair heap = record {
   heap = heap;
@@ -38,7 +38,7 @@ pair heap = record {
   steps = 1000;
   policy = Heaviest;
   chooser = Plain;
-  programs = record { name = codes "init"; body = Invoke kind.Fork [] [] None None ∷ Invoke kind.Bind (Number (pos 3) ∷ []) (codes "/d" ∷ []) None None ∷ [] } ∷ [];
+  programs = record { name = codes "init"; body = Invoke kind.Fork [] [] None None ∷ Invoke kind.OpenFile (Number (pos 0) ∷ []) (codes "/d" ∷ []) None None ∷ [] } ∷ [];
 }
 
 -- which process a pid names
@@ -50,7 +50,7 @@ who (suc (suc (suc _))) = one.Nobody
 
 -- where a process is that makes this call next
 abbrev pub place_of : Next → ℕ
-place_of next.Bind = 1
+place_of next.Open = 1
 place_of next.Exit = 2
 
 abbrev at : ℕ → Control
@@ -123,7 +123,7 @@ live_at now cached = held_in now + cond cached 1088 0
 
 -- what a process that goes on here does next
 abbrev pub act_as : Next → Act
-act_as next.Bind = act.Bind
+act_as next.Open = act.Open
 act_as next.Exit = act.Exit
 
 -- what each of the two does next, if it lives
@@ -153,33 +153,33 @@ act_of one.Nobody now = None
 -- the call that this is
 abbrev pub call_as : Act → Call
 call_as act.Fork = call.Fork
-call_as act.Bind = call.Bind (pos 3) (codes "/d")
+call_as act.Open = call.OpenFile (codes "/d") (pos 0)
 call_as act.Exit = call.Exit (pos 0)
 
 -- what its turn tells
 abbrev pub told_of : Option Act → Turned
 told_of None = Gone
 told_of (Some act.Fork) = Done (Val (pos 2))
-told_of (Some act.Bind) = Done (Fail EBADF)
+told_of (Some act.Open) = Done (Fail ENOENT)
 told_of (Some act.Exit) = Ended 0
 
--- whether a block is cached behind it: to bind the name one is
+-- whether a block is cached behind it: to look for the name one is
 abbrev pub cached_by : Option Act → Bool → Bool
 cached_by None cached = cached
 cached_by (Some act.Fork) cached = cached
-cached_by (Some act.Bind) cached = true
+cached_by (Some act.Open) cached = true
 cached_by (Some act.Exit) cached = cached
 
 -- the scene behind a turn of each of the two
 abbrev pub first_after : Scene → Scene
-first_after scene.Young = scene.Two next.Bind next.Bind
-first_after (scene.Alone next.Bind) = scene.Alone next.Exit
+first_after scene.Young = scene.Two next.Open next.Open
+first_after (scene.Alone next.Open) = scene.Alone next.Exit
 first_after (scene.Alone next.Exit) = scene.Over
-first_after (scene.Two next.Bind second) = scene.Two next.Exit second
+first_after (scene.Two next.Open second) = scene.Two next.Exit second
 first_after (scene.Two next.Exit second) = scene.BothOver second
-first_after (scene.Exited next.Bind) = scene.Exited next.Exit
+first_after (scene.Exited next.Open) = scene.Exited next.Exit
 first_after (scene.Exited next.Exit) = scene.BothOver next.Exit
-first_after (scene.Killed next.Bind second) = scene.Killed next.Exit second
+first_after (scene.Killed next.Open second) = scene.Killed next.Exit second
 first_after (scene.Killed next.Exit second) = scene.BothOver second
 first_after scene.Over = scene.Over
 first_after (scene.BothOver second) = scene.BothOver second
@@ -187,7 +187,7 @@ first_after (scene.BothOver second) = scene.BothOver second
 abbrev pub second_after : Scene → Scene
 second_after scene.Young = scene.Young
 second_after (scene.Alone first) = scene.Alone first
-second_after (scene.Two first next.Bind) = scene.Two first next.Exit
+second_after (scene.Two first next.Open) = scene.Two first next.Exit
 second_after (scene.Two first next.Exit) = scene.Exited first
 second_after (scene.Exited first) = scene.Exited first
 second_after (scene.Killed first second) = scene.Killed first second
@@ -201,7 +201,7 @@ scene_after one.Nobody now = now
 
 -- the scene where a call of each of the two was refused
 abbrev pub first_refused : Scene → Scene
-first_refused scene.Young = scene.Alone next.Bind
+first_refused scene.Young = scene.Alone next.Open
 first_refused (scene.Alone _) = scene.Alone next.Exit
 first_refused (scene.Two _ second) = scene.Two next.Exit second
 first_refused (scene.Exited _) = scene.Exited next.Exit

@@ -1,4 +1,4 @@
-//! Two processes, of which a child is made, by tables. All is by hand from the prices: 2560 bytes to fork and to bind, 512 for a
+//! Two processes, of which a child is made, by tables. All is by hand from the prices: 3328 bytes to fork and 3008 to open, 512 for a
 //! process, 1088 for a block; 640 live at boot, and 2176 in reserve.
 
 ghost use Rattle.std.specs.Prelude.{◌≤◌};
@@ -25,24 +25,24 @@ fn pair_goes_so<R: Wait>(
     goes_so(rt, alloc, at_boot(size.heap), size, rows, left)
 }
 
-const FAILED: Told = Told::Failed(Errno::EBADF);
+const FAILED: Told = Told::Failed(Errno::ENOENT);
 
-/// On 6000 bytes the second `bind` waits for the block that the first has cached; the child is held when the first process ends.
+/// On 7000 bytes the second `open` waits for the block that the first has cached; the child is held when the first process ends.
 const EVICTS: &[Row] = &[
     (1, Ask::Pick, Told::Run(1, CallKind::Fork)),
     (2, Ask::Pick, Told::Idle),
     (2, Ask::Relieve, Told::Helped(Relief::Fits(1))),
     (1, Ask::Attend, Told::Value(2)),
     (2, Ask::Relieve, Told::Helped(Relief::NoneWaiting)),
-    (1, Ask::Pick, Told::Run(1, CallKind::Bind)),
-    (2, Ask::Pick, Told::Run(2, CallKind::Bind)),
+    (1, Ask::Pick, Told::Run(1, CallKind::OpenFile)),
+    (2, Ask::Pick, Told::Run(2, CallKind::OpenFile)),
     (1, Ask::Attend, FAILED),
     (
         2,
         Ask::Attend,
         Told::Short {
             charged: 4416,
-            need: 2560,
+            need: 3008,
         },
     ),
     (
@@ -64,9 +64,9 @@ const EVICTS: &[Row] = &[
 const EVICTED: Left = (
     &[
         Line::Done(1, CallKind::Fork),
-        Line::Done(1, CallKind::Bind),
+        Line::Done(1, CallKind::OpenFile),
         Line::Evicted(Cached::Block),
-        Line::Done(2, CallKind::Bind),
+        Line::Done(2, CallKind::OpenFile),
         Line::Ended(1, CallKind::Exit, 0),
         Line::Gone(2, CallKind::Exit),
     ],
@@ -76,15 +76,15 @@ const EVICTED: Left = (
 
 const SHORT: Told = Told::Short {
     charged: 3328,
-    need: 2560,
+    need: 3008,
 };
 
-/// On 5500 bytes neither `bind` has room beside both processes. The child is killed, and its record stays, which nobody waits for.
+/// On 6200 bytes neither `open` has room beside both processes. The child is killed, and its record stays, which nobody waits for.
 const KILLS: &[Row] = &[
     (1, Ask::Pick, Told::Run(1, CallKind::Fork)),
     (1, Ask::Attend, Told::Value(2)),
-    (1, Ask::Pick, Told::Run(1, CallKind::Bind)),
-    (2, Ask::Pick, Told::Run(2, CallKind::Bind)),
+    (1, Ask::Pick, Told::Run(1, CallKind::OpenFile)),
+    (2, Ask::Pick, Told::Run(2, CallKind::OpenFile)),
     (1, Ask::Attend, SHORT),
     (2, Ask::Attend, SHORT),
     (2, Ask::Relieve, Told::Helped(Relief::Killed(2))),
@@ -95,7 +95,7 @@ const KILLS: &[Row] = &[
     (
         2,
         Ask::Pick,
-        Told::Over(End::Starved { pid: 1, need: 2560 }),
+        Told::Over(End::Starved { pid: 1, need: 3008 }),
     ),
 ];
 
@@ -105,11 +105,11 @@ const KILLED: Left = (
         Line::Killed {
             pid: 2,
             waiter: 1,
-            need: 2560,
+            need: 3008,
             live: 1152,
         },
     ],
-    Some(End::Starved { pid: 1, need: 2560 }),
+    Some(End::Starved { pid: 1, need: 3008 }),
     3328,
 );
 
@@ -117,8 +117,8 @@ const KILLED: Left = (
 const SPENDS: &[Row] = &[
     (1, Ask::Pick, Told::Run(1, CallKind::Fork)),
     (1, Ask::Attend, Told::Value(2)),
-    (1, Ask::Pick, Told::Run(1, CallKind::Bind)),
-    (2, Ask::Pick, Told::Run(2, CallKind::Bind)),
+    (1, Ask::Pick, Told::Run(1, CallKind::OpenFile)),
+    (2, Ask::Pick, Told::Run(2, CallKind::OpenFile)),
     (1, Ask::Attend, FAILED),
     (1, Ask::Pick, Told::Over(End::Spent)),
     (2, Ask::Relieve, Told::Helped(Relief::Spent)),
@@ -127,7 +127,10 @@ const SPENDS: &[Row] = &[
 ];
 
 const SPENT: Left = (
-    &[Line::Done(1, CallKind::Fork), Line::Done(1, CallKind::Bind)],
+    &[
+        Line::Done(1, CallKind::Fork),
+        Line::Done(1, CallKind::OpenFile),
+    ],
     Some(End::Spent),
     4416,
 );
@@ -137,7 +140,7 @@ const REFUSES: &[Row] = &[
     (1, Ask::Pick, Told::Run(1, CallKind::Fork)),
     (2, Ask::Relieve, Told::Helped(Relief::NoneWaiting)),
     (1, Ask::Attend, Told::Refused),
-    (2, Ask::Pick, Told::Run(1, CallKind::Bind)),
+    (2, Ask::Pick, Told::Run(1, CallKind::OpenFile)),
     (2, Ask::Attend, Told::Refused),
     (1, Ask::Pick, Told::Run(1, CallKind::Exit)),
     (1, Ask::Attend, Told::Ended(0)),
@@ -146,8 +149,8 @@ const REFUSES: &[Row] = &[
 
 const REFUSED: Left = (
     &[
-        Line::Refused(1, CallKind::Fork, 2560),
-        Line::Refused(1, CallKind::Bind, 2560),
+        Line::Refused(1, CallKind::Fork, 3328),
+        Line::Refused(1, CallKind::OpenFile, 3008),
         Line::Ended(1, CallKind::Exit, 0),
     ],
     Some(End::Finished),
@@ -158,12 +161,12 @@ const REFUSED: Left = (
 const GIVES_BACK: &[Row] = &[
     (1, Ask::Pick, Told::Run(1, CallKind::Fork)),
     (1, Ask::Attend, Told::Value(2)),
-    (2, Ask::Pick, Told::Run(1, CallKind::Bind)),
-    (1, Ask::Pick, Told::Run(2, CallKind::Bind)),
+    (2, Ask::Pick, Told::Run(1, CallKind::OpenFile)),
+    (1, Ask::Pick, Told::Run(2, CallKind::OpenFile)),
     (2, Ask::Release, Told::Released),
     (2, Ask::Attend, Told::Nothing),
     (2, Ask::Release, Told::Nothing),
-    (2, Ask::Pick, Told::Run(1, CallKind::Bind)),
+    (2, Ask::Pick, Told::Run(1, CallKind::OpenFile)),
 ];
 
 const GIVEN_BACK: Left = (&[Line::Done(1, CallKind::Fork)], None, 3328);
@@ -172,8 +175,8 @@ const GIVEN_BACK: Left = (&[Line::Done(1, CallKind::Fork)], None, 3328);
 type Run = (u64, u32, &'static [Row], Left);
 
 const RUNS: &[Run] = &[
-    (6000, 100, EVICTS, EVICTED),
-    (5500, 100, KILLS, KILLED),
+    (7000, 100, EVICTS, EVICTED),
+    (6200, 100, KILLS, KILLED),
     (8192, 2, SPENDS, SPENT),
     (5000, 100, REFUSES, REFUSED),
     (8192, 100, GIVES_BACK, GIVEN_BACK),

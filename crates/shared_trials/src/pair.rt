@@ -10,7 +10,7 @@ use crate::{Act, Next, Scene, Who};
 use kabi_types::{Cached, Call, Errno, Need, Path, Reply};
 use posix_defs::{Asked, Turned, Turner};
 
-/// A process that forks; then it and its child bind a name to what isn't open, and end. To bind the name a block is cached. The store
+/// A process that forks; then it and its child open a file that isn't there, and end. To look for its name a block is cached. The store
 /// has the heap of its script, how far the processes have come, whether a block is cached, and of the heap how often that was
 /// marked, and the most that was taken in the last call.
 #[derive(Drop)]
@@ -39,7 +39,7 @@ fn act_as(next: Next) -> Act
     ensures { result ≡ act_as next }
 {
     match next {
-        Next::Bind => Act::Bind,
+        Next::Open => Act::Open,
         Next::Exit => Act::Exit,
     }
 }
@@ -86,9 +86,9 @@ fn call_as(act: Act) -> Call
 {
     match act {
         Act::Fork => Call::Fork,
-        Act::Bind => Call::Bind {
-            fd: 3,
+        Act::Open => Call::OpenFile {
             path: Path::of(b"/d").unwrap(),
+            flags: 0,
         },
         Act::Exit => Call::Exit { status: 0 },
     }
@@ -101,7 +101,7 @@ fn told_of(act: Option<Act>) -> Turned
     match act {
         None => Turned::Gone,
         Some(Act::Fork) => Turned::Done(Reply::Val(2)),
-        Some(Act::Bind) => Turned::Done(Reply::Fail(Errno::EBADF)),
+        Some(Act::Open) => Turned::Done(Reply::Fail(Errno::ENOENT)),
         Some(Act::Exit) => Turned::Ended(0),
     }
 }
@@ -111,7 +111,7 @@ fn cached_by(act: Option<Act>, cached: bool) -> bool
     ensures { result ≡ cached_by act cached }
 {
     match act {
-        Some(Act::Bind) => true,
+        Some(Act::Open) => true,
         Some(Act::Fork) | Some(Act::Exit) | None => cached,
     }
 }
@@ -121,14 +121,14 @@ fn first_after(scene: Scene) -> Scene
     ensures { result ≡ first_after scene }
 {
     match scene {
-        Scene::Young => Scene::Two(Next::Bind, Next::Bind),
-        Scene::Alone(Next::Bind) => Scene::Alone(Next::Exit),
+        Scene::Young => Scene::Two(Next::Open, Next::Open),
+        Scene::Alone(Next::Open) => Scene::Alone(Next::Exit),
         Scene::Alone(Next::Exit) => Scene::Over,
-        Scene::Two(Next::Bind, second) => Scene::Two(Next::Exit, second),
+        Scene::Two(Next::Open, second) => Scene::Two(Next::Exit, second),
         Scene::Two(Next::Exit, second) => Scene::BothOver(second),
-        Scene::Exited(Next::Bind) => Scene::Exited(Next::Exit),
+        Scene::Exited(Next::Open) => Scene::Exited(Next::Exit),
         Scene::Exited(Next::Exit) => Scene::BothOver(Next::Exit),
-        Scene::Killed(Next::Bind, second) => Scene::Killed(Next::Exit, second),
+        Scene::Killed(Next::Open, second) => Scene::Killed(Next::Exit, second),
         Scene::Killed(Next::Exit, second) => Scene::BothOver(second),
         Scene::Over => Scene::Over,
         Scene::BothOver(second) => Scene::BothOver(second),
@@ -141,7 +141,7 @@ fn scene_after(one: Who, scene: Scene) -> Scene
 {
     match (one, scene) {
         (Who::First, _) => first_after(scene),
-        (Who::Second, Scene::Two(first, Next::Bind)) => Scene::Two(first, Next::Exit),
+        (Who::Second, Scene::Two(first, Next::Open)) => Scene::Two(first, Next::Exit),
         (Who::Second, Scene::Two(first, Next::Exit)) => Scene::Exited(first),
         _ => scene,
     }
@@ -152,7 +152,7 @@ fn scene_refused(one: Who, scene: Scene) -> Scene
     ensures { result ≡ scene_refused one scene }
 {
     match (one, scene) {
-        (Who::First, Scene::Young) => Scene::Alone(Next::Bind),
+        (Who::First, Scene::Young) => Scene::Alone(Next::Open),
         (Who::First, Scene::Alone(_)) => Scene::Alone(Next::Exit),
         (Who::First, Scene::Two(_, second)) => Scene::Two(Next::Exit, second),
         (Who::First, Scene::Exited(_)) => Scene::Exited(Next::Exit),

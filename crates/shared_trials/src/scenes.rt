@@ -3,7 +3,7 @@
 /// The call that a process makes next, behind its `fork`.
 #[derive(Clone, Copy)]
 pub enum Next {
-    Bind,
+    Open,
     Exit,
 }
 
@@ -38,6 +38,6 @@ pub enum Who {
 #[derive(Clone, Copy)]
 pub enum Act {
     Fork,
-    Bind,
+    Open,
     Exit,
 }

@@ -54,6 +54,7 @@ module _ (script : Script) (objects : Objects) (vnodes : List (Option Vnode)) (n
       owned = (kept.holds.owned.0, owned_beside (with_procs (procs_of objects) kept.holds.owned.0) kept.holds.owned.1);
     };
     all = kept.all;
+    leaves = kept.leaves;
     owners = record {
       objects = let own = kept.owners.objects in
           (own.0, (let are : AreOwnersOf objects.heap own.0 = own.1 in record { spaces = are.spaces; queues = are.queues }), owned_beside own.0 own.2);

@@ -1,5 +1,5 @@
 -- At boot the first process stands at the start of the program `init`, in a heap that has the root beside it.
-use Rattle.std.proofs.Common.{◌≡◌, ℕ, zero, suc, ◌+◌, ◌-◌, ◌*◌, ◌/◌, ◌<◌, ◌==◌, Bool, true, false, ◌||◌, List, [], ◌∷◌, ◌++◌, map, length, replicate, Option, None, Some, cond, refl, sym, ap, ◌∙◌, subst, arith, inl, inr}
+use Rattle.std.proofs.Common.{◌≡◌, ℕ, zero, suc, ◌+◌, ◌-◌, ◌*◌, ◌/◌, ◌<◌, ◌==◌, Bool, true, false, ◌||◌, List, [], ◌∷◌, ◌++◌, map, length, replicate, Option, None, Some, IsSome, is_some, cond, refl, sym, ap, ◌∙◌, subst, arith, inl, inr}
 use Rattle.std.specs.Prelude.{codes, count_by, if◌then◌else◌, slice_get}
 use Rattle.std.specs.List.{AllByRecursion}
 use Rattle.std.specs.Str.{bytes_eq}
@@ -34,7 +34,7 @@ use Rattle.posix_defs.specs.Memory.{boot_frames}
 use Rattle.posix_defs.specs.Plain.{at_start, boot_plain, control_of, first_process, place_of}
 use Rattle.posix_defs.specs.ValidScript.{IsValid}
 use Rattle.open_laws.specs.Open.{AreOpen, descriptors_by}
-use Rattle.open_laws.specs.Owned.{HasItsOwners, namings_of}
+use Rattle.open_laws.specs.Owned.{HasItsOwners, all_namings}
 use Rattle.open_laws.proofs.GoingLemmas.{boot_open, boot_owners, held_open_on, named_on, open_on}
 use Rattle.open_laws.specs.Placed.{Numbers}
 use Rattle.posix_defs.specs.Account.{no_account}
@@ -58,6 +58,9 @@ use Rattle.proc_files.specs.Names.{AreBound, name_in, name_of}
 use Rattle.proc_table.specs.Procs.{first_proc, numbers_in, proc_of}
 use Rattle.proc_table.specs.Standing.{IsTable}
 use Rattle.proc_table.specs.Table.{no_table, processes}
+use Rattle.kheap_slabs.specs.Leaves.{HoldLeaves}
+use Rattle.proc_table.proofs.NumberLemmas.{none_numbers}
+use Rattle.proc_table.proofs.LeafEnds.{hold_booted, hold_turned}
 use Rattle.proc_table.proofs.LawLemmas.{on-account, on-moves, on-procs, on-table}
 use Rattle.store_objects.specs.declared.objects.Objects.{Objects}
 use Rattle.store_objects.specs.Booting.{HasBooted}
@@ -121,6 +124,7 @@ pub record IsUnopened (heap : ℕ) (h : Heap) : Type 0 where
   pub pipes : h.pipes ≡ (empty_heap heap).pipes
   pub socks : h.socks ≡ (empty_heap heap).socks
   pub chunks : h.chunks ≡ (empty_heap heap).chunks
+  pub leaves : h.leaves ≡ (empty_heap heap).leaves
 
 -- The root is put in an empty heap.
 module _ (heap : ℕ) (inode : Inode) (empty rooted : Heap) (is_empty : empty ≡ empty_heap heap) (root : KeepsRoot inode empty rooted) where
@@ -164,6 +168,7 @@ module _ (heap : ℕ) (inode : Inode) (empty rooted : Heap) (is_empty : empty �
     pipes = same (λ h. h.pipes) (λ h vnodes high. refl);
     socks = same (λ h. h.socks) (λ h vnodes high. refl);
     chunks = same (λ h. h.chunks) (λ h vnodes high. refl);
+    leaves = same (λ h. h.leaves) (λ h vnodes high. refl);
   }
 
   pub rooted_owners : HasItsOwners rooted []
@@ -173,7 +178,7 @@ module _ (heap : ℕ) (inode : Inode) (empty rooted : Heap) (is_empty : empty �
       record {
         objects = OwnsItsObjects-along (empty_heap heap) rooted (ap spaces_of procs) (ap pipe_queues rooted_bare.pipes) (ap sock_queues rooted_bare.socks)
             (same (λ h. h.nodes) (λ h vnodes high. refl)) (same (λ h. h.pages) (λ h vnodes high. refl)) rooted_bare.chunks boots.objects;
-        named = named_on (empty_heap heap) rooted [] rooted_bare.descs (λ key. ap (λ objects. namings_of objects key) procs) boots.named;
+        named = named_on (empty_heap heap) rooted [] rooted_bare.descs (λ key. same (λ h. all_namings h key) (λ h vnodes high. refl)) boots.named;
         held = held_open_on (empty_heap heap) rooted rooted_bare.descs rooted_bare.pipes rooted_bare.socks rooted_bare.chunks boots.held;
       }
 
@@ -254,17 +259,44 @@ module _ (heap disk : ℕ) (control : Control) (rooted : Heap) (fs : TreeView) (
   first_names : (key : ℕ) → names_in key (procs_of mid) ≡ 0
   first_names key = ap (names_in key) procs
 
-  nobody : AreListed rooted no_table
-  nobody = record { stored = tt; rising = omega arith; all = no_procs }
+  no_leaf : (key : ℕ) → object rooted.leaves key ≡ None
+  no_leaf key = ap (λ leaves. object leaves key) bare.leaves ∙ vacant (heap / size class.Leaf) key
 
-  none_in_hand : (key : ℕ) → count_by (λ (other : ℕ). other == key) [] ≡ 0
-  none_in_hand key = refl
+  nobody : AreListed (record rooted { leaves = rooted.leaves }) no_table
+  nobody = record {
+    stored = tt;
+    rising = omega arith;
+    all = no_procs;
+    leaves = record {
+      keys = record {
+        used = λ key there. absurd (omega (arith, there.1));
+        listed = λ key used. absurd (none_used (object rooted.leaves key) (no_leaf key) used);
+        once = λ i j less within. absurd (omega (arith, within));
+      };
+      filled = λ key leaf is. absurd (none_used (object rooted.leaves key) (no_leaf key) (ap is_some is));
+    };
+  }
+    where
+      none_used : {X : Type 0} (o : Option X) → o ≡ None → IsSome o → ⊥
+      none_used None none some = cc
+      none_used (Some x) none some = cc
+
+  -- the first process has no Leaf
+  leaves_first : HoldLeaves mid.heap.leaves (procs_of mid)
+  leaves_first =
+      subst (HoldLeaves mid.heap.leaves) (sym procs)
+      (subst (λ leaves. HoldLeaves leaves (first_proc ∷ [])) (sym (ap (λ (h : Heap). h.leaves) made.kept ∙ bare.leaves)) (hold_booted heap))
 
   has_first : AreListed mid.heap mid.procs
-  has_first = listed_on rooted mid.heap no_table mid.procs nobody made
+  has_first = listed_on rooted mid.heap no_table mid.procs no_procs leaves_first made
 
   first_owners : HasItsOwners mid.heap []
-  first_owners = owners_on rooted mid.heap no_table mid.procs [] nobody made owners (λ key. let first = first_names key in let hand = none_in_hand key in omega (arith, first, hand))
+  first_owners = owners_on rooted mid.heap no_table mid.procs nobody leaves_first made owners (λ key. first_names key)
+
+  leaves_now : HoldLeaves new.heap.leaves (procs_of new)
+  leaves_now =
+      subst (λ (view : TableView). HoldLeaves new.heap.leaves (processes new.heap view)) (sym turned.same)
+      (hold_turned mid.heap new.heap mid.procs 1 turned.key turned.proc now made.holds turned.turns leaves_first)
 
   unopened : IsUnopened heap new.heap
   unopened = record {
@@ -272,6 +304,7 @@ module _ (heap disk : ℕ) (control : Control) (rooted : Heap) (fs : TreeView) (
     pipes = as_was (λ h. h.pipes) (λ h procs nodes pages high. refl) ∙ bare.pipes;
     socks = as_was (λ h. h.socks) (λ h procs nodes pages high. refl) ∙ bare.socks;
     chunks = as_was (λ h. h.chunks) (λ h procs nodes pages high. refl) ∙ bare.chunks;
+    leaves = as_was (λ h. h.leaves) (λ h procs nodes pages high. refl) ∙ bare.leaves;
   }
 
   same_tree : new.tree ≡ fs
@@ -289,8 +322,9 @@ module _ (heap disk : ℕ) (control : Control) (rooted : Heap) (fs : TreeView) (
   has_booted = record {
     holds = goes.holds;
     all = all_on mid.heap new.heap mid.procs new.procs has_first.all goes;
-    owners = owners_on mid.heap new.heap mid.procs new.procs [] has_first goes first_owners
-        (λ key. let now : names_in key (procs_of new) ≡ 0 = ap (names_in key) first in let was = first_names key in let hand = none_in_hand key in omega (arith, now, was, hand));
+    leaves = leaves_now;
+    owners = owners_on mid.heap new.heap mid.procs new.procs (record { stored = has_first.stored; rising = has_first.rising; all = has_first.all; leaves = has_first.leaves }) leaves_now goes first_owners
+        (λ key. let now : names_in key (procs_of new) ≡ 0 = ap (names_in key) first in let was = first_names key in omega (arith, now, was));
     opened = λ numbers files none. open_on numbers (empty_heap heap) new.heap [] files files unopened.descs unopened.pipes unopened.socks unopened.chunks refl refl refl
         (boot_open numbers heap files none);
     stands = subst (λ (t : TreeView). TreeStands new.heap t (new_tree disk) root_alone) (sym same_tree) (stands_on rooted new.heap fs (new_tree disk) root_alone caches stands);
@@ -374,6 +408,7 @@ pub boot_kept : (script : Script) (objects : Objects) (control : Control) → Ha
 boot_kept script objects control booted stands rests = record {
   holds = booted.holds;
   all = booted.all;
+  leaves = booted.leaves;
   owners = booted.owners;
   groups = subst (AllByRecursion (λ proc. length proc.nodes ≡ 4)) (sym booted.first) (refl, tt);
   calls = subst (AreAtCalls script) (sym booted.first) ((λ up. record { stands = stands; rests = rests }), tt);
@@ -411,7 +446,7 @@ boot_opens script objects control booted = record {
         bare = boot_bare script.disk
 
         by_hit : (hit : Bool) → descriptors_by boot_numbers.descs (places_in (numbers_in objects.heap) (cond hit (Some (record first_proc { control = control })) None)) ≡ none_open
-        by_hit true = none_by boot_numbers.descs
+        by_hit true = ap (descriptors_by boot_numbers.descs) (none_numbers objects.heap (record first_proc { control = control }) (refl, refl)) ∙ none_by boot_numbers.descs
         by_hit false = none_by boot_numbers.descs
 
 boot_controls : (script : Script) (control : Control) → settled script (at_start (place_of (codes "init") script.programs)) ≡ control

@@ -22,6 +22,7 @@ pub kept_turned : (script : Script) (old new : Objects) â†’ AreKept script old â
 kept_turned script old new kept moves = record {
   holds = moves.holds;
   all = moves.all;
+  leaves = moves.leaves;
   owners = moves.owners;
   groups = groups_stay old new moves.procs moves.holds kept.groups;
   calls = calls_stay script old new moves.procs moves.holds kept.calls;

@@ -20,6 +20,8 @@ use Rattle.proc_table.specs.Changes.{replaced}
 use Rattle.proc_table.specs.Moves.{TableMoves}
 use Rattle.proc_numbers.specs.Having.{HaveDescriptors}
 use Rattle.proc_table.specs.Procs.{numbers_in, proc_of}
+use Rattle.kheap_slabs.specs.Leaves.{HoldLeaves}
+use Rattle.proc_table.proofs.LeafEnds.{hold_turned}
 use Rattle.proc_table.proofs.OpenLemmas.{have_turned}
 use Rattle.proc_table.specs.Accounting.{HasAccount}
 use Rattle.proc_table.specs.Standing.{IsTable}
@@ -123,6 +125,8 @@ module _ (script : Script) (old new : Objects) (pid : ℕ) (change : Proc → Pr
   pub kept_changed : (became.status ≡ None → IsAtCall script became) → AreKept script new
   kept_changed at =
       kept_on script old new kept changes.tree changes.names moves_changed
+      (subst (λ (view : TableView). HoldLeaves new.heap.leaves (processes new.heap view)) (sym changes.same)
+      (hold_turned old.heap new.heap old.procs pid changes.key changes.proc became kept.holds changes.turns kept.leaves))
       (subst (AllByRecursion (λ proc. length proc.nodes ≡ 4)) (sym procs_changed)
       (all_replaced (λ proc. length proc.nodes ≡ 4) (procs_of old) pid became kept.groups
       (subst (λ nodes. length nodes ≡ 4) (sym (ap (λ proc. proc.nodes) changes.turns.same))

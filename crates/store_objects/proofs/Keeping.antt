@@ -3,6 +3,9 @@ use Rattle.std.proofs.Common.{◌≡◌, ℕ, ◌+◌, ◌<◌, ◌==◌, List, 
 use Rattle.std.specs.Prelude.{count_by}
 use Rattle.std.specs.List.{AllByRecursion, Contains}
 use Rattle.kabi_types.specs.declared.scripts.Script.{Script}
+use Rattle.kheap_slabs.specs.Leaves.{HoldLeaves}
+use Rattle.kheap_slabs.specs.declared.objects.Leaf.{Leaf}
+use Rattle.kheap_laws.proofs.TableLemmas.{OwnsItsObjects-along}
 use Rattle.kheap_slabs.specs.Objects.{InUse, object}
 use Rattle.kheap_slabs.specs.declared.objects.Proc.{Proc}
 use Rattle.kheap_slabs.specs.declared.objects.Sock.{Sock}
@@ -11,7 +14,7 @@ use Rattle.kheap_slabs.specs.Keys.{AreKeysOf, IsOnce}
 use Rattle.kheap_slabs.specs.Owners.{pipe_queues, sock_queues}
 use Rattle.kheap_laws.proofs.KeyLemmas.{AreKeysOf-changes}
 use Rattle.kheap_laws.proofs.OnceLemmas.{IsOnce-cons}
-use Rattle.open_laws.specs.Owned.{HasItsOwners, desc_count_at, namings_of}
+use Rattle.open_laws.specs.Owned.{CountsItsNames, HasItsOwners, IsHeldOpen, all_namings, desc_count_at, leaf_namings_of}
 use Rattle.open_laws.proofs.GoingLemmas.{held_open_on}
 use Rattle.proc_numbers.specs.Having.{AreListed}
 use Rattle.proc_files.specs.Names.{AreBound, name_of}
@@ -61,45 +64,50 @@ all_on old new was now all moves =
     (λ key there. keys_used new.procs now.listed key moves.holds.stored there)
     (keys_once new.procs now.listed 0 now.last moves.holds.stored moves.holds.rising))
 
-pub listed_on : (old new : Heap) (was now : TableView) → AreListed old was → TableMoves old was new now → AreListed new now
-listed_on old new was now listed moves =
-    record { stored = moves.holds.stored; rising = moves.holds.rising; all = all_on old new was now listed.all moves }
+pub listed_on : (old new : Heap) (was now : TableView) → AreKeysOf old.procs (keys_of was.listed) → HoldLeaves new.leaves (processes new now) → TableMoves old was new now → AreListed new now
+listed_on old new was now all leaves moves =
+    record { stored = moves.holds.stored; rising = moves.holds.rising; all = all_on old new was now all moves; leaves = leaves }
 
 -- the processes of a store are all in its table
 pub listed_in : (script : Script) (objects : Objects) → AreKept script objects → AreListed objects.heap objects.procs
-listed_in script objects kept = record { stored = kept.holds.stored; rising = kept.holds.rising; all = kept.all }
+listed_in script objects kept = record { stored = kept.holds.stored; rising = kept.holds.rising; all = kept.all; leaves = kept.leaves }
 
--- All has its owner where a table moves on whose processes name as many Descs as before, with those that were in hand.
-pub owners_on : (old new : Heap) (was now : TableView) (hand : List ℕ) → AreListed old was → TableMoves old was new now → HasItsOwners old hand
-    → ((key : ℕ) → names_in key (processes new now) ≡ names_in key (processes old was) + count_by (λ other. other == key) hand) → HasItsOwners new []
-owners_on old new was now hand listed moves owners names = record {
-  objects = by_key new now (listed_on old new was now listed moves) (record {
+-- All has its owner where a table moves on, with these namings of Descs. Leaves that came for a process that is being made are its own
+-- then; before, they were no process's.
+pub owners_so : (old new : Heap) (was now : TableView) (without : List (Option Leaf)) → AreListed (record old { leaves = without }) was → HoldLeaves new.leaves (processes new now) → TableMoves old was new now
+    → OwnsItsObjects old → IsHeldOpen old → CountsItsNames new [] → HasItsOwners new []
+owners_so old new was now without listed leaves moves objects held named = record {
+  objects = by_key new now (listed_on old new was now listed.all leaves moves) (record {
     queues = by.queues;
     are = by.are ∙ sym (ap (λ (h : Heap). pipe_queues h.pipes ++ sock_queues h.socks) moves.kept);
-    owned = moves.owners (record { spaces = []; queues = by.queues }) by.owned;
+    owned = moves.owners (record { spaces = []; queues = by.queues })
+        (let own = by.owned in record { nodes = own.nodes; mapped = own.mapped; pages = own.pages; chunks = own.chunks; queues = own.queues });
   });
-  named = record {
-    counts = counts;
-    named = λ key used. subst (λ descs. 0 < desc_count_at descs key) (sym same) (owners.named.named key (subst (λ descs. InUse descs key) same used));
-  };
-  held = held_open_on old new same (ap (λ (h : Heap). h.pipes) moves.kept) (ap (λ (h : Heap). h.socks) moves.kept) (ap (λ (h : Heap). h.chunks) moves.kept) owners.held;
+  named = named;
+  held = held_open_on old new (ap (λ (h : Heap). h.descs) moves.kept) (ap (λ (h : Heap). h.pipes) moves.kept) (ap (λ (h : Heap). h.socks) moves.kept) (ap (λ (h : Heap). h.chunks) moves.kept) held;
 }
   where
-    by : OwnedByPid old was
-    by = by_pid old was listed owners.objects
+    by : OwnedByPid (record old { leaves = without }) was
+    by = by_pid (record old { leaves = without }) was listed (OwnsItsObjects-along old (record old { leaves = without }) refl refl refl refl refl refl objects)
 
+-- Where the processes name as many Descs as before, and the Leaves are the same.
+pub owners_on : (old new : Heap) (was now : TableView) → AreListed (record old { leaves = old.leaves }) was → HoldLeaves new.leaves (processes new now) → TableMoves old was new now
+    → HasItsOwners old [] → ((key : ℕ) → names_in key (processes new now) ≡ names_in key (processes old was)) → HasItsOwners new []
+owners_on old new was now listed leaves moves owners names =
+    owners_so old new was now old.leaves listed leaves moves owners.objects owners.held (record {
+      counts = λ key.
+          let count = ap (λ descs. desc_count_at descs key) same in
+          let before = owners.named.counts key in
+          let were = namings_are (record old { leaves = old.leaves }) was key listed in
+          let are = namings_are new now key (listed_on old new was now listed.all leaves moves) in
+          let in_leaves = ap (λ (h : Heap). leaf_namings_of h.leaves key) moves.kept in
+          let as_many = names key in
+          omega (arith, count, before, were, are, in_leaves, as_many);
+      named = λ key used. subst (λ descs. 0 < desc_count_at descs key) (sym same) (owners.named.named key (subst (λ descs. InUse descs key) same used));
+    })
+  where
     same : new.descs ≡ old.descs
     same = ap (λ (h : Heap). h.descs) moves.kept
-
-    counts : (key : ℕ) → desc_count_at new.descs key ≡ namings_of new.procs key + count_by (λ other. other == key) []
-    counts key =
-        let count = ap (λ descs. desc_count_at descs key) same in
-        let before = owners.named.counts key in
-        let were = namings_are old was key listed in
-        let are = namings_are new now key (listed_on old new was now listed moves) in
-        let as_many = names key in
-        let nothing : count_by (λ (other : ℕ). other == key) [] ≡ 0 = refl in
-        omega (arith, count, before, were, are, as_many, nothing)
 
 -- a table that moves on leaves what caches have in the heap
 pub moved_caches : (old new : Heap) (was now : TableView) → TableMoves old was new now → CachesStay old new
@@ -110,35 +118,35 @@ moved_caches old new was now moves = record {
   size = ap (λ (h : Heap). h.heap) moves.kept;
 }
 
--- What is kept of a heap, a table, a tree of files and a table of names, with some Descs named in hand.
-pub record KeepsHeap (script : Script) (h : Heap) (kept : TableView) (fs : TreeView) (names : List (Option ℕ)) (hand : List ℕ) : Type 0 where
-  pub listed : AreListed h kept
-  pub owners : HasItsOwners h hand
+-- What is kept of a heap, a table, a tree of files and a table of names, but for what is open. Some Leaves may have come that no process
+-- has yet.
+pub record KeepsHeap (script : Script) (h : Heap) (kept : TableView) (fs : TreeView) (names : List (Option ℕ)) : Type 0 where
+  pub without : List (Option Leaf)
+  pub listed : AreListed (record h { leaves = without }) kept
   pub bound : AreBound (name_of h.socks) names
   pub places : most_nodes < length names
   pub caches : KeepsTree h fs
   pub size : h.heap ≡ script.heap
 
-pub keeps_heap : (script : Script) (objects : Objects) → AreKept script objects → KeepsHeap script objects.heap objects.procs objects.tree objects.names []
+pub keeps_heap : (script : Script) (objects : Objects) → AreKept script objects → KeepsHeap script objects.heap objects.procs objects.tree objects.names
 keeps_heap script objects kept = record {
-  listed = listed_in script objects kept;
-  owners = kept.owners;
+  without = objects.heap.leaves;
+  listed = record { stored = kept.holds.stored; rising = kept.holds.rising; all = kept.all; leaves = kept.leaves };
   bound = kept.bound;
   places = kept.places;
   caches = kept.caches;
   size = kept.size;
 }
 
--- The objects are kept where a table moves on, each process has four groups and stands at its call, and all Descs that were in
--- hand are named by one.
-pub kept_with : (script : Script) (old : Heap) (was : TableView) (fs : TreeView) (names : List (Option ℕ)) (new : Objects) (hand : List ℕ) → KeepsHeap script old was fs names hand → new.tree ≡ fs → new.names ≡ names
-    → TableMoves old was new.heap new.procs
-    → AllByRecursion (λ proc. length proc.nodes ≡ 4) (procs_of new) → AreAtCalls script (procs_of new)
-    → ((key : ℕ) → names_in key (procs_of new) ≡ names_in key (processes old was) + count_by (λ other. other == key) hand) → AreKept script new
-kept_with script old was fs table new hand keeps tree same moves groups calls names = record {
+-- The objects are kept where a table moves on, each process has four groups and stands at its call, and all has its owner.
+pub kept_with : (script : Script) (old : Heap) (was : TableView) (fs : TreeView) (names : List (Option ℕ)) (new : Objects) → KeepsHeap script old was fs names → new.tree ≡ fs → new.names ≡ names
+    → TableMoves old was new.heap new.procs → HoldLeaves new.heap.leaves (procs_of new) → HasItsOwners new.heap []
+    → AllByRecursion (λ proc. length proc.nodes ≡ 4) (procs_of new) → AreAtCalls script (procs_of new) → AreKept script new
+kept_with script old was fs table new keeps tree same moves leaves owners groups calls = record {
   holds = moves.holds;
   all = all_on old new.heap was new.procs keeps.listed.all moves;
-  owners = owners_on old new.heap was new.procs hand keeps.listed moves keeps.owners names;
+  leaves = leaves;
+  owners = owners;
   groups = groups;
   calls = calls;
   bound = subst (λ (list : List (Option ℕ)). AreBound (name_of new.heap.socks) list) (sym same)
@@ -149,8 +157,9 @@ kept_with script old was fs table new hand keeps tree same moves groups calls na
 }
 
 pub kept_on : (script : Script) (old new : Objects) → AreKept script old → new.tree ≡ old.tree → new.names ≡ old.names → TableMoves old.heap old.procs new.heap new.procs
-    → AllByRecursion (λ proc. length proc.nodes ≡ 4) (procs_of new) → AreAtCalls script (procs_of new)
+    → HoldLeaves new.heap.leaves (procs_of new) → AllByRecursion (λ proc. length proc.nodes ≡ 4) (procs_of new) → AreAtCalls script (procs_of new)
     → ((key : ℕ) → names_in key (procs_of new) ≡ names_in key (procs_of old)) → AreKept script new
-kept_on script old new kept tree same moves groups calls names =
-    kept_with script old.heap old.procs old.tree old.names new [] (keeps_heap script old kept) tree same moves groups calls
-    (λ key. let same = names key in let nothing : count_by (λ (other : ℕ). other == key) [] ≡ 0 = refl in omega (arith, same, nothing))
+kept_on script old new kept tree same moves leaves groups calls names =
+    let keeps = keeps_heap script old kept in
+    kept_with script old.heap old.procs old.tree old.names new keeps tree same moves leaves
+    (owners_on old.heap new.heap old.procs new.procs keeps.listed leaves moves kept.owners names) groups calls

@@ -11,6 +11,7 @@ pub mod WorkPlaces
 pub mod Pinning
 pub mod WorkingOn
 pub mod PidSums
+pub mod LeafCounts
 pub mod LiveIs
 pub mod FewPins
 pub mod HoldsFiles

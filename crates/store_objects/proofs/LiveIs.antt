@@ -32,7 +32,7 @@ use Rattle.page_space.proofs.FrameCounts.{frames_are_pages}
 use Rattle.page_space.proofs.NodeCounts.{count_of_keys, nodes_by_places}
 use Rattle.posix_defs.specs.Memory.{Frames, frames_named, no_places, nodes_in, nodes_named, places_of}
 use Rattle.posix_defs.specs.Process.{how_many}
-use Rattle.posix_defs.specs.Account.{Account, chunks_taken, pipe_lengths, socket_lengths, unread_in_pipe, unread_in_socket}
+use Rattle.posix_defs.specs.Account.{Account, chunks_taken, leaves_open, pipe_lengths, socket_lengths, unread_in_pipe, unread_in_socket}
 use Rattle.posix_defs.specs.Files.Descriptions.{Description}
 use Rattle.posix_defs.specs.Files.State.{Files}
 use Rattle.posix_defs.specs.Pipe.{Pipe}
@@ -55,6 +55,7 @@ use Rattle.store_objects.specs.Trees.{pins_in}
 use Rattle.store_objects.proofs.Keeping.{listed_in}
 use Rattle.store_objects.proofs.KeptNow.{as_many_blocks, as_many_names, as_many_vnodes}
 use Rattle.store_objects.proofs.Peeling.{by_pid}
+use Rattle.store_objects.proofs.LeafCounts.{leaves_are}
 use Rattle.store_objects.proofs.PidSums.{length-node_keys, sum_by_pids, value}
 use Rattle.store_objects.proofs.PlacedSums.{sum_from, sum_placed, sum_ranged, sum_there}
 use Rattle.store_objects.proofs.SocketPlaces.{sock_there, socks_placed}
@@ -87,7 +88,7 @@ nodes_all script objects frames kept whole has =
     (pids_within objects.heap.procs objects.procs.listed 0 objects.procs.last kept.holds.stored kept.holds.rising) in
     let by = by_pid objects.heap objects.procs (listed_in script objects kept) kept.owners.objects in
     count_of_keys objects.heap.nodes _ by.owned.nodes ∙ length-node_keys procs
-    ∙ sym (sum_by_pids nodes_in (λ proc. length (keys_in proc.nodes)) frames.places 0 procs
+    ∙ sym (sum_by_pids nodes_in (λ proc. length (keys_in proc.nodes)) no_places frames.places 0 procs
     (rising_procs objects.heap.procs objects.procs.listed 0 objects.procs.last kept.holds.stored kept.holds.rising) within
     (λ i less. nodes_of_pid script objects frames kept whole has (suc i) (proc_of procs (suc i)) refl
     ∙ ap (λ k. value (λ proc. length (keys_in proc.nodes)) (proc_of procs k)) (let k : suc i ≡ 0 + 1 + i = omega arith in k)))
@@ -246,12 +247,13 @@ live_is script objects world stands whole =
     let pipes : count objects.heap.pipes ≡ count_by is_some files.pipes = pipes_are stands.files.numbers objects.heap files opened.piped in
     let chunks = chunks_are stands.files.numbers objects.heap stands.files.opened.list files world.account kept.owners.objects opened stands.files.fronts in
     let socks : count objects.heap.socks ≡ count_by is_some files.sockets = socks_are stands.files.numbers objects.heap files opened.socketed in
+    let leaves : count objects.heap.leaves ≡ leaves_open files = leaves_are stands.files.numbers objects.heap objects.procs files whole (listed_in script objects kept) stands.files.opened.descriptors in
     sum_is (counts_of objects.heap)
-    (how_many world.plain.table) (nodes_named world.account.frames) (frames_named world.account.frames) (count_by is_some files.descriptions) (count_by is_some files.pipes) (count_by is_some files.sockets)
+    (how_many world.plain.table) (nodes_named world.account.frames) (frames_named world.account.frames) (count_by is_some files.descriptions) (count_by is_some files.pipes) (count_by is_some files.sockets) (leaves_open files)
     (chunks_taken (pipe_lengths files) world.account.pipes) (chunks_taken (socket_lengths files) world.account.sockets) (length world.kept.vnodes) (length world.kept.names) (length world.kept.blocks)
-    procs nodes pages descs vnodes names blocks pipes chunks socks
+    procs nodes pages descs vnodes names blocks pipes chunks socks leaves
   where
-    sum_is : (n : Need) (procs nodes pages descs pipes socks in_pipes in_socks vnodes names blocks : ℕ) → n.proc ≡ procs → n.node ≡ nodes → n.page ≡ pages → n.desc ≡ descs → n.vnode ≡ vnodes → n.name ≡ names
-        → n.block ≡ blocks → n.pipe ≡ pipes → n.chunk ≡ in_pipes + in_socks → n.sock ≡ socks
-        → need_bytes n ≡ procs * 512 + nodes * 512 + pages * 4096 + (descs * 64 + pipes * 128 + socks * 128 + (in_pipes + in_socks) * 576) + (names * 64 + blocks * 1088 + vnodes * 128)
-    sum_is n procs nodes pages descs pipes socks in_pipes in_socks vnodes names blocks e1 e2 e3 e4 e5 e6 e7 e8 e9 e10 = omega arith
+    sum_is : (n : Need) (procs nodes pages descs pipes socks leaves in_pipes in_socks vnodes names blocks : ℕ) → n.proc ≡ procs → n.node ≡ nodes → n.page ≡ pages → n.desc ≡ descs → n.vnode ≡ vnodes → n.name ≡ names
+        → n.block ≡ blocks → n.pipe ≡ pipes → n.chunk ≡ in_pipes + in_socks → n.sock ≡ socks → n.leaf ≡ leaves
+        → need_bytes n ≡ procs * 512 + nodes * 512 + pages * 4096 + (leaves * 256 + descs * 64 + pipes * 128 + socks * 128 + (in_pipes + in_socks) * 576) + (names * 64 + blocks * 1088 + vnodes * 128)
+    sum_is n procs nodes pages descs pipes socks leaves in_pipes in_socks vnodes names blocks e1 e2 e3 e4 e5 e6 e7 e8 e9 e10 e11 = omega arith

@@ -6,11 +6,12 @@ use Rattle.std.proofs.lemmas.List.Sums.{sum_by-append, sum_by-cons}
 use Rattle.kheap_slabs.specs.declared.objects.Descriptor.{Descriptor}
 use Rattle.kheap_slabs.specs.declared.objects.Proc.{Proc}
 use Rattle.kheap_slabs.specs.Heap.{Heap}
+use Rattle.kheap_slabs.specs.Leaves.{no_row}
 use Rattle.open_laws.specs.Owned.{names_desc, namings_in, namings_of}
 use Rattle.open_laws.specs.Sharing.{hand_with}
 use Rattle.proc_numbers.specs.Having.{AreListed}
 use Rattle.proc_table.specs.Changes.{after_wait, child_proc, cleared, ended, is_alone, is_other, left_behind, left_by, left_child, reaped_of, replaced, with_nodes}
-use Rattle.proc_table.specs.Procs.{HasClosed, HasNoneOpenOnce, IsLight, no_descriptors, no_nodes}
+use Rattle.proc_table.specs.Procs.{HasClosed, HasNoneOpenOnce, IsLight, OpensNone, no_nodes}
 use Rattle.proc_table.specs.Table.{Holds, TableView, processes}
 use Rattle.proc_table.specs.declared.reaped.Reaped.{Reaped}
 use Rattle.proc_table.specs.declared.reaped.Reaped.TheVariants.{NoChild, Nobody, Took}
@@ -32,12 +33,12 @@ names_by key proc = count_by (names_desc key) proc.descriptors
 abbrev pub names_in : ℕ → List Proc → ℕ
 names_in key procs = sum_by (names_by key) procs
 
--- of all in the heap as many as of all in the table
+-- of all Procs in the heap as many as of all in the table; those of Leaves are counted apart
 pub namings_are : (h : Heap) (kept : TableView) (key : ℕ) → AreListed h kept → namings_of h.procs key ≡ names_in key (processes h kept)
 namings_are h kept key listed = sum_listed (namings_in key) refl h.procs kept.listed 0 kept.last listed.stored listed.rising listed.all
 
 module _ (key : ℕ) where
-  none_named : (descriptors : List (Option Descriptor)) → descriptors ≡ no_descriptors → count_by (names_desc key) descriptors ≡ 0
+  none_named : (descriptors : List (Option Descriptor)) → descriptors ≡ no_row → count_by (names_desc key) descriptors ≡ 0
   none_named descriptors none = ap (count_by (names_desc key)) none
 
   abbrev names_of : Option Proc → ℕ
@@ -96,22 +97,22 @@ module _ (key : ℕ) where
       by_pid : (b : Bool) → (proc.pid == pid) ≡ b → names_in key (filter (is_other pid) procs) ≡ names_in key procs
           → names_in key (proc ∷ procs) ≡ names_by key proc + names_in key procs
           → names_in key (cond (not b) (proc ∷ filter (is_other pid) procs) (filter (is_other pid) procs)) ≡ names_in key (proc ∷ procs)
-      by_pid true own rest whole = let none = none_named proc.descriptors (closed.0 (eqb_is proc.pid pid own)) in omega (arith, none, rest, whole)
+      by_pid true own rest whole = let none = none_named proc.descriptors (closed.0 (eqb_is proc.pid pid own)).0 in omega (arith, none, rest, whole)
       by_pid false own rest whole = let now = sum_by-cons (names_by key) proc (filter (is_other pid) procs) in omega (arith, now, rest, whole)
 
   -- ---- one ends that has nothing open
 
-  left_one : (pid status : ℕ) (proc : Proc) → HasNoneOpenOnce proc.status proc.descriptors → names_of (left_behind pid status proc) ≡ names_by key proc
+  left_one : (pid status : ℕ) (proc : Proc) → HasNoneOpenOnce proc.status proc.descriptors proc.leaves → names_of (left_behind pid status proc) ≡ names_by key proc
   left_one pid status proc over = by_case (proc.pid == pid) (proc.parent == pid) proc.status over
     where
-      by_case : (own its : Bool) (told : Option ℕ) → HasNoneOpenOnce told proc.descriptors
+      by_case : (own its : Bool) (told : Option ℕ) → HasNoneOpenOnce told proc.descriptors proc.leaves
           → names_of (cond own (Some (record proc { status = Some status })) (cond its (left_child told proc) (Some proc))) ≡ names_by key proc
       by_case true its told light = refl
       by_case false true None light = refl
-      by_case false true (Some at) light = sym (none_named proc.descriptors light)
+      by_case false true (Some at) light = sym (none_named proc.descriptors light.0)
       by_case false false told light = refl
 
-  left_cleared : (pid status : ℕ) (proc : Proc) → HasNoneOpenOnce proc.status proc.descriptors → names_of (left_behind pid status (cleared pid proc)) ≡ names_by key proc
+  left_cleared : (pid status : ℕ) (proc : Proc) → HasNoneOpenOnce proc.status proc.descriptors proc.leaves → names_of (left_behind pid status (cleared pid proc)) ≡ names_by key proc
   left_cleared pid status proc over = by_pid (proc.pid == pid)
     where
       by_pid : (b : Bool) → names_of (left_behind pid status (cond b (record proc { nodes = no_nodes }) proc)) ≡ names_by key proc
@@ -133,7 +134,7 @@ module _ (key : ℕ) where
   closed_left pid status [] closed = tt
   closed_left pid status (proc ∷ procs) closed = by_clearing (proc.pid == pid) (closed_left pid status procs closed.1)
     where
-      behind : (now : Proc) (own its : Bool) (told : Option ℕ) → (now.pid ≡ pid → now.descriptors ≡ no_descriptors) → HasClosed (left_by pid status procs) pid
+      behind : (now : Proc) (own its : Bool) (told : Option ℕ) → (now.pid ≡ pid → OpensNone now) → HasClosed (left_by pid status procs) pid
           → HasClosed (cons_option (cond own (Some (record now { status = Some status })) (cond its (left_child told now) (Some now))) (left_by pid status procs)) pid
       behind now true its told here rest = (here, rest)
       behind now false true None here rest = (here, rest)
@@ -170,11 +171,11 @@ module _ (key : ℕ) where
 
   -- ---- a child has what its parent has
 
-  pub names_forked : (parent : Proc) (child : ℕ) (nodes : List (Option ℕ)) (procs : List Proc)
-      → names_in key (procs ++ child_proc parent child nodes ∷ []) ≡ names_in key procs + names_by key parent
-  names_forked parent child nodes procs =
-      let both = sum_by-append (names_by key) procs (child_proc parent child nodes ∷ []) in
-      let one = sum_by-cons (names_by key) (child_proc parent child nodes) [] in
+  pub names_forked : (parent : Proc) (child : ℕ) (nodes leaves : List (Option ℕ)) (procs : List Proc)
+      → names_in key (procs ++ child_proc parent child nodes leaves ∷ []) ≡ names_in key procs + names_by key parent
+  names_forked parent child nodes leaves procs =
+      let both = sum_by-append (names_by key) procs (child_proc parent child nodes leaves ∷ []) in
+      let one = sum_by-cons (names_by key) (child_proc parent child nodes leaves) [] in
       let none : names_in key [] ≡ 0 = refl in
       omega (arith, both, one, none)
 

@@ -5,7 +5,6 @@ use Rattle.std.specs.Option.{option_map}
 use Rattle.std.specs.Prelude.{unwrap_or}
 use Rattle.kabi_types.specs.declared.scripts.Control.{Control}
 use Rattle.kabi_types.specs.declared.scripts.Script.{Script}
-use Rattle.kheap_slabs.specs.declared.objects.Descriptor.{Descriptor}
 use Rattle.kheap_slabs.specs.declared.objects.Proc.{Proc}
 use Rattle.posix_defs.specs.ByPid.{at_pid}
 use Rattle.posix_defs.specs.Control.{settled}
@@ -30,31 +29,31 @@ use Rattle.store_objects.specs.OpenWorlds.{HasReached}
 
 -- who is there was there, with other descriptors maybe
 pub was_there : (old new : Objects) (pid : ℕ) (proc : Proc) → (stay : ProcsStay old new) → proc_of (procs_of new) pid ≡ Some proc
-    → (was : Proc) × (proc_of (procs_of old) pid ≡ Some was) × (proc ≡ opening proc.descriptors was)
+    → (was : Proc) × (proc_of (procs_of old) pid ≡ Some was) × (proc ≡ opening proc was)
 was_there old new pid proc stay is =
     let one = stay.each pid in
     let it = mapped_from (opening one.0) (proc_of (procs_of old) pid) proc (sym one.1 ∙ is) in
-    (it.0, it.1, it.2 ∙ ap (λ (p : Proc). opening p.descriptors it.0) (sym it.2))
+    (it.0, it.1, it.2 ∙ ap (λ (p : Proc). opening p it.0) (sym it.2))
 
 -- what all had whatever their descriptors, all have
 pub all_stay : (P : Proc → Type 0) (old new : Objects) → ProcsStay old new → Holds new.heap new.procs → AllByRecursion P (procs_of old)
-    → ((proc : Proc) (places : List (Option Descriptor)) → P proc → P (opening places proc)) → AllByRecursion P (procs_of new)
+    → ((proc now : Proc) → P proc → P (opening now proc)) → AllByRecursion P (procs_of new)
 all_stay P old new stay holds all lasts =
     all_found P (procs_of new) 0 (rising_procs new.heap.procs new.procs.listed 0 new.procs.last holds.stored holds.rising)
     (λ pid proc above is.
     let it = was_there old new pid proc stay is in
-    subst P (sym it.2) (lasts it.0 proc.descriptors (has_it P (procs_of old) pid it.0 all it.1)))
+    subst P (sym it.2) (lasts it.0 proc (has_it P (procs_of old) pid it.0 all it.1)))
 
 -- each has four groups of pages
 pub groups_stay : (old new : Objects) → ProcsStay old new → Holds new.heap new.procs → AllByRecursion (λ proc. length proc.nodes ≡ 4) (procs_of old)
     → AllByRecursion (λ proc. length proc.nodes ≡ 4) (procs_of new)
-groups_stay old new stay holds groups = all_stay (λ proc. length proc.nodes ≡ 4) old new stay holds groups (λ proc places four. four)
+groups_stay old new stay holds groups = all_stay (λ proc. length proc.nodes ≡ 4) old new stay holds groups (λ proc now four. four)
 
 -- and stands at its call
 pub calls_stay : (script : Script) (old new : Objects) → ProcsStay old new → Holds new.heap new.procs → AreAtCalls script (procs_of old) → AreAtCalls script (procs_of new)
 calls_stay script old new stay holds calls =
     all_stay (λ proc. proc.status ≡ None → IsAtCall script proc) old new stay holds calls
-    (λ proc places at up. let here : IsAtCall script proc = at up in record { stands = here.stands; rests = here.rests })
+    (λ proc now at up. let here : IsAtCall script proc = at up in record { stands = here.stands; rests = here.rests })
 
 -- who ran runs, where he stood
 pub runs_stay : (old new : Objects) (pid : ℕ) (control : Control) → ProcsStay old new → Runs old pid control → Runs new pid control
@@ -86,6 +85,7 @@ pub kept_opened : (script : Script) (old new : Objects) → AreKept script old �
 kept_opened script old new kept moves = record {
   holds = moves.holds;
   all = moves.all;
+  leaves = moves.leaves;
   owners = moves.owners;
   groups = groups_stay old new moves.procs moves.holds kept.groups;
   calls = calls_stay script old new moves.procs moves.holds kept.calls;

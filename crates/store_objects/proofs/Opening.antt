@@ -1,6 +1,7 @@
 -- What is open goes on in heap and machine, whatever becomes of the processes.
-use Rattle.std.proofs.Common.{◌≡◌, ℕ, List, map, Option, None, Some, refl, ap, sym, ◌∙◌}
+use Rattle.std.proofs.Common.{◌≡◌, ℕ, List, map, Option, None, Some, refl, ap, sym, ◌∙◌, subst}
 use Rattle.std.specs.Prelude.{slice_index}
+use Rattle.kheap_slabs.specs.Leaves.{numbers_by}
 use Rattle.kheap_slabs.specs.Objects.{object}
 use Rattle.kheap_slabs.specs.declared.objects.Proc.{Proc}
 use Rattle.kheap_slabs.specs.Heap.{Heap}
@@ -47,6 +48,10 @@ by_pids h number procs last files have = record { each = λ pid. by_proc pid (pr
         ap (descriptors_of files) (sym (proc_has_pid procs pid proc is))
         ∙ has_it (λ p. descriptors_of files p.pid ≡ descriptors_by number (numbers_in h p)) procs pid proc have.placed is
         ∙ sym (ap (λ o. descriptors_by number (places_in (numbers_in h) o)) is)
+
+-- the same in another heap with the same Leaves
+pub leaves_on : (old new : Heap) (number : ℕ → ℕ) (procs : List Proc) (last : ℕ) (files : Files) → new.leaves ≡ old.leaves → TableOpen (numbers_in old) procs last number files → TableOpen (numbers_in new) procs last number files
+leaves_on old new number procs last files same = subst (λ leaves. TableOpen (λ (proc : Proc). numbers_by leaves proc.descriptors proc.leaves) procs last number files) (sym same)
 
 -- ---- all that is open
 

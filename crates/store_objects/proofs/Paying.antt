@@ -68,6 +68,22 @@ uses_then old mid new meanwhile first second = record {
     no_higher : (a b c live then more : ℕ) → then ≤ live + 0 → b ≤ max a (live + 0 + more) → c ≤ max b (then + 0 + more) → c ≤ max a (live + 0 + more)
     no_higher a b c live then more less first second = omega arith
 
+-- two steps use what both use
+pub uses_both : (old mid new : Heap) (one other both meanwhile : ℕ) → UsesAtMost old mid one meanwhile → UsesAtMost mid new other meanwhile → one + other ≤ both → UsesAtMost old new both meanwhile
+uses_both old mid new one other both meanwhile first second fits = record {
+  live = no_more (live_bytes old) (live_bytes mid) (live_bytes new) first.live second.live;
+  high = no_higher old.high mid.high new.high (live_bytes old) (live_bytes mid) meanwhile first.live first.high second.high;
+  rises = le_trans first.rises second.rises;
+  heap = second.heap ∙ first.heap;
+  marks = second.marks ∙ first.marks;
+}
+  where
+    no_more : (a b c : ℕ) → b ≤ a + one → c ≤ b + other → c ≤ a + both
+    no_more a b c less then = omega (arith, fits)
+
+    no_higher : (a b c live then more : ℕ) → then ≤ live + one → b ≤ max a (live + one + more) → c ≤ max b (then + other + more) → c ≤ max a (live + both + more)
+    no_higher a b c live then more less first second = omega (arith, fits)
+
 -- what a step gives back it may as well keep
 pub uses_more : (old new : Heap) (bytes meanwhile : ℕ) → UsesAtMost old new 0 meanwhile → UsesAtMost old new bytes meanwhile
 uses_more old new bytes meanwhile uses = record {

@@ -7,7 +7,6 @@ use Rattle.std.proofs.lemmas.List.{length-append}
 use Rattle.std.proofs.lemmas.List.Sums.{sum_by-cons}
 use Rattle.kheap_slabs.specs.declared.objects.Proc.{Proc}
 use Rattle.kheap_slabs.specs.Spaces.{keys_in}
-use Rattle.posix_defs.specs.Memory.{Places, no_places}
 use Rattle.proc_table.specs.Procs.{proc_of}
 use Rattle.proc_table.proofs.OwnLemmas.{AreRising}
 
@@ -23,20 +22,20 @@ nobody_there (proc ∷ procs) before pid rising less = elim (eqb_tells proc.pid 
 ]
 
 -- A sum over what belongs to each pid is one over the processes that are there.
-pub sum_by_pids : (f : Places → ℕ) (g : Proc → ℕ) (places : List Places) (before : ℕ) (procs : List Proc) → AreRising before procs
+pub sum_by_pids : {X : Type 0} (f : X → ℕ) (g : Proc → ℕ) (none : X) (places : List X) (before : ℕ) (procs : List Proc) → AreRising before procs
     → AllByRecursion (λ proc. proc.pid ≤ before + length places) procs
-    → ((i : ℕ) → i < length places → f (get_or places i no_places) ≡ value g (proc_of procs (before + 1 + i)))
+    → ((i : ℕ) → i < length places → f (get_or places i none) ≡ value g (proc_of procs (before + 1 + i)))
     → sum_by f places ≡ sum_by g procs
-sum_by_pids f g [] before [] rising within each = refl
-sum_by_pids f g [] before (proc ∷ procs) rising within each = absurd (let l : before < proc.pid = rising.0 in let m : proc.pid ≤ before + 0 = within.0 in omega arith)
-sum_by_pids f g (places ∷ rest) before [] rising within each =
+sum_by_pids f g none [] before [] rising within each = refl
+sum_by_pids f g none [] before (proc ∷ procs) rising within each = absurd (let l : before < proc.pid = rising.0 in let m : proc.pid ≤ before + 0 = within.0 in omega arith)
+sum_by_pids f g none (places ∷ rest) before [] rising within each =
     let head : f places ≡ 0 = each 0 (omega arith) in
-    let more : sum_by f rest ≡ sum_by g [] = sum_by_pids f g rest (before + 1) [] tt tt (λ i less. each (suc i) (omega arith)) in
+    let more : sum_by f rest ≡ sum_by g [] = sum_by_pids f g none rest (before + 1) [] tt tt (λ i less. each (suc i) (omega arith)) in
     let sum = sum_by-cons f places rest in
     omega arith
-sum_by_pids f g (places ∷ rest) before (proc ∷ procs) rising within each = elim (eqb_tells proc.pid (before + 1)) [
-  | inl same ↦ taken same.0 same.1 (λ ps. sum_by_pids f g rest (before + 1) ps)
-  | inr other ↦ passed other.0 other.1 (λ ps. sum_by_pids f g rest (before + 1) ps)
+sum_by_pids f g none (places ∷ rest) before (proc ∷ procs) rising within each = elim (eqb_tells proc.pid (before + 1)) [
+  | inl same ↦ taken same.0 same.1 (λ ps. sum_by_pids f g none rest (before + 1) ps)
+  | inr other ↦ passed other.0 other.1 (λ ps. sum_by_pids f g none rest (before + 1) ps)
 ]
   where
     all_within : (n m : ℕ) (ps : List Proc) → n ≡ m → AllByRecursion (λ proc. proc.pid ≤ n) ps → AllByRecursion (λ proc. proc.pid ≤ m) ps
@@ -49,7 +48,7 @@ sum_by_pids f g (places ∷ rest) before (proc ∷ procs) rising within each = e
     next i = omega arith
 
     taken : (proc.pid == before + 1) ≡ true → proc.pid ≡ before + 1 → ((ps : List Proc) → AreRising (before + 1) ps → AllByRecursion (λ p. p.pid ≤ before + 1 + length rest) ps
-        → ((i : ℕ) → i < length rest → f (get_or rest i no_places) ≡ value g (proc_of ps (before + 1 + 1 + i))) → sum_by f rest ≡ sum_by g ps)
+        → ((i : ℕ) → i < length rest → f (get_or rest i none) ≡ value g (proc_of ps (before + 1 + 1 + i))) → sum_by f rest ≡ sum_by g ps)
         → sum_by f (places ∷ rest) ≡ sum_by g (proc ∷ procs)
     taken test same rec =
         let head : f places ≡ g proc = each 0 (omega arith) ∙ ap (λ k. value g (proc_of (proc ∷ procs) k)) (let k : before + 1 + 0 ≡ before + 1 = omega arith in k) ∙ ap (λ b. value g (cond b (Some proc) (proc_of procs (before + 1)))) test in
@@ -67,7 +66,7 @@ sum_by_pids f g (places ∷ rest) before (proc ∷ procs) rising within each = e
         ]
 
     passed : (proc.pid == before + 1) ≡ false → proc.pid ≢ before + 1 → ((ps : List Proc) → AreRising (before + 1) ps → AllByRecursion (λ p. p.pid ≤ before + 1 + length rest) ps
-        → ((i : ℕ) → i < length rest → f (get_or rest i no_places) ≡ value g (proc_of ps (before + 1 + 1 + i))) → sum_by f rest ≡ sum_by g ps)
+        → ((i : ℕ) → i < length rest → f (get_or rest i none) ≡ value g (proc_of ps (before + 1 + 1 + i))) → sum_by f rest ≡ sum_by g ps)
         → sum_by f (places ∷ rest) ≡ sum_by g (proc ∷ procs)
     passed test other rec =
         let above : before + 1 < proc.pid = (let l : before < proc.pid = rising.0 in omega arith) in

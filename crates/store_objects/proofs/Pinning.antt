@@ -66,7 +66,7 @@ module _ (old new : Objects) (only : OnlyPins old new) where
     opened = open_on numbers old.heap new.heap have.list files files (ap (λ (h : Heap). h.descs) only.heap) (ap (λ (h : Heap). h.pipes) only.heap)
         (ap (λ (h : Heap). h.socks) only.heap) (ap (λ (h : Heap). h.chunks) only.heap) refl refl refl have.opened;
     descriptors = subst (λ (view : TableView). HaveDescriptors (numbers_in new.heap) numbers.descs (processes new.heap view) view.last files) (sym only.procs)
-        (subst (λ procs. HaveDescriptors (numbers_in new.heap) numbers.descs procs old.procs.last files) (sym (ap (λ (h : Heap). processes h old.procs) only.heap)) have.descriptors);
+        (subst (λ (h : Heap). HaveDescriptors (numbers_in h) numbers.descs (processes h old.procs) old.procs.last files) (sym only.heap) have.descriptors);
   }
 
   pub pinned_files : (files : Files) (account : Account) → HaveFiles old files account → HaveFiles new files account
@@ -75,7 +75,7 @@ module _ (old new : Objects) (only : OnlyPins old new) where
       (ap (λ (h : Heap). h.chunks) only.heap) refl refl refl refl refl
       (λ number have.
       subst (λ (view : TableView). HaveDescriptors (numbers_in new.heap) number (processes new.heap view) view.last files) (sym only.procs)
-      (subst (λ procs. HaveDescriptors (numbers_in new.heap) number procs old.procs.last files) (sym (ap (λ (h : Heap). processes h old.procs) only.heap)) have))
+      (subst (λ (h : Heap). HaveDescriptors (numbers_in h) number (processes h old.procs) old.procs.last files) (sym only.heap) have))
 
   pub pinned_queues : QueuesStand old.heap new.heap
   pinned_queues = queues_same old.heap new.heap (ap (λ (h : Heap). h.pipes) only.heap) (ap (λ (h : Heap). h.socks) only.heap)

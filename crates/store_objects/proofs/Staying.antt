@@ -3,21 +3,20 @@ use Rattle.std.proofs.Common.{◌≡◌, ◌≢◌, ◌⊎◌, ℕ, ◌==◌, tr
 use Rattle.std.specs.List.{AllByRecursion}
 use Rattle.std.specs.Option.{option_map}
 use Rattle.std.proofs.lemmas.Bool.Decides.{eqb_tells}
-use Rattle.kheap_slabs.specs.declared.objects.Descriptor.{Descriptor}
 use Rattle.kheap_slabs.specs.declared.objects.Proc.{Proc}
 use Rattle.kheap_slabs.specs.Heap.{Heap}
 use Rattle.kheap_slabs.specs.Owners.{OwnsItsObjects}
 use Rattle.open_laws.specs.Owned.{HasItsOwners}
 use Rattle.posix_defs.specs.Memory.{Frames}
 use Rattle.posix_defs.specs.Process.{Table}
-use Rattle.proc_numbers.specs.Having.{AreListed, places_in}
+use Rattle.proc_numbers.specs.Having.{AreListed}
 use Rattle.proc_numbers.specs.Naming.{ChangesNumbers}
 use Rattle.proc_numbers.proofs.Listing.{found_before, found_now, found_others}
 use Rattle.proc_files.specs.Closing.{ChangesHolding}
 use Rattle.proc_files.specs.Names.{AreBound, name_of}
 use Rattle.proc_numbers.specs.Standing.{IsKept}
 use Rattle.proc_table.specs.Accounting.{HasAccount}
-use Rattle.proc_table.specs.Procs.{HasNoneOpenOnce, IsAlive, IsLight, numbers_in, proc_of}
+use Rattle.proc_table.specs.Procs.{HasNoneOpenOnce, IsAlive, IsLight, first_proc, proc_of}
 use Rattle.proc_table.specs.Standing.{IsTable}
 use Rattle.proc_table.specs.Table.{Holds, TableView, processes, procs_at}
 use Rattle.proc_table.proofs.LawLemmas.{elsewhere_account, elsewhere_table}
@@ -32,10 +31,15 @@ use Rattle.store_objects.specs.OpenMoves.{ProcsStay, opening}
 use Rattle.store_objects.proofs.Numbers.{account_opened, table_opened}
 use Rattle.store_objects.specs.FileMoves.{FileMoves, MemoryStays}
 
--- with its own descriptors a process is what it is
-opening_own : (h : Heap) (o : Option Proc) → o ≡ option_map (opening (places_in (numbers_in h) o)) o
-opening_own h None = refl
-opening_own h (Some proc) = refl
+-- the Proc itself
+own_of : Option Proc → Proc
+own_of None = first_proc
+own_of (Some proc) = proc
+
+-- with its own numbers a process is what it is
+opening_own : (o : Option Proc) → o ≡ option_map (opening (own_of o)) o
+opening_own None = refl
+opening_own (Some proc) = refl
 
 -- a table that has all processes of a heap holds, where each that has ended has nothing
 holds_all : (h : Heap) (kept : TableView) → AreListed h kept → OwnsItsObjects h → AllByRecursion IsLight (processes h kept) → Holds h kept
@@ -53,8 +57,8 @@ module _ (old new : Objects) (same : new.procs ≡ old.procs) (procs : new.heap.
   procs_elsewhere = record {
     same = same;
     each = λ pid. (
-      places_in (numbers_in old.heap) (proc_of (procs_of old) pid),
-      ap (λ (view : TableView). proc_of (processes new.heap view) pid) same ∙ ap (λ all. proc_of all pid) processes_same ∙ opening_own old.heap (proc_of (procs_of old) pid),
+      own_of (proc_of (procs_of old) pid),
+      ap (λ (view : TableView). proc_of (processes new.heap view) pid) same ∙ ap (λ all. proc_of all pid) processes_same ∙ opening_own (proc_of (procs_of old) pid),
     );
   }
 
@@ -75,6 +79,7 @@ module _ (old new : Objects) (same : new.procs ≡ old.procs) (procs : new.heap.
     procs = procs_elsewhere;
     holds = subst (Holds new.heap) (sym same) is.holds;
     all = (subst (AreListed new.heap) (sym same) is.listed).all;
+    leaves = (subst (AreListed new.heap) (sym same) is.listed).leaves;
     owners = is.owners;
     bound = bound;
     places = places;
@@ -87,15 +92,16 @@ module _ (old new : Objects) (same : new.procs ≡ old.procs) (procs : new.heap.
 module _ (old new : Heap) (kept : TableView) (pid : ℕ) (changes : ChangesHolding old new kept pid) where
   -- the heap with what the caches had
   abbrev mid : Heap
-  mid = record old { procs = new.procs; descs = new.descs; pipes = new.pipes; chunks = new.chunks; socks = new.socks; high = new.high }
+  mid = record old { procs = new.procs; leaves = new.leaves; descs = new.descs; pipes = new.pipes; chunks = new.chunks; socks = new.socks; high = new.high }
 
   numbers : ChangesNumbers old mid kept pid
   numbers = record {
     key = changes.key;
     proc = changes.proc;
-    places = changes.places;
+    now = changes.now;
     named = changes.named;
     there = changes.there;
+    same = changes.same;
     procs = changes.procs;
     beside = refl;
   }
@@ -115,34 +121,37 @@ module _ (old new : Heap) (kept : TableView) (pid : ℕ) (changes : ChangesHoldi
   -- ---- the processes
 
   abbrev now : Proc
-  now = opening changes.places changes.proc
+  now = changes.now
+
+  own : now.pid ≡ changes.proc.pid
+  own = ap (λ (p : Proc). p.pid) changes.same
 
   module _ (holds : Holds old kept) where
     here : proc_of (processes new kept) pid ≡ Some now
     here =
         ap (λ procs. proc_of (procs_at procs kept.listed) pid) changes.procs
-        ∙ found_now old.procs changes.key changes.proc now changes.there refl kept.listed pid holds.stored changes.named
+        ∙ found_now old.procs changes.key changes.proc now changes.there own kept.listed pid holds.stored changes.named
 
     before : proc_of (processes old kept) pid ≡ Some changes.proc
-    before = found_before old.procs changes.key changes.proc now changes.there refl kept.listed pid holds.stored changes.named
+    before = found_before old.procs changes.key changes.proc now changes.there own kept.listed pid holds.stored changes.named
 
     others : (q : ℕ) → q ≢ pid → proc_of (processes new kept) q ≡ proc_of (processes old kept) q
     others q apart =
         ap (λ procs. proc_of (procs_at procs kept.listed) q) changes.procs
-        ∙ found_others old.procs changes.key changes.proc now changes.there refl kept.listed pid holds.stored changes.named q apart
+        ∙ found_others old.procs changes.key changes.proc now changes.there own kept.listed pid holds.stored changes.named q apart
 
     -- each is there with other descriptors, or with its own
-    each : (q : ℕ) → (places : List (Option Descriptor)) × (proc_of (processes new kept) q ≡ option_map (opening places) (proc_of (processes old kept) q))
+    each : (q : ℕ) → (is : Proc) × (proc_of (processes new kept) q ≡ option_map (opening is) (proc_of (processes old kept) q))
     each q = by_test (eqb_tells q pid)
       where
         by_test : (((q == pid) ≡ true) × (q ≡ pid)) ⊎ (((q == pid) ≡ false) × (q ≢ pid))
-            → (places : List (Option Descriptor)) × (proc_of (processes new kept) q ≡ option_map (opening places) (proc_of (processes old kept) q))
+            → (is : Proc) × (proc_of (processes new kept) q ≡ option_map (opening is) (proc_of (processes old kept) q))
         by_test (inl same) = (
-          changes.places,
-          subst (λ n. proc_of (processes new kept) n ≡ option_map (opening changes.places) (proc_of (processes old kept) n)) (sym same.1)
-              (here ∙ sym (ap (option_map (opening changes.places)) before)),
+          changes.now,
+          subst (λ n. proc_of (processes new kept) n ≡ option_map (opening changes.now) (proc_of (processes old kept) n)) (sym same.1)
+              (here ∙ ap (λ (p : Proc). Some p) changes.same ∙ sym (ap (option_map (opening changes.now)) before)),
         )
-        by_test (inr apart) = (places_in (numbers_in old) (proc_of (processes old kept) q), others q apart.1 ∙ opening_own old (proc_of (processes old kept) q))
+        by_test (inr apart) = (own_of (proc_of (processes old kept) q), others q apart.1 ∙ opening_own (proc_of (processes old kept) q))
 
     -- who runs may have anything open
     light : IsAlive (processes old kept) pid → AreListed new kept → AllByRecursion IsLight (processes new kept)
@@ -157,7 +166,7 @@ module _ (old new : Heap) (kept : TableView) (pid : ℕ) (changes : ChangesHoldi
         was = has_it IsLight (processes old kept) pid changes.proc holds.light before
 
         of_pid : IsLight now
-        of_pid = record { memory = was.memory; descriptors = subst (λ status. HasNoneOpenOnce status changes.places) (sym up) tt }
+        of_pid = subst IsLight (sym changes.same) (record { memory = was.memory; descriptors = subst (λ status. HasNoneOpenOnce status changes.now.descriptors changes.now.leaves) (sym up) tt })
 
         by_test : (q : ℕ) (proc : Proc) → proc_of (processes new kept) q ≡ Some proc
             → (((q == pid) ≡ true) × (q ≡ pid)) ⊎ (((q == pid) ≡ false) × (q ≢ pid)) → IsLight proc
@@ -187,6 +196,7 @@ module _ (old new : Objects) (pid : ℕ) (same : new.procs ≡ old.procs) (chang
     };
     holds = subst (Holds new.heap) (sym same) (holds_holding old.heap new.heap old.procs pid changes holds alive listed owners);
     all = (subst (AreListed new.heap) (sym same) listed).all;
+    leaves = (subst (AreListed new.heap) (sym same) listed).leaves;
     owners = owners;
     bound = bound;
     places = places;

@@ -1,7 +1,9 @@
 -- What the caches have more is within a call's need where it was paid for.
 use Rattle.std.proofs.Common.{◌≡◌, ℕ, ◌+◌, ◌≤◌, ap, arith}
+use Rattle.desc_table.specs.Copying.{spends_leaves}
 use Rattle.kabi_types.specs.declared.calls.Call.{Call}
 use Rattle.kabi_types.specs.declared.classes.Class.TheVariants as class
+use Rattle.kheap_slabs.specs.Heap.{Heap}
 use Rattle.kheap_slabs.specs.Objects.{count}
 use Rattle.kheap_slabs.specs.Purse.{Purse}
 use Rattle.kheap_slabs.specs.Paid.{IsPaid, TakesNothing}
@@ -39,6 +41,22 @@ within_same old new before after which paid same reads = record {
   vnodes = none (count new.heap.vnodes) (count old.heap.vnodes) after.left.vnode before.left.vnode (need_of which).vnode (paid.counts class.Vnode) (ap (λ (p : Purse). p.left.vnode) same);
   reads = reads;
 }
+
+-- by what is kept back, and then by one of which Leaves alone are spent
+pub within_turns : (old new : Objects) (mid : Heap) (back before after : Purse) (which : Call) → IsPaid old.heap back mid back → IsPaid mid before new.heap after
+    → after ≡ spends_leaves before after → old.tree.disk.reads ≤ new.tree.disk.reads → CachesWithin old new which
+within_turns old new mid back before after which closes opens spent reads = record {
+  names = twice (count old.heap.names) (count mid.names) (count new.heap.names) back.left.name before.left.name after.left.name (need_of which).name
+      (closes.counts class.Name) (opens.counts class.Name) (ap (λ (p : Purse). p.left.name) spent);
+  blocks = twice (count old.heap.blocks) (count mid.blocks) (count new.heap.blocks) back.left.block before.left.block after.left.block (need_of which).block
+      (closes.counts class.Block) (opens.counts class.Block) (ap (λ (p : Purse). p.left.block) spent);
+  vnodes = twice (count old.heap.vnodes) (count mid.vnodes) (count new.heap.vnodes) back.left.vnode before.left.vnode after.left.vnode (need_of which).vnode
+      (closes.counts class.Vnode) (opens.counts class.Vnode) (ap (λ (p : Purse). p.left.vnode) spent);
+  reads = reads;
+}
+  where
+    twice : (old mid new back before after need : ℕ) → mid + back ≤ old + back → new + after ≤ mid + before → after ≡ before → new ≤ old + need
+    twice old mid new back before after need closes opens same = omega arith
 
 -- and by none, where nothing is taken
 pub within_nothing : (old new : Objects) (which : Call) → TakesNothing old.heap new.heap → old.tree.disk.reads ≤ new.tree.disk.reads → CachesWithin old new which

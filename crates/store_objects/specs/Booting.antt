@@ -1,6 +1,7 @@
 -- A store at boot.
 use Rattle.std.specs.Prelude.{ℕ, ◌≡◌, ◌+◌, [], ◌∷◌, None, replicate}
 use Rattle.kabi_types.specs.declared.scripts.Control.{Control}
+use Rattle.kheap_slabs.specs.Leaves.{HoldLeaves}
 use Rattle.kheap_slabs.specs.Keys.{AreKeysOf}
 use Rattle.open_laws.specs.Open.{AreOpen}
 use Rattle.open_laws.specs.Owned.{HasItsOwners}
@@ -26,6 +27,7 @@ use Rattle.posix_defs.specs.World.{boot_kept}
 pub record HasBooted (objects : Objects) (heap blocks : ℕ) (control : Control) : Type 0 where
   pub holds : Holds objects.heap objects.procs
   pub all : AreKeysOf objects.heap.procs (keys_of objects.procs.listed)
+  pub leaves : HoldLeaves objects.heap.leaves (procs_of objects)
   pub owners : HasItsOwners objects.heap []
   pub opened : (numbers : Numbers) (files : Files) → IsBare files → AreOpen numbers objects.heap [] files
   pub stands : Stands objects.heap objects.tree (new_tree blocks) root_alone

@@ -1,6 +1,7 @@
 -- What a call on files changes of a store, and what it leaves of it.
 use Rattle.std.specs.Prelude.{◌+◌, ◌≡◌, ◌≤◌, [], length}
 use Rattle.kabi_types.specs.declared.calls.Call.{Call}
+use Rattle.kheap_slabs.specs.Leaves.{HoldLeaves}
 use Rattle.kheap_slabs.specs.Objects.{count}
 use Rattle.kheap_slabs.specs.Keys.{AreKeysOf}
 use Rattle.open_laws.specs.Owned.{HasItsOwners}
@@ -13,6 +14,7 @@ use Rattle.proc_table.specs.Accounting.{HasAccount}
 use Rattle.proc_table.specs.Standing.{IsTable}
 use Rattle.proc_table.specs.Table.{Holds, keys_of}
 use Rattle.store_objects.specs.declared.objects.Objects.{Objects}
+use Rattle.store_objects.specs.Objects.{procs_of}
 use Rattle.store_objects.specs.Trees.{KeepsTree}
 
 -- Of a store what is open, what a process has in memory, the tree of files with what its caches keep, and names of sockets have
@@ -22,6 +24,7 @@ pub record FileMoves (old new : Objects) : Type 0 where
   pub procs : ProcsStay old new
   pub holds : Holds new.heap new.procs
   pub all : AreKeysOf new.heap.procs (keys_of new.procs.listed)
+  pub leaves : HoldLeaves new.heap.leaves (procs_of new)
   pub owners : HasItsOwners new.heap []
   pub bound : AreBound (name_of new.heap.socks) new.names
   pub places : length new.names ≡ length old.names

@@ -3,6 +3,7 @@ use Rattle.std.specs.Prelude.{ℕ, ◌≡◌, ◌==◌, ◌<◌, Bool, false, no
 use Rattle.std.specs.List.{AllByRecursion}
 use Rattle.kabi_types.specs.declared.scripts.Control.{Control}
 use Rattle.kabi_types.specs.declared.scripts.Script.{Script}
+use Rattle.kheap_slabs.specs.Leaves.{HoldLeaves}
 use Rattle.kheap_slabs.specs.declared.objects.Proc.{Proc}
 use Rattle.kheap_slabs.specs.Keys.{AreKeysOf}
 use Rattle.kheap_slabs.specs.Owners.{Owners}
@@ -85,6 +86,7 @@ most_nodes = 4096
 pub record AreKept (script : Script) (objects : Objects) : Type 0 where
   pub holds : Holds objects.heap objects.procs
   pub all : AreKeysOf objects.heap.procs (keys_of objects.procs.listed)
+  pub leaves : HoldLeaves objects.heap.leaves (procs_of objects)
   pub owners : HasItsOwners objects.heap []
   pub groups : AllByRecursion (λ proc. length proc.nodes ≡ 4) (procs_of objects)
   pub calls : AreAtCalls script (procs_of objects)

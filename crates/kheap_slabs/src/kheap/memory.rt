@@ -1,10 +1,11 @@
-//! Processes and their memory.
+//! Processes, their memory and their further descriptors.
 
 ghost use Rattle.std.specs.Prelude.{◌≡◌, ◌+◌, ◌/◌, ◌<◌, ◌≤◌, None, Some, length, slice_set};
 ghost use Rattle.kabi_types.specs.Class.{size};
 ghost use Rattle.kabi_types.specs.declared.classes.Class.TheVariants as class;
 ghost use Rattle.kheap_slabs.specs.Objects.{object, InUse, put, without};
 ghost use Rattle.kheap_slabs.specs.Pages.{with_bytes};
+ghost use Rattle.kheap_slabs.specs.declared.objects.Leaf.{Leaf as LeafOf};
 ghost use Rattle.kheap_slabs.specs.declared.objects.Node.{Node as NodeOf};
 ghost use Rattle.kheap_slabs.specs.declared.objects.Page.{Page as PageOf};
 ghost use Rattle.kheap_slabs.specs.declared.objects.Proc.{Proc as ProcOf};
@@ -12,7 +13,7 @@ ghost use Rattle.kheap_slabs.specs.Heap.{live_bytes, Makes, Frees};
 ghost use Rattle.kheap_slabs.specs.Paid.{TakesNothing};
 
 use super::KHeap;
-use crate::{Node, Page, PageEntry, Proc};
+use crate::{Descriptor, Leaf, Node, Page, PageEntry, Proc};
 use kabi_types::{Class, Control};
 
 impl KHeap {
@@ -90,6 +91,24 @@ impl KHeap {
         self.memory.procs.set_nodes(key, nodes);
     }
 
+    /// Gives a process other descriptors: those of its first numbers, and the keys of its Leaves. All else of it stays in its place.
+    pub fn set_proc_numbers(
+        &mut self,
+        key: u32,
+        descriptors: [Option<Descriptor>; 32],
+        leaves: [Option<u32>; 3],
+    )
+        requires { InUse self.old.procs key }
+        ensures kept { (proc : ProcOf) → object self.old.procs key ≡ Some proc
+            → self.new
+            ≡ record self.old { procs = put self.old.procs key (record proc { descriptors = descriptors; leaves = leaves }) } }
+        ensures stays { InUse self.new.procs key }
+        ensures live { live_bytes self.new ≡ live_bytes self.old }
+        ensures takes { TakesNothing self.old self.new }
+    {
+        self.memory.procs.set_numbers(key, descriptors, leaves);
+    }
+
     /// Tells of a process who its parent is and how it ended. All else of it stays in its place.
     pub fn set_proc_family(&mut self, key: u32, parent: u32, status: Option<u16>)
         requires { InUse self.old.procs key }
@@ -163,6 +182,68 @@ impl KHeap {
         ensures takes { TakesNothing self.old self.new }
     {
         self.memory.nodes.set_entry(key, at, entry);
+    }
+
+    /// Puts a Leaf under a key that was free, and gives the key.
+    pub fn insert_leaf(&mut self, value: Leaf) -> u32
+        requires { live_bytes self.old + size class.Leaf ≤ self.old.heap }
+        ensures in_range { result < self.old.heap / size class.Leaf }
+        ensures vacant { object self.old.leaves result ≡ None }
+        ensures stored { object self.new.leaves result ≡ Some value }
+        ensures kept { self.new
+            ≡ record self.old { leaves = put self.old.leaves result value; high = self.new.high } }
+        ensures live { live_bytes self.new ≡ live_bytes self.old + size class.Leaf }
+        ensures makes { Makes class.Leaf self.old self.new }
+    {
+        self.meter.grow(Class::Leaf.bytes());
+        self.memory.leaves.insert(value)
+    }
+
+    /// Takes a Leaf out of the heap; its key is free from then on.
+    pub fn free_leaf(&mut self, key: u32) -> Leaf
+        requires { InUse self.old.leaves key }
+        ensures value { object self.old.leaves key ≡ Some result }
+        ensures gone { object self.new.leaves key ≡ None }
+        ensures kept { self.new ≡ record self.old { leaves = without self.old.leaves key } }
+        ensures live { live_bytes self.new + size class.Leaf ≡ live_bytes self.old }
+        ensures frees { Frees class.Leaf self.old self.new }
+    {
+        let value = self.memory.leaves.free(key);
+        self.meter.shrink(Class::Leaf.bytes());
+        value
+    }
+
+    /// The Leaf of a key.
+    pub fn get_leaf(&self, key: u32) -> &Leaf
+        requires { InUse self.now.leaves key }
+        ensures { object self.now.leaves key ≡ Some result.now }
+    {
+        self.memory.leaves.get(key)
+    }
+
+    /// Puts another Leaf under a key in use.
+    pub fn set_leaf(&mut self, key: u32, value: Leaf)
+        requires { InUse self.old.leaves key }
+        ensures stored { object self.new.leaves key ≡ Some value }
+        ensures kept { self.new ≡ record self.old { leaves = put self.old.leaves key value } }
+        ensures live { live_bytes self.new ≡ live_bytes self.old }
+        ensures takes { TakesNothing self.old self.new }
+    {
+        self.memory.leaves.set(key, value);
+    }
+
+    /// Gives one number of a Leaf another descriptor, or none. Its others stay in their place.
+    pub fn set_leaf_descriptor(&mut self, key: u32, at: u32, descriptor: Option<Descriptor>)
+        requires used { InUse self.old.leaves key }
+        requires within { at < 32 }
+        ensures kept { (leaf : LeafOf) → object self.old.leaves key ≡ Some leaf
+            → self.new
+            ≡ record self.old { leaves = put self.old.leaves key (record leaf { descriptors = slice_set leaf.descriptors at descriptor }) } }
+        ensures stays { InUse self.new.leaves key }
+        ensures live { live_bytes self.new ≡ live_bytes self.old }
+        ensures takes { TakesNothing self.old self.new }
+    {
+        self.memory.leaves.set_descriptor(key, at, descriptor);
     }
 
     /// Puts a Page under a key that was free, and gives the key.

@@ -5,6 +5,7 @@ use Rattle.kabi_types.specs.Arguments.{count_of}
 use Rattle.kabi_types.specs.declared.calls.Call.TheVariants as call
 use Rattle.kabi_types.specs.declared.classes.Need.{Need}
 use Rattle.kheap_slabs.specs.Heap.{live_bytes}
+use Rattle.kheap_slabs.specs.Purse.{left_bytes}
 use Rattle.posix_defs.specs.Needs.{bound, chunks_for, nodes_for, pages_in, pages_touched, slack}
 use Rattle.posix_defs.specs.Process.{parent_of}
 use Rattle.posix_defs.specs.Sizes.{reserve}
@@ -13,7 +14,7 @@ use Rattle.store_objects.proofs.Replies.{does_tell, parent_is}
 use Rattle.store_objects.specs.Uses.{UsesAtMost}
 use Rattle.call_run.proofs.BytesCached.{cached_that, queue_cached}
 use Rattle.call_run.proofs.Dispatch.{done_is, named_four, named_one, named_three, named_two, numbered, performs_that, reaches_that, serves_that, spelt_one, spelt_two}
-use Rattle.call_run.proofs.Naming.{has_file_need, has_left, has_need, may_fetch, paths_of_it, pays, right_that, room_kept, walks_connecting, walks_one, walks_opening, walks_two}
+use Rattle.call_run.proofs.Naming.{has_file_need, has_left, has_need, leaf_where, may_fetch, paths_of_it, pays, right_that, room_kept, walks_connecting, walks_one, walks_opening, walks_two}
 use Rattle.call_run.proofs.OnFiles.{written_anew}
 use Rattle.call_run.specs.Families.{IsOffFiles, IsOnFile, is_moving}
 use Rattle.call_run.proofs.calls.run_right.Goals as goal
@@ -82,6 +83,11 @@ fork-requires-clause-left_proc c =
 pub fork-requires-clause-left_nodes : goal.fork-requires-clause-left_nodes
 fork-requires-clause-left_nodes c =
     subst (λ (n : Need). 4 ≤ n.node)
+    (sym (has_left c.purse_for-paid.ensures.value (c.target_of-target.ensures.other (ap is_moving c.in-Fork.is)) c.requires.needed c.requires.right c.in-Fork.is)) (omega arith)
+
+pub fork-requires-clause-left_leaves : goal.fork-requires-clause-left_leaves
+fork-requires-clause-left_leaves c =
+    subst (λ (n : Need). 3 ≤ n.leaf)
     (sym (has_left c.purse_for-paid.ensures.value (c.target_of-target.ensures.other (ap is_moving c.in-Fork.is)) c.requires.needed c.requires.right c.in-Fork.is)) (omega arith)
 
 pub fork-requires-clause-stands : goal.fork-requires-clause-stands
@@ -295,6 +301,11 @@ returns-in-Close-clause-cached c = cached_that _ _ _ _ c.in-Close.is tt
 pub dup-requires-clause-room : goal.dup-requires-clause-room
 dup-requires-clause-room c = pays c.args.objects.now.heap c.purse_for-paid.result c.args.call.now (c.purse_for-paid.ensures.within c.args.call.now c.requires.needed) c.requires.room
 
+pub dup-requires-clause-left_leaf : goal.dup-requires-clause-left_leaf
+dup-requires-clause-left_leaf c =
+    subst (λ (n : Need). 0 < n.leaf)
+    (sym (has_left c.purse_for-paid.ensures.value (c.target_of-target.ensures.other (ap is_moving c.in-Dup.is)) c.requires.needed c.requires.right c.in-Dup.is)) (omega arith)
+
 pub returns-in-Dup-clause-uses : goal.returns-in-Dup-clause-uses
 returns-in-Dup-clause-uses c = uses_paid _ _ _ _ _ _ c.dup.ensures.paid (c.purse_for-paid.ensures.within c.args.call.now c.requires.needed)
 
@@ -309,9 +320,19 @@ returns-in-Dup-clause-cached c = cached_that _ _ _ _ c.in-Dup.is tt
 pub dup2-requires-clause-pays : goal.dup2-requires-clause-pays
 dup2-requires-clause-pays c = pays c.args.objects.now.heap c.purse_for-paid.result c.args.call.now (c.purse_for-paid.ensures.within c.args.call.now c.requires.needed) c.requires.room
 
+pub dup2-requires-clause-paid_by : goal.dup2-requires-clause-paid_by
+dup2-requires-clause-paid_by c =
+    subst (λ w. left_bytes c.purse_for-paid.result ≤ bound w) (named_two c.named_by-named.ensures.number call.Dup2 c.in-Dup2.is refl (search (rules, to_z-of_z)))
+    (c.purse_for-paid.ensures.within c.args.call.now c.requires.needed)
+
 pub dup2-requires-clause-room : goal.dup2-requires-clause-room
 dup2-requires-clause-room c =
     subst (λ w. live_bytes c.args.objects.now.heap + bound w + reserve ≤ c.args.objects.now.heap.heap) (named_two c.named_by-named.ensures.number call.Dup2 c.in-Dup2.is refl (search (rules, to_z-of_z))) c.requires.room
+
+pub dup2-requires-clause-left_leaf : goal.dup2-requires-clause-left_leaf
+dup2-requires-clause-left_leaf c =
+    subst (λ (n : Need). 0 < n.leaf)
+    (sym (has_left c.purse_for-paid.ensures.value (c.target_of-target.ensures.other (ap is_moving c.in-Dup2.is)) c.requires.needed c.requires.right c.in-Dup2.is)) (omega arith)
 
 pub returns-in-Dup2-clause-uses : goal.returns-in-Dup2-clause-uses
 returns-in-Dup2-clause-uses c =
@@ -327,6 +348,13 @@ returns-in-Dup2-clause-cached c = cached_that _ _ _ _ c.in-Dup2.is tt
 
 pub fcntl-requires-clause-room : goal.fcntl-requires-clause-room
 fcntl-requires-clause-room c = pays c.args.objects.now.heap c.purse_for-paid.result c.args.call.now (c.purse_for-paid.ensures.within c.args.call.now c.requires.needed) c.requires.room
+
+pub fcntl-requires-clause-left_leaf : goal.fcntl-requires-clause-left_leaf
+fcntl-requires-clause-left_leaf c none =
+    let cmd : to_z w64 (of_z w64 c.in-Fcntl.cmd) ≡ c.in-Fcntl.cmd = search (rules, to_z-of_z) in
+    subst (λ (n : Need). 0 < n.leaf)
+    (sym (has_left c.purse_for-paid.ensures.value (c.target_of-target.ensures.other (ap is_moving c.in-Fcntl.is)) c.requires.needed c.requires.right c.in-Fcntl.is))
+    (leaf_where c.in-Fcntl.fd c.in-Fcntl.cmd c.in-Fcntl.arg (right_that c.requires.right c.in-Fcntl.is) (subst (λ z. count_of z ≡ 0) cmd none))
 
 pub returns-in-Fcntl-clause-uses : goal.returns-in-Fcntl-clause-uses
 returns-in-Fcntl-clause-uses c = uses_paid _ _ _ _ _ _ c.fcntl.ensures.paid (c.purse_for-paid.ensures.within c.args.call.now c.requires.needed)
@@ -811,6 +839,11 @@ pipe-requires-clause-left_descs c =
     subst (λ (n : Need). 2 ≤ n.desc)
     (sym (has_left c.purse_for-paid.ensures.value (c.target_of-target.ensures.other (ap is_moving c.in-Pipe.is)) c.requires.needed c.requires.right c.in-Pipe.is)) (omega arith)
 
+pub pipe-requires-clause-left_leaf : goal.pipe-requires-clause-left_leaf
+pipe-requires-clause-left_leaf c =
+    subst (λ (n : Need). 0 < n.leaf)
+    (sym (has_left c.purse_for-paid.ensures.value (c.target_of-target.ensures.other (ap is_moving c.in-Pipe.is)) c.requires.needed c.requires.right c.in-Pipe.is)) (omega arith)
+
 pub returns-in-Pipe-clause-uses : goal.returns-in-Pipe-clause-uses
 returns-in-Pipe-clause-uses c = uses_paid _ _ _ _ _ _ c.pipe.ensures.paid (c.purse_for-paid.ensures.within c.args.call.now c.requires.needed)
 
@@ -838,6 +871,11 @@ socket-requires-clause-left_desc c =
 pub socket-requires-clause-stands : goal.socket-requires-clause-stands
 socket-requires-clause-stands c = (c.requires.stands.0, c.requires.stands.1)
 
+pub socket-requires-clause-left_leaf : goal.socket-requires-clause-left_leaf
+socket-requires-clause-left_leaf c =
+    subst (λ (n : Need). 0 < n.leaf)
+    (sym (has_left c.purse_for-paid.ensures.value (c.target_of-target.ensures.other (ap is_moving c.in-Socket.is)) c.requires.needed c.requires.right c.in-Socket.is)) (omega arith)
+
 pub returns-in-Socket-clause-uses : goal.returns-in-Socket-clause-uses
 returns-in-Socket-clause-uses c = uses_paid _ _ _ _ _ _ c.socket.ensures.paid (c.purse_for-paid.ensures.within c.args.call.now c.requires.needed)
 
@@ -864,6 +902,11 @@ socketpair-requires-clause-left_descs c =
 
 pub socketpair-requires-clause-stands : goal.socketpair-requires-clause-stands
 socketpair-requires-clause-stands c = (c.requires.stands.0, c.requires.stands.1)
+
+pub socketpair-requires-clause-left_leaf : goal.socketpair-requires-clause-left_leaf
+socketpair-requires-clause-left_leaf c =
+    subst (λ (n : Need). 0 < n.leaf)
+    (sym (has_left c.purse_for-paid.ensures.value (c.target_of-target.ensures.other (ap is_moving c.in-Socketpair.is)) c.requires.needed c.requires.right c.in-Socketpair.is)) (omega arith)
 
 pub returns-in-Socketpair-clause-uses : goal.returns-in-Socketpair-clause-uses
 returns-in-Socketpair-clause-uses c = uses_paid _ _ _ _ _ _ c.socketpair.ensures.paid (c.purse_for-paid.ensures.within c.args.call.now c.requires.needed)
@@ -956,6 +999,11 @@ accept-requires-clause-left_desc c =
 
 pub accept-requires-clause-stands : goal.accept-requires-clause-stands
 accept-requires-clause-stands c = (c.requires.stands.0, c.requires.stands.1)
+
+pub accept-requires-clause-left_leaf : goal.accept-requires-clause-left_leaf
+accept-requires-clause-left_leaf c =
+    subst (λ (n : Need). 0 < n.leaf)
+    (sym (has_left c.purse_for-paid.ensures.value (c.target_of-target.ensures.other (ap is_moving c.in-Accept.is)) c.requires.needed c.requires.right c.in-Accept.is)) (omega arith)
 
 pub returns-in-Accept-clause-uses : goal.returns-in-Accept-clause-uses
 returns-in-Accept-clause-uses c = uses_paid _ _ _ _ _ _ c.accept.ensures.paid (c.purse_for-paid.ensures.within c.args.call.now c.requires.needed)

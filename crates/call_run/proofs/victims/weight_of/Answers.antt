@@ -1,5 +1,5 @@
 use Rattle.std.proofs.Common.{arith}
-use Rattle.page_space.proofs.KeyPlaces.{key_there}
+use Rattle.kheap_laws.proofs.KeyPlaces.{key_there}
 use Rattle.call_run.proofs.victims.weight_of.Goals as goal
 
 pub get_node-requires : goal.get_node-requires

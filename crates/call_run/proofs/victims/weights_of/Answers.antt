@@ -7,6 +7,7 @@ use Rattle.proc_table.specs.declared.places.Place.{Place}
 use Rattle.proc_table.proofs.LeaveLemmas.{StandsAt, stands_at}
 use Rattle.victim_core.specs.Victims.{IsInRange}
 use Rattle.store_objects.specs.Objects.{procs_of}
+use Rattle.proc_numbers.proofs.PlacedLeaves.{long_proc}
 use Rattle.call_run.specs.Weights.{weights_in}
 use Rattle.call_run.proofs.Weighing.{AreWeighed, here, is_whole, next, none_yet}
 use Rattle.call_run.proofs.victims.weights_of.Goals as goal
@@ -15,7 +16,7 @@ use Rattle.call_run.proofs.victims.weights_of.Goals.{then-is_none, else-is_none}
 pub loop-place-init : goal.loop-place-init
 loop-place-init c =
     let kept = c.requires.kept.1 in
-    let start = none_yet c.args.objects.now.heap c.args.objects.now.procs kept.holds kept.groups in
+    let start = none_yet c.args.objects.now.heap c.args.objects.now.procs kept.holds kept.groups kept.leaves in
     subst (λ (places : List Place). AreWeighed c.args.objects.now.heap (weights_in c.args.objects.now.heap (procs_of c.args.objects.now)) places 0 c.new-weights.result.items)
     (sym c.listed-place-items.ensures.places)
     (subst (λ (ws : List Weight). AreWeighed c.args.objects.now.heap (weights_in c.args.objects.now.heap (procs_of c.args.objects.now)) c.args.objects.now.procs.listed 0 ws)
@@ -39,6 +40,17 @@ weight_of-requires-clause-owns c =
     let whole = is_whole _ _ _ _ _ c.loop-place.invariant stands c.get_proc-proc.result.now
     (sym (ap (λ (place : Place). object c.args.objects.now.heap.procs place.key) (stands.read none)) ∙ c.get_proc-proc.ensures) in
     whole.owns
+
+pub weight_of-requires-clause-own : goal.weight_of-requires-clause-own
+unfolding none
+weight_of-requires-clause-own c =
+    let stands : StandsAt c.listed-place-items.result.now c.loop-place.place-index = stands_at c.listed-place-items.result.now c.loop-place.place-index c.loop-place-test.true in
+    let whole = is_whole _ _ _ _ _ c.loop-place.invariant stands c.get_proc-proc.result.now
+    (sym (ap (λ (place : Place). object c.args.objects.now.heap.procs place.key) (stands.read none)) ∙ c.get_proc-proc.ensures) in
+    whole.leaves
+
+pub weight_of-requires-clause-rows : goal.weight_of-requires-clause-rows
+weight_of-requires-clause-rows c = long_proc c.args.objects.now.heap _ c.get_proc-proc.result.now c.requires.whole c.get_proc-proc.ensures
 
 pub weight_of-requires-clause-groups : goal.weight_of-requires-clause-groups
 unfolding none

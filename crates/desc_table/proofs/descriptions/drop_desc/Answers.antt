@@ -47,7 +47,7 @@ returns-then-found-gt1-clause-owners c = λ hand owners.
     let same = OwnsItsObjects-along c.args.heap.now (described c.args.heap.now left) refl refl refl refl refl refl c.requires.owned in
     owners_dropped c.args.heap.now c.name_less.new.heap hand c.args.desc c.get_desc-found.result.now c.get_desc-found.ensures c.requires.there
     (drops_more c.args.heap.now c.name_less.new.heap c.args.desc c.get_desc-found.result.now (omega arith) c.name_less.ensures.left)
-    (ap (λ (h : Heap). h.procs) c.name_less.ensures.left) (subst (λ (h : Heap). OwnsItsObjects h) (sym c.name_less.ensures.left) same) owners
+    (ap (λ (h : Heap). h.procs) c.name_less.ensures.left) (ap (λ (h : Heap). h.leaves) c.name_less.ensures.left) (subst (λ (h : Heap). OwnsItsObjects h) (sym c.name_less.ensures.left) same) owners
 
 -- ---- no other does
 
@@ -111,7 +111,7 @@ returns-clause-owners c = λ hand owners.
     owners_dropped c.args.heap.now c.close_target.new.heap hand c.args.desc c.get_desc-found.result.now c.get_desc-found.ensures there
     (last_drops c.args.heap.now c.free_desc-gone.new.self c.close_target.new.heap c.args.desc c.get_desc-found.result.now (omega (arith, alike, there.named))
     c.free_desc-gone.ensures.kept c.close_target.ensures.descs c.close_target.ensures.closes)
-    (ap (λ (h : Heap). h.procs) kept) c.close_target.ensures.owned owners
+    (ap (λ (h : Heap). h.procs) kept) (ap (λ (h : Heap). h.leaves) kept) c.close_target.ensures.owned owners
 
 pub returns-clause-takes : goal.returns-clause-takes
 returns-clause-takes c =

@@ -1,11 +1,13 @@
-use Rattle.std.proofs.Common.{◌≡◌, None, refl, subst, sym, w64}
+use Rattle.std.proofs.Common.{◌≡◌, None, arith, of_z, refl, subst, sym, to_z, w64}
 use Rattle.std.proofs.lemmas.Int.{to_z-of_z}
 use Rattle.kabi_types.specs.declared.calls.Call.TheVariants as call
 use Rattle.posix_defs.specs.Calls.OnDescriptors.{dup2}
 use Rattle.posix_defs.specs.Answer.{replied}
 use Rattle.posix_defs.specs.Calls.Opened.{opened_at}
+use Rattle.posix_defs.specs.Needs.{bound}
 use Rattle.posix_defs.specs.Plain.{with_files}
 use Rattle.posix_defs.specs.Reaching.{is_on_node}
+use Rattle.posix_defs.specs.Sizes.{reserve}
 use Rattle.proc_files.specs.Holding.{HoldSome}
 use Rattle.proc_files.specs.NameAnswering.{AnswersNaming}
 use Rattle.proc_numbers.specs.Answering.{node_replaced, value_of}
@@ -13,8 +15,8 @@ use Rattle.store_objects.proofs.Replying.{no_frames}
 use Rattle.store_objects.specs.Trees.{others_in}
 use Rattle.store_objects.proofs.StoreFiles.{holds_names}
 use Rattle.store_objects.proofs.Keeping.{listed_in}
-use Rattle.store_objects.proofs.Paying.{uses_nothing, uses_then, uses_more}
-use Rattle.store_objects.proofs.Within.{within_same}
+use Rattle.store_objects.proofs.Paying.{uses_both, uses_nothing, uses_paid}
+use Rattle.store_objects.proofs.Within.{within_turns}
 use Rattle.file_calls.proofs.CallingOpens.{holds_some_names, kept_mid, mid, runs_mid, serves_naming}
 use Rattle.file_calls.proofs.Purses.{can_pay, may_close, uses_back, room_kept}
 use Rattle.file_calls.proofs.Reached.{leaves_numbers, second_off, stays_replaced}
@@ -53,10 +55,13 @@ pub returns-clause-uses : goal.returns-clause-uses
 returns-clause-uses c =
     let n = c.dup_number-made in
     let purse = c.kept_back-back in
-    uses_more c.args.objects.now.heap c.go_on.new.objects.heap _ _
-    (uses_then c.args.objects.now.heap n.new.heap c.go_on.new.objects.heap _
-    (uses_back c.args.objects.now.heap n.new.heap purse.result n.new.back n.ensures.same purse.ensures.bytes n.ensures.paid)
-    (uses_nothing n.new.heap c.go_on.new.objects.heap 0 _ c.go_on.ensures.takes))
+    let old = c.args.objects.now.heap in
+    let pays = n.ensures.paid in
+    let bytes = bound (call.Dup2 c.args.on.now.fd c.args.to) in
+    let closes = uses_back old pays.mid purse.result purse.result refl purse.ensures.bytes pays.closes in
+    let opens = uses_paid pays.mid n.new.heap c.args.purse.now n.new.purse bytes reserve pays.opens c.requires.paid_by in
+    let ends = uses_nothing n.new.heap c.go_on.new.objects.heap 0 reserve c.go_on.ensures.takes in
+    uses_both old n.new.heap c.go_on.new.objects.heap bytes 0 bytes reserve (uses_both old pays.mid n.new.heap 0 bytes bytes reserve closes opens (omega arith)) ends (omega arith)
 
 pub returns-clause-does : goal.returns-clause-does
 returns-clause-does c =
@@ -72,8 +77,8 @@ returns-clause-does c =
     let one : HoldSome n.new.heap old.procs n.new.tree = record { numbers = some.numbers; others = some.others; files = some.files; hold = some.hold.held } in
     serves_naming script old n.new.heap n.new.tree n.new.names pid c.args.caller.now.control kept c.requires.runs n.ensures.changes n.ensures.listed n.ensures.owners some.hold.bound n.ensures.places one
     which said c.go_on.result c.go_on.new.objects (λ plain. dup2 script plain pid c.args.on.now.fd c.args.to) c.heap_is_well_formed.ensures
-    (within_same old (mid script old n.new.heap n.new.tree n.new.names pid c.args.caller.now.control kept c.requires.runs n.ensures.changes n.ensures.listed n.ensures.owners some.hold.bound n.ensures.places one)
-    c.kept_back-back.result n.new.back which n.ensures.paid n.ensures.same n.ensures.reads)
+    (within_turns old (mid script old n.new.heap n.new.tree n.new.names pid c.args.caller.now.control kept c.requires.runs n.ensures.changes n.ensures.listed n.ensures.owners some.hold.bound n.ensures.places one)
+    n.ensures.paid.mid c.kept_back-back.result c.args.purse.now n.new.purse which n.ensures.paid.closes n.ensures.paid.opens n.ensures.spent n.ensures.reads)
     n.ensures.queues c.go_on.ensures.told c.go_on.ensures.goes (no_frames which (λ frames pid value. refl) pid said)
     (λ numbers others plain hold.
     subst (AnswersNaming numbers others n.new.heap old.procs n.new.tree n.new.names script plain pid (dup2 script plain pid c.args.on.now.fd c.args.to)) (sym c.value.ensures)

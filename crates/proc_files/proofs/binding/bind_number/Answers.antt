@@ -161,7 +161,7 @@ returns-clause-answers c = λ numbers others script plain hold works.
 
 pub returns-clause-listed : goal.returns-clause-listed
 returns-clause-listed c =
-    listed_on c.bind_name.new.heap c.give_name.new.heap c.args.procs.now (ap (λ (h : Heap). h.procs) c.give_name.ensures.change.others.kept)
+    listed_on c.bind_name.new.heap c.give_name.new.heap c.args.procs.now (ap (λ (h : Heap). h.procs) c.give_name.ensures.change.others.kept) (ap (λ (h : Heap). h.leaves) c.give_name.ensures.change.others.kept)
     (listed_beside c.args.heap.now c.bind_name.new.heap c.bind_name.ensures.pays.only c.args.procs.now c.requires.listed)
 
 pub returns-clause-owners : goal.returns-clause-owners

@@ -24,7 +24,7 @@ unname_going-requires-clause-there c = c.requires.opened.there
 
 pub close_one-requires-clause-listed : goal.close_one-requires-clause-listed
 close_one-requires-clause-listed c =
-    listed_on c.args.heap.now c.unname_going.new.heap c.args.procs.now (ap (λ (h : Heap). h.procs) c.unname_going.ensures.beside) c.requires.listed
+    listed_on c.args.heap.now c.unname_going.new.heap c.args.procs.now (ap (λ (h : Heap). h.procs) c.unname_going.ensures.beside) (ap (λ (h : Heap). h.leaves) c.unname_going.ensures.beside) c.requires.listed
 
 pub close_one-requires-clause-number : goal.close_one-requires-clause-number
 close_one-requires-clause-number c = c.requires.opened.number.1
@@ -33,7 +33,7 @@ close_one-requires-clause-number c = c.requires.opened.number.1
 
 pub returns-in_default-clause-closed : goal.returns-in_default-clause-closed
 returns-in_default-clause-closed c = λ numbers others files hold.
-    let listed = (listed_on c.args.heap.now c.unname_going.new.heap c.args.procs.now (ap (λ (h : Heap). h.procs) c.unname_going.ensures.beside) c.requires.listed) in
+    let listed = (listed_on c.args.heap.now c.unname_going.new.heap c.args.procs.now (ap (λ (h : Heap). h.procs) c.unname_going.ensures.beside) (ap (λ (h : Heap). h.leaves) c.unname_going.ensures.beside) c.requires.listed) in
     let may = (close_on c.args.heap.now c.unname_going.new.heap c.args.purse.now (record {
       vnodes = ap (λ (h : Heap). h.vnodes) c.unname_going.ensures.beside;
       names = ap (λ (h : Heap). h.names) c.unname_going.ensures.beside;
@@ -49,7 +49,7 @@ returns-in_default-clause-closed c = λ numbers others files hold.
 
 pub returns-in_default-clause-hold : goal.returns-in_default-clause-hold
 returns-in_default-clause-hold c =
-    let listed = (listed_on c.args.heap.now c.unname_going.new.heap c.args.procs.now (ap (λ (h : Heap). h.procs) c.unname_going.ensures.beside) c.requires.listed) in
+    let listed = (listed_on c.args.heap.now c.unname_going.new.heap c.args.procs.now (ap (λ (h : Heap). h.procs) c.unname_going.ensures.beside) (ap (λ (h : Heap). h.leaves) c.unname_going.ensures.beside) c.requires.listed) in
     let may = (close_on c.args.heap.now c.unname_going.new.heap c.args.purse.now (record {
       vnodes = ap (λ (h : Heap). h.vnodes) c.unname_going.ensures.beside;
       names = ap (λ (h : Heap). h.names) c.unname_going.ensures.beside;
@@ -80,7 +80,7 @@ returns-in_default-clause-queues c =
 
 pub returns-in_default-clause-may : goal.returns-in_default-clause-may
 returns-in_default-clause-may c =
-    let listed = (listed_on c.args.heap.now c.unname_going.new.heap c.args.procs.now (ap (λ (h : Heap). h.procs) c.unname_going.ensures.beside) c.requires.listed) in
+    let listed = (listed_on c.args.heap.now c.unname_going.new.heap c.args.procs.now (ap (λ (h : Heap). h.procs) c.unname_going.ensures.beside) (ap (λ (h : Heap). h.leaves) c.unname_going.ensures.beside) c.requires.listed) in
     let may = (close_on c.args.heap.now c.unname_going.new.heap c.args.purse.now (record {
       vnodes = ap (λ (h : Heap). h.vnodes) c.unname_going.ensures.beside;
       names = ap (λ (h : Heap). h.names) c.unname_going.ensures.beside;
@@ -104,7 +104,7 @@ returns-in_default-clause-cached c =
 
 pub close_node-requires-clause-stands : goal.close_node-requires-clause-stands
 close_node-requires-clause-stands c =
-    let listed = (listed_on c.args.heap.now c.unname_going.new.heap c.args.procs.now (ap (λ (h : Heap). h.procs) c.unname_going.ensures.beside) c.requires.listed) in
+    let listed = (listed_on c.args.heap.now c.unname_going.new.heap c.args.procs.now (ap (λ (h : Heap). h.procs) c.unname_going.ensures.beside) (ap (λ (h : Heap). h.leaves) c.unname_going.ensures.beside) c.requires.listed) in
     let may = (close_on c.args.heap.now c.unname_going.new.heap c.args.purse.now (record {
       vnodes = ap (λ (h : Heap). h.vnodes) c.unname_going.ensures.beside;
       names = ap (λ (h : Heap). h.names) c.unname_going.ensures.beside;
@@ -120,7 +120,7 @@ close_node-requires-clause-stands c =
 
 pub close_node-requires-clause-fills : goal.close_node-requires-clause-fills
 close_node-requires-clause-fills c =
-    let listed = (listed_on c.args.heap.now c.unname_going.new.heap c.args.procs.now (ap (λ (h : Heap). h.procs) c.unname_going.ensures.beside) c.requires.listed) in
+    let listed = (listed_on c.args.heap.now c.unname_going.new.heap c.args.procs.now (ap (λ (h : Heap). h.procs) c.unname_going.ensures.beside) (ap (λ (h : Heap). h.leaves) c.unname_going.ensures.beside) c.requires.listed) in
     let may = (close_on c.args.heap.now c.unname_going.new.heap c.args.purse.now (record {
       vnodes = ap (λ (h : Heap). h.vnodes) c.unname_going.ensures.beside;
       names = ap (λ (h : Heap). h.names) c.unname_going.ensures.beside;
@@ -132,7 +132,7 @@ close_node-requires-clause-fills c =
 
 pub returns-clause-closed : goal.returns-clause-closed
 returns-clause-closed c = λ numbers others files hold.
-    let listed = (listed_on c.args.heap.now c.unname_going.new.heap c.args.procs.now (ap (λ (h : Heap). h.procs) c.unname_going.ensures.beside) c.requires.listed) in
+    let listed = (listed_on c.args.heap.now c.unname_going.new.heap c.args.procs.now (ap (λ (h : Heap). h.procs) c.unname_going.ensures.beside) (ap (λ (h : Heap). h.leaves) c.unname_going.ensures.beside) c.requires.listed) in
     let may = (close_on c.args.heap.now c.unname_going.new.heap c.args.purse.now (record {
       vnodes = ap (λ (h : Heap). h.vnodes) c.unname_going.ensures.beside;
       names = ap (λ (h : Heap). h.names) c.unname_going.ensures.beside;
@@ -148,7 +148,7 @@ returns-clause-closed c = λ numbers others files hold.
 
 pub returns-clause-hold : goal.returns-clause-hold
 returns-clause-hold c =
-    let listed = (listed_on c.args.heap.now c.unname_going.new.heap c.args.procs.now (ap (λ (h : Heap). h.procs) c.unname_going.ensures.beside) c.requires.listed) in
+    let listed = (listed_on c.args.heap.now c.unname_going.new.heap c.args.procs.now (ap (λ (h : Heap). h.procs) c.unname_going.ensures.beside) (ap (λ (h : Heap). h.leaves) c.unname_going.ensures.beside) c.requires.listed) in
     let may = (close_on c.args.heap.now c.unname_going.new.heap c.args.purse.now (record {
       vnodes = ap (λ (h : Heap). h.vnodes) c.unname_going.ensures.beside;
       names = ap (λ (h : Heap). h.names) c.unname_going.ensures.beside;
@@ -188,7 +188,7 @@ returns-clause-queues c =
 
 pub returns-clause-same : goal.returns-clause-same
 returns-clause-same c =
-    let listed = (listed_on c.args.heap.now c.unname_going.new.heap c.args.procs.now (ap (λ (h : Heap). h.procs) c.unname_going.ensures.beside) c.requires.listed) in
+    let listed = (listed_on c.args.heap.now c.unname_going.new.heap c.args.procs.now (ap (λ (h : Heap). h.procs) c.unname_going.ensures.beside) (ap (λ (h : Heap). h.leaves) c.unname_going.ensures.beside) c.requires.listed) in
     let may = (close_on c.args.heap.now c.unname_going.new.heap c.args.purse.now (record {
       vnodes = ap (λ (h : Heap). h.vnodes) c.unname_going.ensures.beside;
       names = ap (λ (h : Heap). h.names) c.unname_going.ensures.beside;
@@ -200,7 +200,7 @@ returns-clause-same c =
 
 pub returns-clause-may : goal.returns-clause-may
 returns-clause-may c =
-    let listed = (listed_on c.args.heap.now c.unname_going.new.heap c.args.procs.now (ap (λ (h : Heap). h.procs) c.unname_going.ensures.beside) c.requires.listed) in
+    let listed = (listed_on c.args.heap.now c.unname_going.new.heap c.args.procs.now (ap (λ (h : Heap). h.procs) c.unname_going.ensures.beside) (ap (λ (h : Heap). h.leaves) c.unname_going.ensures.beside) c.requires.listed) in
     let may = (close_on c.args.heap.now c.unname_going.new.heap c.args.purse.now (record {
       vnodes = ap (λ (h : Heap). h.vnodes) c.unname_going.ensures.beside;
       names = ap (λ (h : Heap). h.names) c.unname_going.ensures.beside;
@@ -226,6 +226,6 @@ returns-clause-cached c =
 
 pub returns-clause-stays : goal.returns-clause-stays
 returns-clause-stays c = λ none.
-    let listed = (listed_on c.args.heap.now c.unname_going.new.heap c.args.procs.now (ap (λ (h : Heap). h.procs) c.unname_going.ensures.beside) c.requires.listed) in
+    let listed = (listed_on c.args.heap.now c.unname_going.new.heap c.args.procs.now (ap (λ (h : Heap). h.procs) c.unname_going.ensures.beside) (ap (λ (h : Heap). h.leaves) c.unname_going.ensures.beside) c.requires.listed) in
     let node = (node_of_number c.unname_going.new.heap c.close_one.new.heap c.args.procs.now c.args.place.pid c.args.found.now.number c.close_one.result listed c.close_one.ensures.closes c.close_one.ensures.node) in
     absurd (let both : Some c.in-Some.node ≡ None = sym c.in-Some.is ∙ node ∙ (ap (λ (h : Heap). node_closed h.descs (named_at h c.args.procs.now c.args.place.pid c.args.found.now.number)) c.unname_going.ensures.beside ∙ none) in cc)

@@ -146,7 +146,7 @@ returns-clause-answers c = λ numbers others script plain hold works.
 
 pub returns-clause-listed : goal.returns-clause-listed
 returns-clause-listed c =
-    listed_on c.find_name.new.heap c.connect.new.heap c.args.procs.now (ap (λ (h : Heap). h.procs) c.connect.ensures.others.kept)
+    listed_on c.find_name.new.heap c.connect.new.heap c.args.procs.now (ap (λ (h : Heap). h.procs) c.connect.ensures.others.kept) (ap (λ (h : Heap). h.leaves) c.connect.ensures.others.kept)
     (listed_beside c.args.heap.now c.find_name.new.heap c.find_name.ensures.looks.on.heap c.args.procs.now c.requires.listed)
 
 pub returns-clause-owners : goal.returns-clause-owners

@@ -10,7 +10,6 @@ use Rattle.proc_files.proofs.Finding.{is_at}
 use Rattle.proc_files.proofs.Endings.{marked_begins, marked_more}
 use Rattle.proc_files.proofs.NodesEnd.{goes_still, goes_then}
 use Rattle.proc_files.proofs.ending.close_marked.Goals as goal
-use Rattle.kabi_types.specs.Arguments.{most_descriptors}
 
 pub loop-fd-init : goal.loop-fd-init
 loop-fd-init c = record {
@@ -80,21 +79,21 @@ loop-fd-preserved c =
 
 pub returns-clause-closed : goal.returns-clause-closed
 returns-clause-closed c = λ numbers others files hold.
-    subst (λ n. HoldNames numbers others c.loop-fd.heap c.args.procs.now c.loop-fd.tree c.loop-fd.names (closed_where (is_marked c.args.marks.now) files c.args.place.pid n)) (let e : c.loop-fd.fd ≡ most_descriptors = omega arith in e)
+    subst (λ n. HoldNames numbers others c.loop-fd.heap c.args.procs.now c.loop-fd.tree c.loop-fd.names (closed_where (is_marked c.args.marks.now) files c.args.place.pid n)) (let e : c.loop-fd.fd ≡ c.args.below = omega arith in e)
     (c.loop-fd.invariant.closed numbers others files hold)
 
 pub returns-clause-closes : goal.returns-clause-closes
 returns-clause-closes c =
-    subst (ClosesMarked c.args.heap.now c.loop-fd.heap c.args.procs.now c.args.place.pid (is_marked c.args.marks.now)) (let e : c.loop-fd.fd ≡ most_descriptors = omega arith in e) c.loop-fd.invariant.closes
+    subst (ClosesMarked c.args.heap.now c.loop-fd.heap c.args.procs.now c.args.place.pid (is_marked c.args.marks.now)) (let e : c.loop-fd.fd ≡ c.args.below = omega arith in e) c.loop-fd.invariant.closes
 
 pub returns-clause-goes : goal.returns-clause-goes
 returns-clause-goes c = λ numbers others files hold.
-    subst (λ n. OnlyGoes files (closed_where (is_marked c.args.marks.now) files c.args.place.pid n)) (let e : c.loop-fd.fd ≡ most_descriptors = omega arith in e) (c.loop-fd.invariant.goes numbers others files hold)
+    subst (λ n. OnlyGoes files (closed_where (is_marked c.args.marks.now) files c.args.place.pid n)) (let e : c.loop-fd.fd ≡ c.args.below = omega arith in e) (c.loop-fd.invariant.goes numbers others files hold)
 
 pub returns-clause-stays : goal.returns-clause-stays
 returns-clause-stays c = λ numbers others files hold same.
     c.loop-fd.invariant.stays numbers others files hold
-    (subst (λ k. (n : ℕ) → openings (closed_where (is_marked c.args.marks.now) files c.args.place.pid k) n ≡ openings files n) (sym (let e : c.loop-fd.fd ≡ most_descriptors = omega arith in e)) same)
+    (subst (λ k. (n : ℕ) → openings (closed_where (is_marked c.args.marks.now) files c.args.place.pid k) n ≡ openings files n) (sym (let e : c.loop-fd.fd ≡ c.args.below = omega arith in e)) same)
 
 pub returns-clause-cached : goal.returns-clause-cached
 returns-clause-cached c = c.loop-fd.invariant.cached

@@ -1,6 +1,9 @@
-use Rattle.std.proofs.Common.{◌≡◌, ◌∙◌, [], length, Some, ap, refl, sym, subst, w64}
+use Rattle.std.proofs.Common.{◌≡◌, ◌<◌, ◌∙◌, [], length, Some, ap, refl, sym, subst, w64}
 use Rattle.std.proofs.lemmas.Int.{to_z-of_z}
 use Rattle.kheap_slabs.specs.Heap.{Heap}
+use Rattle.kheap_slabs.specs.Purse.{Purse}
+use Rattle.desc_table.specs.Copying.{spends_leaves}
+use Rattle.proc_numbers.proofs.NumberRooms.{spends_so}
 use Rattle.kheap_laws.proofs.PaidLemmas.{IsPaid-trans, CanPay-kept}
 use Rattle.posix_defs.specs.Calls.OnFiles.{description_for}
 use Rattle.posix_defs.specs.Files.Descriptions.{has_flag, o_cloexec}
@@ -75,19 +78,22 @@ returns-clause-queues c =
 
 pub returns-clause-paid : goal.returns-clause-paid
 returns-clause-paid c =
-    IsPaid-trans c.args.heap.now c.args.purse.now c.describe-desc.new.heap c.describe-desc.new.purse c.open_one.new.heap c.open_one.new._purse c.describe-desc.ensures.paid c.open_one.ensures.paid
+    IsPaid-trans c.args.heap.now c.args.purse.now c.describe-desc.new.heap c.describe-desc.new.purse c.open_one.new.heap c.open_one.new.purse c.describe-desc.ensures.paid c.open_one.ensures.paid
 
 pub returns-clause-fills : goal.returns-clause-fills
 returns-clause-fills c =
     let makes = c.describe-desc.ensures.makes in let names = c.open_one.ensures.names in
-    spent_fills c.args.heap.now c.open_one.new.heap c.args.purse.now c.open_one.new._purse
+    spent_fills c.args.heap.now c.open_one.new.heap c.args.purse.now c.open_one.new.purse
     (ap (λ (h : Heap). h.vnodes) names.after ∙ ap (λ (h : Heap). h.vnodes) makes.kept)
     (ap (λ (h : Heap). h.names) names.after ∙ ap (λ (h : Heap). h.names) makes.kept)
     (ap (λ (h : Heap). h.blocks) names.after ∙ ap (λ (h : Heap). h.blocks) makes.kept)
-    (c.open_one.ensures.spent ∙ c.describe-desc.ensures.spent) c.requires.fills
+    (spends_so _ c.describe-desc.new.purse c.open_one.new.purse c.open_one.ensures.spent ∙ ap (λ (p : Purse). spends_leaves p c.open_one.new.purse) c.describe-desc.ensures.spent) c.requires.fills
 
 pub returns-clause-socks : goal.returns-clause-socks
 returns-clause-socks c = ap (λ (h : Heap). h.socks) c.open_one.ensures.names.after ∙ ap (λ (h : Heap). h.socks) c.describe-desc.ensures.makes.kept
 
 pub open_one-requires-clause-pays : goal.open_one-requires-clause-pays
 open_one-requires-clause-pays c = CanPay-kept c.args.heap.now c.describe-desc.new.heap c.args.purse.now c.describe-desc.new.purse c.describe-desc.ensures.paid c.requires.pays
+
+pub open_one-requires-clause-left : goal.open_one-requires-clause-left
+open_one-requires-clause-left c = λ none. subst (λ (p : Purse). 0 < p.left.leaf) (sym c.describe-desc.ensures.spent) c.requires.left_leaf

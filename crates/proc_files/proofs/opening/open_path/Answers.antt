@@ -32,13 +32,13 @@ use Rattle.proc_files.proofs.opening.open_path.Goals as goal
 
 pub returns-in_default-clause-answers : goal.returns-in_default-clause-answers
 returns-in_default-clause-answers c = λ numbers others script plain table hold.
-    let none = no_some c.lowest_free.result c.in_default.not-Some in
+    let none = no_some c.lowest_from.result c.in_default.not-Some in
     record {
       now = numbers;
       keeps = record { descs = λ key used. refl; pipes = λ key used. refl; socks = λ key used. refl; frames = refl };
       answers = record {
         files = plain.files;
-        replies = open_full script plain c.args.place.pid c.args.path.now c.args.flags (c.lowest_free.ensures.lowest numbers plain.files hold.opened ∙ none);
+        replies = open_full script plain c.args.place.pid c.args.path.now c.args.flags (c.lowest_from.ensures.lowest numbers plain.files hold.opened ∙ none);
         holds = hold;
       };
     }
@@ -91,7 +91,7 @@ returns-in-Err-clause-answers c = λ numbers others script plain table hold.
       keeps = record { descs = λ key used. refl; pipes = λ key used. refl; socks = λ key used. refl; frames = refl };
       answers = record {
         files = plain.files;
-        replies = open_fails script plain c.args.place.pid c.args.path.now c.args.flags c.in-Some.fd (c.lowest_free.ensures.lowest numbers plain.files hold.opened ∙ c.in-Some.is) c.in-Err.errno
+        replies = open_fails script plain c.args.place.pid c.args.path.now c.args.flags c.in-Some.fd (c.lowest_from.ensures.lowest numbers plain.files hold.opened ∙ c.in-Some.is) c.in-Err.errno
             (ap (λ n. open_path plain.files.tree n c.args.path.now (opening_of c.args.flags)) cwd ∙ it.0);
         holds = it.1;
       };
@@ -144,12 +144,12 @@ pub open_new-requires-clause-owners : goal.open_new-requires-clause-owners
 open_new-requires-clause-owners c = owners_beside c.args.heap.now c.open_node.new.heap c.open_node.ensures.pays.only [] c.requires.owners
 
 pub open_new-requires-clause-number : goal.open_new-requires-clause-number
-open_new-requires-clause-number c = (subst (λ o. IfSome o (IsLowest c.args.heap.now c.args.procs.now c.args.place.pid 0)) c.in-Some.is c.lowest_free.ensures.free).0
+open_new-requires-clause-number c = (subst (λ o. IfSome o (IsLowest c.args.heap.now c.args.procs.now c.args.place.pid 0)) c.in-Some.is c.lowest_from.ensures.free).0
 
 pub open_new-requires-clause-free : goal.open_new-requires-clause-free
 open_new-requires-clause-free c =
     ap (λ (h : Heap). named_at h c.args.procs.now c.args.place.pid c.in-Some.fd) c.open_node.ensures.pays.only
-    ∙ (subst (λ o. IfSome o (IsLowest c.args.heap.now c.args.procs.now c.args.place.pid 0)) c.in-Some.is c.lowest_free.ensures.free).2
+    ∙ (subst (λ o. IfSome o (IsLowest c.args.heap.now c.args.procs.now c.args.place.pid 0)) c.in-Some.is c.lowest_from.ensures.free).2
 
 pub open_new-requires-clause-pays : goal.open_new-requires-clause-pays
 open_new-requires-clause-pays c = CanPay-kept c.args.heap.now c.open_node.new.heap c.args.purse.now c.open_node.new.purse c.open_node.ensures.pays.paid c.requires.may.pays
@@ -179,7 +179,7 @@ returns-in-Ok-clause-answers c = λ numbers others script plain table hold.
       keeps = it.keeps;
       answers = record {
         files = opened_as (with_tree plain.files it.next) c.args.place.pid c.in-Some.fd (has_flag c.args.flags o_cloexec) (description_for c.in-Ok.node c.args.flags);
-        replies = open_goes script plain c.args.place.pid c.args.path.now c.args.flags c.in-Some.fd (c.lowest_free.ensures.lowest numbers plain.files hold.opened ∙ c.in-Some.is) c.in-Ok.node it.next
+        replies = open_goes script plain c.args.place.pid c.args.path.now c.args.flags c.in-Some.fd (c.lowest_from.ensures.lowest numbers plain.files hold.opened ∙ c.in-Some.is) c.in-Ok.node it.next
             (ap (λ n. open_path plain.files.tree n c.args.path.now (opening_of c.args.flags)) cwd ∙ it.is);
         holds = it.holds;
       };
@@ -238,3 +238,6 @@ returns-in-Err-clause-socks c = same_socks c.args.heap.now c.open_node.new.heap 
 
 pub returns-in-Ok-clause-socks : goal.returns-in-Ok-clause-socks
 returns-in-Ok-clause-socks c = c.open_new.ensures.socks ∙ same_socks c.args.heap.now c.open_node.new.heap c.open_node.ensures.pays.only
+
+pub open_new-requires-clause-left_leaf : goal.open_new-requires-clause-left_leaf
+open_new-requires-clause-left_leaf c = subst (λ n. 0 < n) (sym (ap (λ (p : Purse). p.left.leaf) c.open_node.ensures.pays.purse)) c.requires.left_leaf

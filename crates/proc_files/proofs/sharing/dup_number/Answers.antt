@@ -2,8 +2,10 @@ use Rattle.std.proofs.Common.{◌≡◌, ◌∙◌, [], None, Some, true, false,
 use Rattle.std.proofs.lemmas.Int.{to_z-of_z}
 use Rattle.kabi_types.specs.Arguments.{count_of, may_be_descriptor}
 use Rattle.kabi_types.specs.declared.replies.Reply.TheVariants.{Val}
-use Rattle.kheap_laws.proofs.PaidLemmas.{IsPaid-nothing, IsPaid-trans}
+use Rattle.kheap_laws.proofs.PaidLemmas.{IsPaid-refl}
 use Rattle.kheap_slabs.specs.Heap.{Heap}
+use Rattle.kheap_slabs.specs.Paid.{IsPaid}
+use Rattle.kheap_slabs.specs.Purse.{Purse}
 use Rattle.open_laws.specs.Described.{counted_in}
 use Rattle.posix_defs.specs.Answer.{replied}
 use Rattle.posix_defs.specs.Calls.OnDescriptors.{dup2, shared_at}
@@ -112,7 +114,7 @@ share_at-requires-clause-used c =
 pub share_at-requires-clause-free : goal.share_at-requires-clause-free
 share_at-requires-clause-free c =
     let closes = c.close_at.ensures.closes in
-    let long = numbers_all c.args.heap.now closes.closes.key closes.closes.proc c.is_well_formed.ensures closes.closes.there in
+    let long = numbers_all c.args.heap.now closes.closes.key closes.closes.proc c.is_well_formed.ensures closes.closes.turns.there in
     let to = to_z-of_z w64 c.args.to c.ranges.to in
     let within : may_be_descriptor c.args.to ≡ true =
     sym (subst (λ z. c.may_be_descriptor.result ≡ may_be_descriptor z) to c.may_be_descriptor.ensures) ∙ c.if-not-may_be_descriptor.false in
@@ -179,9 +181,23 @@ returns-clause-queues c =
     (queues_same c.close_at.new.heap c.share_at.new.heap (ap (λ (h : Heap). h.pipes) c.share_at.ensures.beside) (ap (λ (h : Heap). h.socks) c.share_at.ensures.beside))
 
 pub returns-clause-paid : goal.returns-clause-paid
-returns-clause-paid c =
-    IsPaid-trans c.args.heap.now c.args.back.now c.close_at.new.heap c.close_at.new.purse c.share_at.new.heap c.close_at.new.purse c.close_at.ensures.paid
-    (IsPaid-nothing c.close_at.new.heap c.share_at.new.heap c.close_at.new.purse c.close_at.new.purse c.share_at.ensures.takes refl refl)
+returns-clause-paid c = record {
+  mid = c.close_at.new.heap;
+  closes = subst (λ (p : Purse). IsPaid c.args.heap.now c.args.back.now c.close_at.new.heap p) c.close_at.ensures.same c.close_at.ensures.paid;
+  opens = c.share_at.ensures.paid;
+}
+
+pub returns-in_default-clause-paid : goal.returns-in_default-clause-paid
+returns-in_default-clause-paid c =
+    record { mid = c.args.heap.now; closes = IsPaid-refl c.args.heap.now c.args.back.now; opens = IsPaid-refl c.args.heap.now c.args.purse.now }
+
+pub returns-then-not-may_be_descriptor-clause-paid : goal.returns-then-not-may_be_descriptor-clause-paid
+returns-then-not-may_be_descriptor-clause-paid c =
+    record { mid = c.args.heap.now; closes = IsPaid-refl c.args.heap.now c.args.back.now; opens = IsPaid-refl c.args.heap.now c.args.purse.now }
+
+pub returns-then-found-number-clause-paid : goal.returns-then-found-number-clause-paid
+returns-then-found-number-clause-paid c =
+    record { mid = c.args.heap.now; closes = IsPaid-refl c.args.heap.now c.args.back.now; opens = IsPaid-refl c.args.heap.now c.args.purse.now }
 
 pub returns-clause-stays : goal.returns-clause-stays
 returns-clause-stays c = λ none.

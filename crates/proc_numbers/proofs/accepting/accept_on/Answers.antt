@@ -26,7 +26,7 @@ accept-requires-clause-there c = socket_there c.args.heap.now [] c.args.on.key c
 -- ---- one is taken
 
 pub open_on-requires-clause-listed : goal.open_on-requires-clause-listed
-open_on-requires-clause-listed c = listed_on c.args.heap.now c.accept.new.heap c.args.procs.now (ap (λ (h : Heap). h.procs) c.in-Took.ensures.others.kept) c.requires.listed
+open_on-requires-clause-listed c = listed_on c.args.heap.now c.accept.new.heap c.args.procs.now (ap (λ (h : Heap). h.procs) c.in-Took.ensures.others.kept) (ap (λ (h : Heap). h.leaves) c.in-Took.ensures.others.kept) c.requires.listed
 
 pub open_on-requires-clause-named : goal.open_on-requires-clause-named
 open_on-requires-clause-named c =
@@ -138,3 +138,6 @@ pub returns-in-Some-clause-still : goal.returns-in-Some-clause-still
 returns-in-Some-clause-still c =
     still_on c.args.heap.now c.accept.new.heap c.open_on.new.heap c.open_on.ensures.socks
     (still_taken c.args.heap.now c.accept.new.heap c.requires.owners c.args.on.key c.in-Took.ensures.stands)
+
+pub open_on-requires-clause-left_leaf : goal.open_on-requires-clause-left_leaf
+open_on-requires-clause-left_leaf c = λ none. c.requires.left_leaf

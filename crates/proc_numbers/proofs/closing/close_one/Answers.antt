@@ -1,122 +1,169 @@
-use Rattle.std.proofs.Common.{◌≡◌, ◌∙◌, [], None, ap, refl, subst, sym}
+use Rattle.std.proofs.Common.{◌≡◌, ◌∙◌, List, [], ◌∷◌, Option, Some, None, is_some, not, ap, refl, subst, sym, arith}
 use Rattle.std.specs.Prelude.{slice_index_or}
 use Rattle.kheap_slabs.specs.Objects.{object}
-use Rattle.kheap_slabs.specs.declared.objects.Proc.{Proc}
+use Rattle.kheap_slabs.specs.declared.objects.Descriptor.{Descriptor as HeldDescriptor}
+use Rattle.kheap_slabs.specs.declared.objects.Desc.{Desc}
 use Rattle.kheap_slabs.specs.Heap.{Heap}
+use Rattle.kheap_slabs.specs.Leaves.{LeavesChange, numbers_by}
 use Rattle.kheap_laws.proofs.PaidLemmas.{TakesNothing-trans}
-use Rattle.open_laws.specs.Open.{AreOpen}
+use Rattle.open_laws.specs.Owned.{HasItsOwners, all_namings}
+use Rattle.desc_table.specs.Numbered.{names_one}
 use Rattle.posix_defs.specs.Files.State.{with_open}
-use Rattle.proc_table.specs.Procs.{numbers_in, proc_of}
-use Rattle.proc_table.specs.Table.{processes}
-use Rattle.proc_table.proofs.PlaceLemmas.{some_same}
-use Rattle.proc_numbers.specs.Having.{HaveOpen, OpensNoNode, node_closed, node_dropped}
+use Rattle.proc_table.specs.Procs.{numbers_in}
+use Rattle.proc_numbers.specs.Having.{HaveOpen, OpensNoNode, node_closed, node_dropped, places_in}
+use Rattle.proc_numbers.specs.Naming.{named_at}
 use Rattle.proc_numbers.proofs.Droppable.{is_named}
 use Rattle.proc_numbers.proofs.Fronts.{queues_dropped, queues_same, queues_then}
-use Rattle.proc_numbers.proofs.NumberCloses.{desc_between, droppable_between, have_closed, left_opens, listed_mid, listed_on, no_some, opened_mid, owners_between, same_without, unopened}
+use Rattle.proc_numbers.proofs.NumberCloses.{closes_nothing, desc_between, droppable_between, have_closed, left_opens, listed_mid, listed_on, none_of, opened_mid, owners_mid, some_of, unopened}
+use Rattle.proc_numbers.proofs.NumberOpens.{was_at}
 use Rattle.proc_numbers.proofs.closing.close_one.Goals as goal
-
-pub at-proc-requires-clause-stored : goal.at-proc-requires-clause-stored
-at-proc-requires-clause-stored c = c.requires.listed.stored
 
 -- ---- it isn't open
 
-pub returns-in_default-clause-closed : goal.returns-in_default-clause-closed
-returns-in_default-clause-closed c = λ numbers files have.
-    let none = no_some (slice_index_or (numbers_in c.args.heap.now c.at-proc.result.now) c.args.fd None) c.in_default.not-Some in
-    subst (HaveOpen numbers c.args.heap.now c.args.procs.now)
-    (sym (unopened numbers c.args.heap.now c.args.procs.now files c.args.place.pid c.args.fd c.args.place.key c.at-proc.result.now c.requires.listed c.requires.there c.at-proc.ensures.kept none have))
-    have
+pub returns-then-is_none-clause-closed : goal.returns-then-is_none-clause-closed
+returns-then-is_none-clause-closed c =
+    λ numbers files have.
+    let none : named_at c.args.heap.now c.args.procs.now c.args.place.pid c.args.fd ≡ None = sym c.named_at.ensures ∙ none_of c.named_at.result (ap not c.is_none.ensures ∙ ap (λ b. not (not b)) c.if-is_none.true) in
+    subst (HaveOpen numbers c.args.heap.now c.args.procs.now) (sym (unopened numbers c.args.heap.now c.args.procs.now files c.args.place.pid c.args.fd none have)) have
 
-pub returns-in_default-clause-closes : goal.returns-in_default-clause-closes
-returns-in_default-clause-closes c =
-    let none = no_some (slice_index_or (numbers_in c.args.heap.now c.at-proc.result.now) c.args.fd None) c.in_default.not-Some in
-    record {
-      key = c.args.place.key;
-      proc = c.at-proc.result.now;
-      named = c.requires.there;
-      there = c.at-proc.ensures.kept;
-      procs = same_without c.args.heap.now.procs c.args.place.key c.args.fd c.at-proc.result.now c.at-proc.ensures.kept none;
-      beside = refl;
-    }
+pub returns-then-is_none-clause-closes : goal.returns-then-is_none-clause-closes
+returns-then-is_none-clause-closes c =
+    let none : named_at c.args.heap.now c.args.procs.now c.args.place.pid c.args.fd ≡ None = sym c.named_at.ensures ∙ none_of c.named_at.result (ap not c.is_none.ensures ∙ ap (λ b. not (not b)) c.if-is_none.true) in
+    closes_nothing c.args.heap.now c.args.procs.now c.args.place.pid c.args.fd c.args.place.key c.requires.listed c.requires.there none
 
-pub returns-in_default-clause-node : goal.returns-in_default-clause-node
-returns-in_default-clause-node c = λ proc found.
-    let here = c.at-proc.result.now in
-    let none = no_some (slice_index_or (numbers_in c.args.heap.now here) c.args.fd None) c.in_default.not-Some in
-    let same : proc ≡ here = some_same (proc_of (processes c.args.heap.now c.args.procs.now) c.args.place.pid) proc here found
-    c.at-proc.ensures.found in
-    sym (ap (node_closed c.args.heap.now.descs) (ap (λ (p : Proc). slice_index_or (numbers_in c.args.heap.now p) c.args.fd None) same ∙ none))
+pub returns-then-is_none-clause-node : goal.returns-then-is_none-clause-node
+returns-then-is_none-clause-node c =
+    λ proc found.
+    let none : named_at c.args.heap.now c.args.procs.now c.args.place.pid c.args.fd ≡ None = sym c.named_at.ensures ∙ none_of c.named_at.result (ap not c.is_none.ensures ∙ ap (λ b. not (not b)) c.if-is_none.true) in
+    sym (ap (node_closed c.args.heap.now.descs) (sym (ap (λ o. slice_index_or (places_in (numbers_in c.args.heap.now) o) c.args.fd None) found) ∙ none))
+
+pub returns-then-is_none-clause-queues : goal.returns-then-is_none-clause-queues
+returns-then-is_none-clause-queues c =
+    queues_same c.args.heap.now c.args.heap.now refl refl
 
 -- ---- it is
 
+pub clear_number-desc-requires-clause-is_open : goal.clear_number-desc-requires-clause-is_open
+clear_number-desc-requires-clause-is_open c =
+    let opened = some_of c.named_at.result (ap not c.is_none.ensures ∙ ap (λ b. not (not b)) c.if-is_none.false) in
+    ap is_some (sym c.named_at.ensures ∙ opened.1)
+
 pub drop_desc-requires-clause-owned : goal.drop_desc-requires-clause-owned
 drop_desc-requires-clause-owned c =
-    let owners = owners_between c.args.heap.now c.args.procs.now c.args.place.pid c.args.fd c.args.place.key c.at-proc.result.now c.in-Some.descriptor c.requires.listed
-    c.requires.there c.at-proc.ensures.kept c.in-Some.is c.set_proc.new.self c.set_proc.ensures.kept c.requires.owners in
+    let opened = some_of c.named_at.result (ap not c.is_none.ensures ∙ ap (λ b. not (not b)) c.if-is_none.false) in
+    let is : named_at c.args.heap.now c.args.procs.now c.args.place.pid c.args.fd ≡ Some (record { desc = c.clear_number-desc.result; close_on_exec = opened.0.close_on_exec }) =
+    sym c.named_at.ensures ∙ opened.1 ∙ ap (λ key. Some (record { desc = key; close_on_exec = opened.0.close_on_exec })) (sym (c.clear_number-desc.ensures.named opened.0 (sym c.named_at.ensures ∙ opened.1))) in
+    let held : HeldDescriptor = record { desc = c.clear_number-desc.result; close_on_exec = opened.0.close_on_exec } in
+    let at = sym (was_at c.args.heap.now c.clear_number-desc.new.heap c.args.procs.now c.args.place.pid c.args.fd None c.requires.listed c.clear_number-desc.ensures.turns) ∙ is in
+    let owners : HasItsOwners c.clear_number-desc.new.heap (c.clear_number-desc.result ∷ []) = owners_mid c.args.heap.now c.clear_number-desc.new.heap c.args.procs.now c.args.place.pid c.args.fd held c.requires.listed c.clear_number-desc.ensures.turns at c.requires.owners in
     owners.objects
 
 pub drop_desc-requires-clause-there : goal.drop_desc-requires-clause-there
 drop_desc-requires-clause-there c =
-    droppable_between c.args.heap.now c.args.procs.now c.args.place.pid c.args.fd c.args.place.key c.at-proc.result.now c.in-Some.descriptor c.requires.listed
-    c.requires.there c.at-proc.ensures.kept c.in-Some.is c.set_proc.new.self c.set_proc.ensures.kept c.requires.owners
+    let opened = some_of c.named_at.result (ap not c.is_none.ensures ∙ ap (λ b. not (not b)) c.if-is_none.false) in
+    let is : named_at c.args.heap.now c.args.procs.now c.args.place.pid c.args.fd ≡ Some (record { desc = c.clear_number-desc.result; close_on_exec = opened.0.close_on_exec }) =
+    sym c.named_at.ensures ∙ opened.1 ∙ ap (λ key. Some (record { desc = key; close_on_exec = opened.0.close_on_exec })) (sym (c.clear_number-desc.ensures.named opened.0 (sym c.named_at.ensures ∙ opened.1))) in
+    let held : HeldDescriptor = record { desc = c.clear_number-desc.result; close_on_exec = opened.0.close_on_exec } in
+    let at = sym (was_at c.args.heap.now c.clear_number-desc.new.heap c.args.procs.now c.args.place.pid c.args.fd None c.requires.listed c.clear_number-desc.ensures.turns) ∙ is in
+    droppable_between c.args.heap.now c.clear_number-desc.new.heap c.args.procs.now c.args.place.pid c.args.fd held c.requires.listed c.clear_number-desc.ensures.turns at c.requires.owners
 
 pub returns-clause-closed : goal.returns-clause-closed
-returns-clause-closed c = λ numbers files have.
-    let named = c.requires.there in
-    have_closed c.args.heap.now c.args.procs.now c.args.place.pid c.args.fd c.args.place.key c.at-proc.result.now c.in-Some.descriptor c.requires.listed
-    named c.at-proc.ensures.kept c.in-Some.is numbers files have c.requires.owners c.drop_desc.new.heap
-    (ap (λ (h : Heap). h.procs) c.drop_desc.ensures.kept ∙ ap (λ (h : Heap). h.procs) c.set_proc.ensures.kept)
-    (c.drop_desc.ensures.opened numbers have.list (with_open files c.args.place.pid c.args.fd None)
-    (subst (λ (h : Heap). AreOpen numbers h have.list (with_open files c.args.place.pid c.args.fd None)) (sym c.set_proc.ensures.kept)
-    (opened_mid c.args.heap.now c.args.procs.now c.args.place.pid c.args.fd c.args.place.key c.at-proc.result.now c.in-Some.descriptor c.requires.listed
-    named c.at-proc.ensures.kept c.in-Some.is numbers files have c.requires.owners)))
+returns-clause-closed c =
+    λ numbers files have.
+    let opened = some_of c.named_at.result (ap not c.is_none.ensures ∙ ap (λ b. not (not b)) c.if-is_none.false) in
+    let is : named_at c.args.heap.now c.args.procs.now c.args.place.pid c.args.fd ≡ Some (record { desc = c.clear_number-desc.result; close_on_exec = opened.0.close_on_exec }) =
+    sym c.named_at.ensures ∙ opened.1 ∙ ap (λ key. Some (record { desc = key; close_on_exec = opened.0.close_on_exec })) (sym (c.clear_number-desc.ensures.named opened.0 (sym c.named_at.ensures ∙ opened.1))) in
+    let held : HeldDescriptor = record { desc = c.clear_number-desc.result; close_on_exec = opened.0.close_on_exec } in
+    let at = sym (was_at c.args.heap.now c.clear_number-desc.new.heap c.args.procs.now c.args.place.pid c.args.fd None c.requires.listed c.clear_number-desc.ensures.turns) ∙ is in
+    have_closed c.args.heap.now c.clear_number-desc.new.heap c.args.procs.now c.args.place.pid c.args.fd held c.requires.listed c.clear_number-desc.ensures.turns at numbers files have c.requires.owners c.drop_desc.new.heap
+    (ap (λ (h : Heap). h.procs) c.drop_desc.ensures.kept) (ap (λ (h : Heap). h.leaves) c.drop_desc.ensures.kept)
+    (c.drop_desc.ensures.opened numbers have.list (with_open files c.args.place.pid c.args.fd None) (opened_mid c.args.heap.now c.clear_number-desc.new.heap c.args.procs.now c.args.place.pid c.args.fd held c.requires.listed c.clear_number-desc.ensures.turns at numbers files have c.requires.owners))
 
 pub returns-clause-listed : goal.returns-clause-listed
 returns-clause-listed c =
-    let mid = listed_mid c.args.heap.now c.args.procs.now c.args.place.pid c.args.fd c.args.place.key c.at-proc.result.now c.in-Some.descriptor c.requires.listed
-    c.requires.there c.at-proc.ensures.kept c.in-Some.is in
-    listed_on _ c.drop_desc.new.heap c.args.procs.now
-    (ap (λ (h : Heap). h.procs) c.drop_desc.ensures.kept ∙ ap (λ (h : Heap). h.procs) c.set_proc.ensures.kept) mid
+    let opened = some_of c.named_at.result (ap not c.is_none.ensures ∙ ap (λ b. not (not b)) c.if-is_none.false) in
+    let is : named_at c.args.heap.now c.args.procs.now c.args.place.pid c.args.fd ≡ Some (record { desc = c.clear_number-desc.result; close_on_exec = opened.0.close_on_exec }) =
+    sym c.named_at.ensures ∙ opened.1 ∙ ap (λ key. Some (record { desc = key; close_on_exec = opened.0.close_on_exec })) (sym (c.clear_number-desc.ensures.named opened.0 (sym c.named_at.ensures ∙ opened.1))) in
+    let held : HeldDescriptor = record { desc = c.clear_number-desc.result; close_on_exec = opened.0.close_on_exec } in
+    let at = sym (was_at c.args.heap.now c.clear_number-desc.new.heap c.args.procs.now c.args.place.pid c.args.fd None c.requires.listed c.clear_number-desc.ensures.turns) ∙ is in
+    listed_on c.clear_number-desc.new.heap c.drop_desc.new.heap c.args.procs.now (ap (λ (h : Heap). h.procs) c.drop_desc.ensures.kept) (ap (λ (h : Heap). h.leaves) c.drop_desc.ensures.kept)
+    (listed_mid c.args.heap.now c.clear_number-desc.new.heap c.args.procs.now c.args.place.pid c.args.fd held c.requires.listed c.clear_number-desc.ensures.turns at)
 
 pub returns-clause-owners : goal.returns-clause-owners
 returns-clause-owners c =
-    c.drop_desc.ensures.owners []
-    (owners_between c.args.heap.now c.args.procs.now c.args.place.pid c.args.fd c.args.place.key c.at-proc.result.now c.in-Some.descriptor c.requires.listed
-    c.requires.there c.at-proc.ensures.kept c.in-Some.is c.set_proc.new.self c.set_proc.ensures.kept c.requires.owners)
+    let opened = some_of c.named_at.result (ap not c.is_none.ensures ∙ ap (λ b. not (not b)) c.if-is_none.false) in
+    let is : named_at c.args.heap.now c.args.procs.now c.args.place.pid c.args.fd ≡ Some (record { desc = c.clear_number-desc.result; close_on_exec = opened.0.close_on_exec }) =
+    sym c.named_at.ensures ∙ opened.1 ∙ ap (λ key. Some (record { desc = key; close_on_exec = opened.0.close_on_exec })) (sym (c.clear_number-desc.ensures.named opened.0 (sym c.named_at.ensures ∙ opened.1))) in
+    let held : HeldDescriptor = record { desc = c.clear_number-desc.result; close_on_exec = opened.0.close_on_exec } in
+    let at = sym (was_at c.args.heap.now c.clear_number-desc.new.heap c.args.procs.now c.args.place.pid c.args.fd None c.requires.listed c.clear_number-desc.ensures.turns) ∙ is in
+    c.drop_desc.ensures.owners [] (owners_mid c.args.heap.now c.clear_number-desc.new.heap c.args.procs.now c.args.place.pid c.args.fd held c.requires.listed c.clear_number-desc.ensures.turns at c.requires.owners)
+
+pub returns-clause-closes : goal.returns-clause-closes
+returns-clause-closes c =
+    let turns = c.clear_number-desc.ensures.turns in
+    let both = c.drop_desc.ensures.kept ∙ ap (λ (h : Heap). record h { descs = c.drop_desc.new.heap.descs; pipes = c.drop_desc.new.heap.pipes; chunks = c.drop_desc.new.heap.chunks; socks = c.drop_desc.new.heap.socks }) turns.after in
+    let procs : c.drop_desc.new.heap.procs ≡ c.clear_number-desc.new.heap.procs = ap (λ (h : Heap). h.procs) c.drop_desc.ensures.kept in
+    let leaves : c.drop_desc.new.heap.leaves ≡ c.clear_number-desc.new.heap.leaves = ap (λ (h : Heap). h.leaves) c.drop_desc.ensures.kept in
+    record {
+      key = turns.key;
+      proc = turns.proc;
+      now = turns.now;
+      turns = record {
+        found = turns.turns.found;
+        there = turns.turns.there;
+        same = turns.turns.same;
+        procs = procs ∙ turns.turns.procs;
+        leaves = subst (λ l. LeavesChange c.args.heap.now.leaves l turns.proc.leaves turns.now.leaves) (sym leaves) turns.turns.leaves;
+      };
+      numbers = ap (λ l. numbers_by l turns.now.descriptors turns.now.leaves) leaves ∙ turns.numbers;
+      namings = λ other.
+          let moved = turns.namings other in
+          let none : names_one other None ≡ 0 = refl in
+          let same = ap (λ (h : Heap). all_namings h other) c.drop_desc.ensures.kept in
+          omega (arith, moved, none, same);
+      beside =
+          subst (λ (h : Heap). h ≡ record c.args.heap.now { procs = h.procs; leaves = h.leaves; descs = h.descs; pipes = h.pipes; chunks = h.chunks; socks = h.socks; high = h.high }) (sym both) refl
+          ∙ ap (λ n. record c.args.heap.now { procs = c.drop_desc.new.heap.procs; leaves = c.drop_desc.new.heap.leaves; descs = c.drop_desc.new.heap.descs; pipes = c.drop_desc.new.heap.pipes; chunks = c.drop_desc.new.heap.chunks; socks = c.drop_desc.new.heap.socks; high = n })
+          (ap (λ (h : Heap). h.high) c.drop_desc.ensures.kept ∙ c.clear_number-desc.ensures.takes.high);
+    }
 
 pub returns-clause-node : goal.returns-clause-node
-returns-clause-node c = λ proc found.
-    let here = c.at-proc.result.now in
-    let named = c.requires.there in
-    let same : proc ≡ here = some_same (proc_of (processes c.args.heap.now c.args.procs.now) c.args.place.pid) proc here found
-    c.at-proc.ensures.found in
-    let desc = desc_between c.args.heap.now c.args.procs.now c.args.place.pid c.args.fd c.args.place.key here c.in-Some.descriptor c.requires.listed
-    named c.at-proc.ensures.kept c.in-Some.is c.set_proc.new.self c.set_proc.ensures.kept c.requires.owners in
-    c.drop_desc.ensures.node desc.0 desc.1
-    ∙ sym (ap (node_closed c.args.heap.now.descs) (ap (λ (p : Proc). slice_index_or (numbers_in c.args.heap.now p) c.args.fd None) same ∙ c.in-Some.is)
-    ∙ ap node_dropped (sym (ap (λ (h : Heap). object h.descs c.in-Some.descriptor.desc) c.set_proc.ensures.kept) ∙ desc.1))
+returns-clause-node c =
+    λ proc found.
+    let opened = some_of c.named_at.result (ap not c.is_none.ensures ∙ ap (λ b. not (not b)) c.if-is_none.false) in
+    let is : named_at c.args.heap.now c.args.procs.now c.args.place.pid c.args.fd ≡ Some (record { desc = c.clear_number-desc.result; close_on_exec = opened.0.close_on_exec }) =
+    sym c.named_at.ensures ∙ opened.1 ∙ ap (λ key. Some (record { desc = key; close_on_exec = opened.0.close_on_exec })) (sym (c.clear_number-desc.ensures.named opened.0 (sym c.named_at.ensures ∙ opened.1))) in
+    let held : HeldDescriptor = record { desc = c.clear_number-desc.result; close_on_exec = opened.0.close_on_exec } in
+    let at = sym (was_at c.args.heap.now c.clear_number-desc.new.heap c.args.procs.now c.args.place.pid c.args.fd None c.requires.listed c.clear_number-desc.ensures.turns) ∙ is in
+    let desc = desc_between c.args.heap.now c.clear_number-desc.new.heap c.args.procs.now c.args.place.pid c.args.fd held c.requires.listed c.clear_number-desc.ensures.turns at c.requires.owners in
+    let slot : slice_index_or (numbers_in c.args.heap.now proc) c.args.fd None ≡ Some held = sym (ap (λ o. slice_index_or (places_in (numbers_in c.args.heap.now) o) c.args.fd None) found) ∙ is in
+    let same : object c.args.heap.now.descs c.clear_number-desc.result ≡ Some desc.0 = sym (ap (λ (h : Heap). object h.descs c.clear_number-desc.result) c.clear_number-desc.ensures.turns.after) ∙ desc.1 in
+    c.drop_desc.ensures.node desc.0 desc.1 ∙ sym (ap (node_closed c.args.heap.now.descs) slot ∙ ap node_dropped same)
 
 pub returns-clause-takes : goal.returns-clause-takes
-returns-clause-takes c = TakesNothing-trans c.args.heap.now c.set_proc.new.self c.drop_desc.new.heap c.set_proc.ensures.takes c.drop_desc.ensures.takes
+returns-clause-takes c =
+    TakesNothing-trans c.args.heap.now c.clear_number-desc.new.heap c.drop_desc.new.heap c.clear_number-desc.ensures.takes c.drop_desc.ensures.takes
 
 pub returns-clause-nodes : goal.returns-clause-nodes
-returns-clause-nodes c = λ none.
-    let desc = desc_between c.args.heap.now c.args.procs.now c.args.place.pid c.args.fd c.args.place.key c.at-proc.result.now c.in-Some.descriptor c.requires.listed
-    c.requires.there c.at-proc.ensures.kept c.in-Some.is c.set_proc.new.self c.set_proc.ensures.kept c.requires.owners in
+returns-clause-nodes c =
+    λ none.
+    let opened = some_of c.named_at.result (ap not c.is_none.ensures ∙ ap (λ b. not (not b)) c.if-is_none.false) in
+    let is : named_at c.args.heap.now c.args.procs.now c.args.place.pid c.args.fd ≡ Some (record { desc = c.clear_number-desc.result; close_on_exec = opened.0.close_on_exec }) =
+    sym c.named_at.ensures ∙ opened.1 ∙ ap (λ key. Some (record { desc = key; close_on_exec = opened.0.close_on_exec })) (sym (c.clear_number-desc.ensures.named opened.0 (sym c.named_at.ensures ∙ opened.1))) in
+    let held : HeldDescriptor = record { desc = c.clear_number-desc.result; close_on_exec = opened.0.close_on_exec } in
+    let at = sym (was_at c.args.heap.now c.clear_number-desc.new.heap c.args.procs.now c.args.place.pid c.args.fd None c.requires.listed c.clear_number-desc.ensures.turns) ∙ is in
+    let desc = desc_between c.args.heap.now c.clear_number-desc.new.heap c.args.procs.now c.args.place.pid c.args.fd held c.requires.listed c.clear_number-desc.ensures.turns at c.requires.owners in
     let drops = c.drop_desc.ensures.drops desc.0 desc.1 in
-    left_opens c.set_proc.new.self.descs c.drop_desc.new.heap.descs c.in-Some.descriptor.desc desc.0 desc.1 drops.descs
-    (subst (λ (h : Heap). OpensNoNode h.descs) (sym c.set_proc.ensures.kept) none)
-
-pub returns-in_default-clause-queues : goal.returns-in_default-clause-queues
-returns-in_default-clause-queues c = queues_same c.args.heap.now c.args.heap.now refl refl
+    left_opens c.clear_number-desc.new.heap.descs c.drop_desc.new.heap.descs c.clear_number-desc.result desc.0 desc.1 drops.descs (subst (λ (d : List (Option Desc)). OpensNoNode d) (sym (ap (λ (h : Heap). h.descs) c.clear_number-desc.ensures.turns.after)) none)
 
 pub returns-clause-queues : goal.returns-clause-queues
 returns-clause-queues c =
-    let owners = owners_between c.args.heap.now c.args.procs.now c.args.place.pid c.args.fd c.args.place.key c.at-proc.result.now c.in-Some.descriptor c.requires.listed
-    c.requires.there c.at-proc.ensures.kept c.in-Some.is c.set_proc.new.self c.set_proc.ensures.kept c.requires.owners in
-    let desc = desc_between c.args.heap.now c.args.procs.now c.args.place.pid c.args.fd c.args.place.key c.at-proc.result.now c.in-Some.descriptor c.requires.listed
-    c.requires.there c.at-proc.ensures.kept c.in-Some.is c.set_proc.new.self c.set_proc.ensures.kept c.requires.owners in
-    queues_then c.args.heap.now c.set_proc.new.self c.drop_desc.new.heap
-    (queues_same c.args.heap.now c.set_proc.new.self (ap (λ (h : Heap). h.pipes) c.set_proc.ensures.kept) (ap (λ (h : Heap). h.socks) c.set_proc.ensures.kept))
-    (queues_dropped c.set_proc.new.self c.drop_desc.new.heap c.in-Some.descriptor.desc desc.0 desc.1
-    (is_named c.set_proc.new.self _ owners c.in-Some.descriptor.desc desc.0 desc.1) owners.held (c.drop_desc.ensures.drops desc.0 desc.1))
+    let opened = some_of c.named_at.result (ap not c.is_none.ensures ∙ ap (λ b. not (not b)) c.if-is_none.false) in
+    let is : named_at c.args.heap.now c.args.procs.now c.args.place.pid c.args.fd ≡ Some (record { desc = c.clear_number-desc.result; close_on_exec = opened.0.close_on_exec }) =
+    sym c.named_at.ensures ∙ opened.1 ∙ ap (λ key. Some (record { desc = key; close_on_exec = opened.0.close_on_exec })) (sym (c.clear_number-desc.ensures.named opened.0 (sym c.named_at.ensures ∙ opened.1))) in
+    let held : HeldDescriptor = record { desc = c.clear_number-desc.result; close_on_exec = opened.0.close_on_exec } in
+    let at = sym (was_at c.args.heap.now c.clear_number-desc.new.heap c.args.procs.now c.args.place.pid c.args.fd None c.requires.listed c.clear_number-desc.ensures.turns) ∙ is in
+    let owners = owners_mid c.args.heap.now c.clear_number-desc.new.heap c.args.procs.now c.args.place.pid c.args.fd held c.requires.listed c.clear_number-desc.ensures.turns at c.requires.owners in
+    let desc = desc_between c.args.heap.now c.clear_number-desc.new.heap c.args.procs.now c.args.place.pid c.args.fd held c.requires.listed c.clear_number-desc.ensures.turns at c.requires.owners in
+    queues_then c.args.heap.now c.clear_number-desc.new.heap c.drop_desc.new.heap (queues_same c.args.heap.now c.clear_number-desc.new.heap (ap (λ (h : Heap). h.pipes) c.clear_number-desc.ensures.turns.after) (ap (λ (h : Heap). h.socks) c.clear_number-desc.ensures.turns.after))
+    (queues_dropped c.clear_number-desc.new.heap c.drop_desc.new.heap c.clear_number-desc.result desc.0 desc.1 (is_named c.clear_number-desc.new.heap _ owners c.clear_number-desc.result desc.0 desc.1) owners.held (c.drop_desc.ensures.drops desc.0 desc.1))

@@ -37,6 +37,10 @@ pub share_lowest-requires-clause-used : goal.share_lowest-requires-clause-used
 share_lowest-requires-clause-used c =
     ap is_some (is_there c.args.heap.now c.args.procs.now c.args.place.pid c.args.on.now c.requires.opened c.in-Some.found c.in-Some.is)
 
+pub share_lowest-requires-clause-left : goal.share_lowest-requires-clause-left
+share_lowest-requires-clause-left c =
+    c.requires.left (sym (subst (λ z. c.count_of.result ≡ count_of z) (to_z-of_z w64 c.args.cmd c.ranges.cmd) c.count_of.ensures) ∙ c.in-0.is)
+
 pub returns-in-0-clause-answers : goal.returns-in-0-clause-answers
 returns-in-0-clause-answers c = λ numbers script plain have.
     let is = is_held c.args.heap.now c.args.procs.now c.args.place.pid c.args.on.now c.requires.opened c.in-Some.found c.in-Some.is in
@@ -127,8 +131,8 @@ pub returns-in-4-clause-changes : goal.returns-in-4-clause-changes
 returns-in-4-clause-changes c =
     let same = ap (λ (h : Heap). h.procs) c.set_flags.ensures.beside in
     changes_after c.args.heap.now c.set_flags.new.heap c.set_flags.new.heap c.args.procs.now c.args.place.pid same
-    (ap (λ (h : Heap). record h { procs = c.set_flags.new.heap.procs; descs = c.set_flags.new.heap.descs; pipes = c.set_flags.new.heap.pipes; chunks = c.set_flags.new.heap.chunks; socks = c.set_flags.new.heap.socks; high = c.set_flags.new.heap.high }) c.set_flags.ensures.beside)
-    (changes_nothing c.set_flags.new.heap c.args.procs.now c.args.place.pid (listed_on c.args.heap.now c.set_flags.new.heap c.args.procs.now same c.requires.listed) (ap is_some c.requires.there))
+    (ap (λ (h : Heap). record h { procs = c.set_flags.new.heap.procs; leaves = c.set_flags.new.heap.leaves; descs = c.set_flags.new.heap.descs; pipes = c.set_flags.new.heap.pipes; chunks = c.set_flags.new.heap.chunks; socks = c.set_flags.new.heap.socks; high = c.set_flags.new.heap.high }) c.set_flags.ensures.beside)
+    (changes_nothing c.set_flags.new.heap c.args.procs.now c.args.place.pid (listed_on c.args.heap.now c.set_flags.new.heap c.args.procs.now same (ap (λ (h : Heap). h.leaves) c.set_flags.ensures.beside) c.requires.listed) (ap is_some c.requires.there))
 
 -- ---- another command
 
@@ -157,7 +161,7 @@ pub returns-in_default-count_of-clause-paid : goal.returns-in_default-count_of-c
 returns-in_default-count_of-clause-paid c = IsPaid-refl c.args.heap.now c.args.purse.now
 
 pub returns-in-2-clause-paid : goal.returns-in-2-clause-paid
-returns-in-2-clause-paid c = IsPaid-nothing c.args.heap.now c.mark_one.new.heap c.args.purse.now c.args.purse.now c.mark_one.ensures.takes refl refl
+returns-in-2-clause-paid c = c.mark_one.ensures.paid
 
 pub returns-in-4-clause-paid : goal.returns-in-4-clause-paid
 returns-in-4-clause-paid c = IsPaid-nothing c.args.heap.now c.set_flags.new.heap c.args.purse.now c.args.purse.now c.set_flags.ensures.takes refl refl

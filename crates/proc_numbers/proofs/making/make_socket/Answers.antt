@@ -1,8 +1,9 @@
-use Rattle.std.proofs.Common.{is_some, ◌∙◌, false, [], ap, pos, refl, subst, sym, length}
+use Rattle.std.proofs.Common.{is_some, ◌<◌, ◌∙◌, false, [], ap, pos, refl, subst, sym, length}
 use Rattle.std.specs.Prelude.{IfSome}
 use Rattle.kabi_types.specs.declared.replies.Reply.TheVariants.{Val}
 use Rattle.kabi_types.specs.declared.errnos.Errno.TheVariants.{EMFILE}
 use Rattle.kheap_slabs.specs.Heap.{Heap}
+use Rattle.kheap_slabs.specs.Purse.{Purse}
 use Rattle.kheap_laws.proofs.PaidLemmas.{IsPaid-trans}
 use Rattle.posix_defs.specs.Answer.{replied}
 use Rattle.posix_defs.specs.Calls.OnSockets.{description_of, socket}
@@ -45,7 +46,7 @@ returns-in_default-clause-queues c = queues_same c.args.heap.now c.args.heap.now
 
 pub open_on-requires-clause-listed : goal.open_on-requires-clause-listed
 open_on-requires-clause-listed c =
-    listed_on c.args.heap.now c.sock_make-made.new.heap c.args.procs.now (ap (λ (h : Heap). h.procs) c.sock_make-made.ensures.others.kept) c.requires.listed
+    listed_on c.args.heap.now c.sock_make-made.new.heap c.args.procs.now (ap (λ (h : Heap). h.procs) c.sock_make-made.ensures.others.kept) (ap (λ (h : Heap). h.leaves) c.sock_make-made.ensures.others.kept) c.requires.listed
 
 pub open_on-requires-clause-named : goal.open_on-requires-clause-named
 open_on-requires-clause-named c =
@@ -109,3 +110,6 @@ pub returns-clause-still : goal.returns-clause-still
 returns-clause-still c =
     still_on c.args.heap.now c.sock_make-made.new.heap c.open_on.new.heap c.open_on.ensures.socks
     (still_made c.args.heap.now c.sock_make-made.new.heap c.requires.owners c.sock_make-made.result c.sock_make-made.ensures.stands)
+
+pub open_on-requires-clause-left_leaf : goal.open_on-requires-clause-left_leaf
+open_on-requires-clause-left_leaf c = λ none. subst (λ (p : Purse). 0 < p.left.leaf) (sym c.sock_make-made.ensures.spent) c.requires.left_leaf

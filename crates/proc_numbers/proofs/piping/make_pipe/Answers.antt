@@ -1,26 +1,28 @@
-use Rattle.std.proofs.Common.{is_some, ◌+◌, ◌∙◌, false, List, [], ◌∷◌, Option, None, ap, refl, subst, sym, arith}
-use Rattle.std.specs.Prelude.{IfSome, slice_index_or}
+use Rattle.std.proofs.Common.{is_some, ◌+◌, ◌<◌, ◌∙◌, false, [], ◌∷◌, Some, ap, refl, subst, sym, arith}
+use Rattle.std.specs.Prelude.{IfSome}
 use Rattle.kabi_types.specs.declared.errnos.Errno.TheVariants.{EMFILE}
 use Rattle.kabi_types.specs.declared.replies.Reply.TheVariants.{Pair}
-use Rattle.kheap_slabs.specs.declared.objects.Proc.{Proc}
 use Rattle.kheap_slabs.specs.Heap.{Heap}
+use Rattle.kheap_slabs.specs.Purse.{Purse}
+use Rattle.desc_table.specs.Copying.{spends_leaves}
+use Rattle.desc_table.proofs.CopyLemmas.{spends_then}
 use Rattle.kheap_laws.proofs.PaidLemmas.{CanPay-kept, IsPaid-trans}
 use Rattle.posix_defs.specs.Answer.{replied}
 use Rattle.posix_defs.specs.Calls.OnPipes.{pipe}
 use Rattle.posix_defs.specs.Files.State.{descriptors_of}
 use Rattle.posix_defs.specs.Plain.{with_files}
-use Rattle.proc_table.specs.Procs.{numbers_in, proc_of}
-use Rattle.proc_table.specs.Table.{procs_at}
-use Rattle.proc_numbers.specs.Having.{OpensNoNode, places_in}
+use Rattle.proc_numbers.specs.Having.{OpensNoNode}
+use Rattle.proc_numbers.specs.Naming.{AreOpenBelow, named_at}
 use Rattle.proc_numbers.proofs.Fronts.{queues_same, queues_then}
 use Rattle.proc_numbers.proofs.NumberCloses.{listed_on, no_some}
 use Rattle.proc_numbers.proofs.NumberOpens.{changes_named}
+use Rattle.proc_numbers.proofs.NumberRooms.{leaf_for_second, spends_so}
 use Rattle.proc_numbers.specs.PipeOpening.{with_ends}
 use Rattle.proc_numbers.proofs.Answered.{refused}
 use Rattle.proc_numbers.proofs.Changes.{changes_after, changes_nothing, changes_then, others_named}
 use Rattle.proc_numbers.proofs.Lowest.{IsLowest}
 use Rattle.proc_numbers.proofs.PipeAnswers.{none_free, one_free, pipe_fails, pipe_makes, piped_so, two_free, with_both}
-use Rattle.proc_numbers.proofs.PipeMade.{at_reading, at_writing, have_made, keeps, no_node, owners_made, queues_made, same_procs}
+use Rattle.proc_numbers.proofs.PipeMade.{at_reading, at_writing, have_made, keeps, no_node, owners_made, queues_made, same_leaves, same_procs}
 use Rattle.proc_numbers.proofs.piping.make_pipe.Goals as goal
 
 -- ---- fewer than two numbers are free
@@ -55,22 +57,22 @@ returns-in_default-next-clause-changes c = changes_nothing c.args.heap.now c.arg
 -- ---- two are
 
 pub open_one-requires-clause-listed : goal.open_one-requires-clause-listed
-open_one-requires-clause-listed c = listed_on c.args.heap.now c.open_ends-ends.new.heap c.args.procs.now (same_procs c.args.heap.now c.open_ends-ends.new.heap c.open_ends-ends.result.pipe c.open_ends-ends.result.reading c.open_ends-ends.result.writing c.open_ends-ends.ensures.opens) c.requires.listed
+open_one-requires-clause-listed c = listed_on c.args.heap.now c.open_ends-ends.new.heap c.args.procs.now (same_procs c.args.heap.now c.open_ends-ends.new.heap c.open_ends-ends.result.pipe c.open_ends-ends.result.reading c.open_ends-ends.result.writing c.open_ends-ends.ensures.opens) (same_leaves c.args.heap.now c.open_ends-ends.new.heap c.open_ends-ends.result.pipe c.open_ends-ends.result.reading c.open_ends-ends.result.writing c.open_ends-ends.ensures.opens) c.requires.listed
 
 pub open_one-requires-clause-number : goal.open_one-requires-clause-number
 open_one-requires-clause-number c = (subst (λ o. IfSome o (IsLowest c.args.heap.now c.args.procs.now c.args.place.pid 0)) c.in-Some.is c.lowest_from-lowest.ensures.free).0
 
 pub open_one-requires-clause-free : goal.open_one-requires-clause-free
 open_one-requires-clause-free c =
-    (ap (λ (p : List (Option Proc)). slice_index_or (places_in (numbers_in c.args.heap.now) (proc_of (procs_at p c.args.procs.now.listed) c.args.place.pid)) c.in-Some.first None) (same_procs c.args.heap.now c.open_ends-ends.new.heap c.open_ends-ends.result.pipe c.open_ends-ends.result.reading c.open_ends-ends.result.writing c.open_ends-ends.ensures.opens))
+    ap (λ (h : Heap). named_at h c.args.procs.now c.args.place.pid c.in-Some.first) c.open_ends-ends.ensures.opens.beside
     ∙ (subst (λ o. IfSome o (IsLowest c.args.heap.now c.args.procs.now c.args.place.pid 0)) c.in-Some.is c.lowest_from-lowest.ensures.free).2
 
 pub open_one-requires-2-clause-free : goal.open_one-requires-2-clause-free
 open_one-requires-2-clause-free c =
     let above = (subst (λ o. IfSome o (IsLowest c.args.heap.now c.args.procs.now c.args.place.pid (c.in-Some.first + 1))) c.in-Some-next.is c.lowest_from-next.ensures.free).1 in
     others_named c.open_ends-ends.new.heap c.open_one.new.heap c.args.procs.now c.args.place.pid c.in-Some.first c.in-Some-next.second (record { desc = c.open_ends-ends.result.reading; close_on_exec = false })
-    (listed_on c.args.heap.now c.open_ends-ends.new.heap c.args.procs.now (same_procs c.args.heap.now c.open_ends-ends.new.heap c.open_ends-ends.result.pipe c.open_ends-ends.result.reading c.open_ends-ends.result.writing c.open_ends-ends.ensures.opens) c.requires.listed) c.open_one.ensures.names (λ same. omega (arith, same, above))
-    ∙ (ap (λ (p : List (Option Proc)). slice_index_or (places_in (numbers_in c.args.heap.now) (proc_of (procs_at p c.args.procs.now.listed) c.args.place.pid)) c.in-Some-next.second None) (same_procs c.args.heap.now c.open_ends-ends.new.heap c.open_ends-ends.result.pipe c.open_ends-ends.result.reading c.open_ends-ends.result.writing c.open_ends-ends.ensures.opens))
+    (listed_on c.args.heap.now c.open_ends-ends.new.heap c.args.procs.now (same_procs c.args.heap.now c.open_ends-ends.new.heap c.open_ends-ends.result.pipe c.open_ends-ends.result.reading c.open_ends-ends.result.writing c.open_ends-ends.ensures.opens) (same_leaves c.args.heap.now c.open_ends-ends.new.heap c.open_ends-ends.result.pipe c.open_ends-ends.result.reading c.open_ends-ends.result.writing c.open_ends-ends.ensures.opens) c.requires.listed) c.open_one.ensures.names (λ same. omega (arith, same, above))
+    ∙ ap (λ (h : Heap). named_at h c.args.procs.now c.args.place.pid c.in-Some-next.second) c.open_ends-ends.ensures.opens.beside
     ∙ (subst (λ o. IfSome o (IsLowest c.args.heap.now c.args.procs.now c.args.place.pid (c.in-Some.first + 1))) c.in-Some-next.is c.lowest_from-next.ensures.free).2
 
 pub returns-clause-answers : goal.returns-clause-answers
@@ -107,6 +109,7 @@ pub returns-clause-changes : goal.returns-clause-changes
 returns-clause-changes c =
     let so = λ (h : Heap). record h {
       procs = c.open_ends-ends.new.heap.procs;
+      leaves = c.open_ends-ends.new.heap.leaves;
       descs = c.open_ends-ends.new.heap.descs;
       pipes = c.open_ends-ends.new.heap.pipes;
       chunks = c.open_ends-ends.new.heap.chunks;
@@ -116,18 +119,18 @@ returns-clause-changes c =
     changes_after c.args.heap.now c.open_ends-ends.new.heap c.open_one-2.new.heap c.args.procs.now c.args.place.pid (same_procs c.args.heap.now c.open_ends-ends.new.heap c.open_ends-ends.result.pipe c.open_ends-ends.result.reading c.open_ends-ends.result.writing c.open_ends-ends.ensures.opens)
     (ap so c.open_ends-ends.ensures.opens.beside)
     (changes_then c.open_ends-ends.new.heap c.open_one.new.heap c.open_one-2.new.heap c.args.procs.now c.args.place.pid
-    (changes_named c.open_ends-ends.new.heap c.open_one.new.heap c.args.procs.now c.args.place.pid c.in-Some.first (record { desc = c.open_ends-ends.result.reading; close_on_exec = false }) (listed_on c.args.heap.now c.open_ends-ends.new.heap c.args.procs.now (same_procs c.args.heap.now c.open_ends-ends.new.heap c.open_ends-ends.result.pipe c.open_ends-ends.result.reading c.open_ends-ends.result.writing c.open_ends-ends.ensures.opens) c.requires.listed) c.open_one.ensures.names)
+    (changes_named c.open_ends-ends.new.heap c.open_one.new.heap c.args.procs.now c.args.place.pid c.in-Some.first (record { desc = c.open_ends-ends.result.reading; close_on_exec = false }) (listed_on c.args.heap.now c.open_ends-ends.new.heap c.args.procs.now (same_procs c.args.heap.now c.open_ends-ends.new.heap c.open_ends-ends.result.pipe c.open_ends-ends.result.reading c.open_ends-ends.result.writing c.open_ends-ends.ensures.opens) (same_leaves c.args.heap.now c.open_ends-ends.new.heap c.open_ends-ends.result.pipe c.open_ends-ends.result.reading c.open_ends-ends.result.writing c.open_ends-ends.ensures.opens) c.requires.listed) c.open_one.ensures.names)
     (changes_named c.open_one.new.heap c.open_one-2.new.heap c.args.procs.now c.args.place.pid c.in-Some-next.second (record { desc = c.open_ends-ends.result.writing; close_on_exec = false }) c.open_one.ensures.listed c.open_one-2.ensures.names))
 
 pub returns-clause-paid : goal.returns-clause-paid
 returns-clause-paid c =
-    IsPaid-trans c.args.heap.now c.args.purse.now c.open_ends-ends.new.heap c.open_ends-ends.new.purse c.open_one-2.new.heap c.open_one-2.new._purse c.open_ends-ends.ensures.paid
-    (IsPaid-trans c.open_ends-ends.new.heap c.open_ends-ends.new.purse c.open_one.new.heap c.open_one.new._purse c.open_one-2.new.heap c.open_one-2.new._purse c.open_one.ensures.paid c.open_one-2.ensures.paid)
+    IsPaid-trans c.args.heap.now c.args.purse.now c.open_ends-ends.new.heap c.open_ends-ends.new.purse c.open_one-2.new.heap c.open_one-2.new.purse c.open_ends-ends.ensures.paid
+    (IsPaid-trans c.open_ends-ends.new.heap c.open_ends-ends.new.purse c.open_one.new.heap c.open_one.new.purse c.open_one-2.new.heap c.open_one-2.new.purse c.open_one.ensures.paid c.open_one-2.ensures.paid)
 
 pub returns-clause-pays : goal.returns-clause-pays
 returns-clause-pays c =
-    CanPay-kept c.open_one.new.heap c.open_one-2.new.heap c.open_one.new._purse c.open_one-2.new._purse c.open_one-2.ensures.paid
-    (CanPay-kept c.open_ends-ends.new.heap c.open_one.new.heap c.open_ends-ends.new.purse c.open_one.new._purse c.open_one.ensures.paid c.open_ends-ends.ensures.pays)
+    CanPay-kept c.open_one.new.heap c.open_one-2.new.heap c.open_one.new.purse c.open_one-2.new.purse c.open_one-2.ensures.paid
+    (CanPay-kept c.open_ends-ends.new.heap c.open_one.new.heap c.open_ends-ends.new.purse c.open_one.new.purse c.open_one.ensures.paid c.open_ends-ends.ensures.pays)
 
 pub returns-in_default-clause-queues : goal.returns-in_default-clause-queues
 returns-in_default-clause-queues c = queues_same c.args.heap.now c.args.heap.now refl refl
@@ -151,7 +154,24 @@ pub open_one-requires-clause-pays : goal.open_one-requires-clause-pays
 open_one-requires-clause-pays c = c.open_ends-ends.ensures.pays
 
 pub open_one-requires-2-clause-pays : goal.open_one-requires-2-clause-pays
-open_one-requires-2-clause-pays c = CanPay-kept c.open_ends-ends.new.heap c.open_one.new.heap c.open_ends-ends.new.purse c.open_one.new._purse c.open_one.ensures.paid c.open_ends-ends.ensures.pays
+open_one-requires-2-clause-pays c = CanPay-kept c.open_ends-ends.new.heap c.open_one.new.heap c.open_ends-ends.new.purse c.open_one.new.purse c.open_one.ensures.paid c.open_ends-ends.ensures.pays
 
 pub returns-clause-spent : goal.returns-clause-spent
-returns-clause-spent c = c.open_one-2.ensures.spent ∙ c.open_one.ensures.spent ∙ c.open_ends-ends.ensures.spent
+returns-clause-spent c =
+    spends_then c.open_ends-ends.new.purse c.open_one.new.purse c.open_one-2.new.purse (spends_so _ c.open_ends-ends.new.purse c.open_one.new.purse c.open_one.ensures.spent)
+    (spends_so _ c.open_one.new.purse c.open_one-2.new.purse c.open_one-2.ensures.spent)
+    ∙ ap (λ (p : Purse). spends_leaves p c.open_one-2.new.purse) c.open_ends-ends.ensures.spent
+
+pub open_one-requires-clause-left : goal.open_one-requires-clause-left
+open_one-requires-clause-left c = λ none. subst (λ (p : Purse). 0 < p.left.leaf) (sym c.open_ends-ends.ensures.spent) c.requires.left_leaf
+
+pub open_one-requires-2-clause-left : goal.open_one-requires-2-clause-left
+open_one-requires-2-clause-left c = λ none.
+    leaf_for_second c.open_ends-ends.new.heap c.open_one.new.heap c.args.procs.now c.args.place.pid c.args.place.key c.in-Some.first c.in-Some-next.second
+    (Some (record { desc = c.open_ends-ends.result.reading; close_on_exec = false })) c.open_ends-ends.new.purse c.open_one.new.purse c.is_well_formed.ensures
+    (listed_on c.args.heap.now c.open_ends-ends.new.heap c.args.procs.now (ap (λ (h : Heap). h.procs) c.open_ends-ends.ensures.opens.beside) (ap (λ (h : Heap). h.leaves) c.open_ends-ends.ensures.opens.beside) c.requires.listed) c.requires.there
+    (subst (λ (h : Heap). AreOpenBelow h c.args.procs.now c.args.place.pid 0 c.in-Some.first) (sym c.open_ends-ends.ensures.opens.beside) (subst (λ o. IfSome o (AreOpenBelow c.args.heap.now c.args.procs.now c.args.place.pid 0)) c.in-Some.is c.lowest_from-lowest.ensures.least))
+    (subst (λ (h : Heap). AreOpenBelow h c.args.procs.now c.args.place.pid (c.in-Some.first + 1) c.in-Some-next.second) (sym c.open_ends-ends.ensures.opens.beside) (subst (λ o. IfSome o (AreOpenBelow c.args.heap.now c.args.procs.now c.args.place.pid (c.in-Some.first + 1))) c.in-Some-next.is c.lowest_from-next.ensures.least))
+    (subst (λ o. IfSome o (IsLowest c.args.heap.now c.args.procs.now c.args.place.pid (c.in-Some.first + 1))) c.in-Some-next.is c.lowest_from-next.ensures.free).1
+    c.open_one.ensures.names c.open_one.ensures.room c.open_one.ensures.spent
+    (subst (λ (p : Purse). 0 < p.left.leaf) (sym c.open_ends-ends.ensures.spent) c.requires.left_leaf) none

@@ -2,7 +2,11 @@ use Rattle.std.proofs.Common.{◌≡◌, ◌+◌, ◌∙◌, ap, arith, length, 
 use Rattle.std.specs.Prelude.{slice_set}
 use Rattle.std.proofs.lemmas.List.{length-set, take_all}
 use Rattle.posix_defs.specs.Calls.Polling.{polled_at}
-use Rattle.proc_numbers.proofs.Polls.{told_next}
+use Rattle.open_laws.proofs.PolledLemmas.{kept_by}
+use Rattle.proc_table.specs.Procs.{numbers_in}
+use Rattle.proc_numbers.proofs.NamedOpen.{descriptors_are}
+use Rattle.proc_numbers.proofs.PlacedLeaves.{long_proc, owns_placed}
+use Rattle.proc_numbers.proofs.Polls.{number_opens, told_next}
 use Rattle.proc_numbers.proofs.polling.revents_of.Goals as goal
 
 pub loop-index-init : goal.loop-index-init
@@ -14,7 +18,9 @@ loop-index-preserved c = record {
   told = λ numbers files have.
       subst (λ n. take (c.loop-index.index + 1) (slice_set c.loop-index.events c.loop-index.index n)
       ≡ map (λ entry. polled_at files c.args.place.pid entry.fd entry.events) (take (c.loop-index.index + 1) c.args.entries.now))
-      (sym (c.polled.ensures numbers have.list files c.args.place.pid have.opened (c.descs_of-descs.ensures.are numbers files have)))
+      (sym (c.polled.ensures numbers have.list files c.args.place.pid have.opened
+      (descriptors_are c.args.heap.now c.args.procs.now c.args.place.pid c.args.place.key c.at-proc.result.now c.requires.kept.listed c.requires.there c.at-proc.ensures.kept numbers files have
+      ∙ kept_by numbers.descs (numbers_in c.args.heap.now c.at-proc.result.now))))
       (told_next (λ entry. polled_at files c.args.place.pid entry.fd entry.events) c.loop-index.events c.args.entries.now c.loop-index.index _
       (let long = c.loop-index.invariant.long in let few = c.requires.few in let less = c.loop-index-test.true in omega (arith, long, few, less)) c.loop-index-test.true
       (c.loop-index.invariant.told numbers files have));
@@ -28,5 +34,17 @@ returns c = λ numbers files have.
     ∙ c.loop-index.invariant.told numbers files have
     ∙ ap (map (λ entry. polled_at files c.args.place.pid entry.fd entry.events)) (take_all c.loop-index.index c.args.entries.now c.loop-index-test.false)
 
-pub polled-requires : goal.polled-requires
-polled-requires c = c.descs_of-descs.ensures.open _
+pub at-proc-requires-clause-stored : goal.at-proc-requires-clause-stored
+at-proc-requires-clause-stored c = c.requires.kept.listed.stored
+
+pub polled-requires-clause-rows : goal.polled-requires-clause-rows
+polled-requires-clause-rows c = long_proc c.args.heap.now c.args.place.key c.at-proc.result.now c.is_well_formed.ensures c.at-proc.ensures.kept
+
+pub polled-requires-clause-owns : goal.polled-requires-clause-owns
+polled-requires-clause-owns c =
+    owns_placed c.args.heap.now c.args.procs.now c.args.place.pid c.args.place.key c.at-proc.result.now c.requires.kept.listed c.requires.there c.at-proc.ensures.kept
+
+pub polled-requires-clause-there : goal.polled-requires-clause-there
+polled-requires-clause-there c =
+    number_opens c.args.heap.now c.args.procs.now c.args.place.pid c.args.place.key c.at-proc.result.now c.requires.kept.listed c.requires.there c.at-proc.ensures.kept
+    c.requires.kept.owners _

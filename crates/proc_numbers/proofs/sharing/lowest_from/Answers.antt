@@ -1,24 +1,15 @@
-use Rattle.std.proofs.Common.{◌≡◌, ◌∙◌, ap, refl, sym}
-use Rattle.desc_table.specs.Numbered.{descriptors_in}
-use Rattle.desc_table.proofs.NumberLemmas.{long_view}
-use Rattle.posix_defs.specs.Files.Descriptors.{lowest_free_from}
-use Rattle.proc_numbers.specs.Naming.{places_of}
-use Rattle.proc_numbers.proofs.NumberNames.{lowest_is}
-use Rattle.proc_numbers.proofs.Lowest.{lowest_within}
+use Rattle.std.proofs.Common.{◌∙◌, sym}
+use Rattle.posix_defs.specs.Files.State.{descriptors_of}
+use Rattle.proc_numbers.proofs.Lowest.{lowest_above}
+use Rattle.proc_numbers.proofs.PlacedLeaves.{descriptors_all}
 use Rattle.proc_numbers.proofs.sharing.lowest_from.Goals as goal
 
 pub returns-clause-lowest : goal.returns-clause-lowest
-returns-clause-lowest c = λ numbers files have.
-    let places = places_of c.args.heap.now c.args.procs.now c.args.place.pid in
-    let seen : c.of-descs.result ≡ descriptors_in places = c.of-descs.ensures ∙ ap descriptors_in c.places_of.ensures.places in
-    lowest_is numbers c.args.heap.now c.args.procs.now files c.args.place.pid have c.args.from
-    ∙ sym (c.lowest.ensures ∙ ap (λ descriptors. lowest_free_from descriptors c.first_from.result) seen
-    ∙ c.first_from.ensures (descriptors_in places) (long_view places (descriptors_in places) refl c.places_of.ensures.all))
+returns-clause-lowest c =
+    λ numbers files have.
+    sym (c.first_from.ensures.lowest (descriptors_of files c.args.place.pid) (descriptors_all c.args.heap.now c.args.procs.now c.args.place.pid c.args.place.key c.is_well_formed.ensures c.requires.listed c.requires.there numbers files have))
+    ∙ c.lowest_from.ensures.lowest numbers files have
 
 pub returns-clause-free : goal.returns-clause-free
 returns-clause-free c =
-    let places = places_of c.args.heap.now c.args.procs.now c.args.place.pid in
-    let seen : c.of-descs.result ≡ descriptors_in places = c.of-descs.ensures ∙ ap descriptors_in c.places_of.ensures.places in
-    lowest_within c.args.heap.now c.args.procs.now c.args.place.pid c.args.from c.lowest.result c.places_of.ensures.all
-    (sym (c.lowest.ensures ∙ ap (λ descriptors. lowest_free_from descriptors c.first_from.result) seen
-    ∙ c.first_from.ensures (descriptors_in places) (long_view places (descriptors_in places) refl c.places_of.ensures.all)))
+    lowest_above c.args.heap.now c.args.procs.now c.args.place.pid c.first_from.result c.args.from c.lowest_from.result c.first_from.ensures.above c.lowest_from.ensures.free

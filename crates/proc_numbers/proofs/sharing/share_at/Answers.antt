@@ -1,7 +1,7 @@
 use Rattle.std.proofs.Common.{◌≡◌, ◌+◌, ◌∙◌, [], ap, refl, subst, sym, arith}
 use Rattle.kheap_slabs.proofs.ObjectLemmas.{object_of}
 use Rattle.kheap_slabs.specs.Heap.{Heap}
-use Rattle.kheap_laws.proofs.PaidLemmas.{TakesNothing-trans, CanPay-kept, IsPaid-nothing, IsPaid-trans}
+use Rattle.kheap_laws.proofs.PaidLemmas.{CanPay-kept, IsPaid-nothing, IsPaid-trans}
 use Rattle.open_laws.specs.Described.{after_share, counting}
 use Rattle.proc_table.specs.Procs.{numbers_in}
 use Rattle.proc_table.specs.Table.{processes}
@@ -10,6 +10,7 @@ use Rattle.proc_numbers.specs.Naming.{named_at}
 use Rattle.proc_numbers.proofs.NumberCloses.{listed_on}
 use Rattle.proc_numbers.proofs.NumberNames.{count_is_small}
 use Rattle.proc_numbers.proofs.NumberOpens.{beside_named, changes_named}
+use Rattle.proc_numbers.proofs.NumberRooms.{spends_so}
 use Rattle.proc_numbers.proofs.Changes.{beside_shared, changes_after, put_opens}
 use Rattle.proc_numbers.proofs.sharing.share_at.Goals as goal
 
@@ -20,7 +21,7 @@ share_desc-requires-clause-small c = λ found is.
 pub open_one-requires-clause-listed : goal.open_one-requires-clause-listed
 open_one-requires-clause-listed c =
     let found = object_of c.args.heap.now.descs c.args.desc c.requires.used in
-    listed_on c.args.heap.now c.share_desc.new.heap c.args.procs.now (ap (λ (h : Heap). h.procs) (c.share_desc.ensures.kept found.0 found.1)) c.requires.listed
+    listed_on c.args.heap.now c.share_desc.new.heap c.args.procs.now (ap (λ (h : Heap). h.procs) (c.share_desc.ensures.kept found.0 found.1)) (ap (λ (h : Heap). h.leaves) (c.share_desc.ensures.kept found.0 found.1)) c.requires.listed
 
 pub open_one-requires-clause-free : goal.open_one-requires-clause-free
 open_one-requires-clause-free c =
@@ -56,9 +57,9 @@ returns-clause-changes c =
     let shared = c.share_desc.ensures.kept found.0 found.1 in
     changes_after c.args.heap.now c.share_desc.new.heap c.open_one.new.heap c.args.procs.now c.args.place.pid
     (ap (λ (h : Heap). h.procs) shared)
-    (subst (λ (h : Heap). h ≡ record c.args.heap.now { procs = h.procs; descs = h.descs; pipes = h.pipes; chunks = h.chunks; socks = h.socks; high = h.high }) (sym shared) refl)
+    (subst (λ (h : Heap). h ≡ record c.args.heap.now { procs = h.procs; leaves = h.leaves; descs = h.descs; pipes = h.pipes; chunks = h.chunks; socks = h.socks; high = h.high }) (sym shared) refl)
     (changes_named c.share_desc.new.heap c.open_one.new.heap c.args.procs.now c.args.place.pid c.args.fd _
-    (listed_on c.args.heap.now c.share_desc.new.heap c.args.procs.now (ap (λ (h : Heap). h.procs) shared) c.requires.listed) c.open_one.ensures.names)
+    (listed_on c.args.heap.now c.share_desc.new.heap c.args.procs.now (ap (λ (h : Heap). h.procs) shared) (ap (λ (h : Heap). h.leaves) shared) c.requires.listed) c.open_one.ensures.names)
 
 pub returns-clause-beside : goal.returns-clause-beside
 returns-clause-beside c =
@@ -66,14 +67,17 @@ returns-clause-beside c =
     let shared = c.share_desc.ensures.kept found.0 found.1 in
     beside_shared c.args.heap.now c.share_desc.new.heap c.open_one.new.heap _ shared
     (beside_named c.share_desc.new.heap c.open_one.new.heap c.args.procs.now c.args.place.pid c.args.fd _
-    (listed_on c.args.heap.now c.share_desc.new.heap c.args.procs.now (ap (λ (h : Heap). h.procs) shared) c.requires.listed) c.open_one.ensures.names)
-
-pub returns-clause-takes : goal.returns-clause-takes
-returns-clause-takes c = TakesNothing-trans c.args.heap.now c.share_desc.new.heap c.open_one.new.heap c.share_desc.ensures.takes c.open_one.ensures.takes
+    (listed_on c.args.heap.now c.share_desc.new.heap c.args.procs.now (ap (λ (h : Heap). h.procs) shared) (ap (λ (h : Heap). h.leaves) shared) c.requires.listed) c.open_one.ensures.names)
 
 pub open_one-requires-clause-pays : goal.open_one-requires-clause-pays
 open_one-requires-clause-pays c = CanPay-kept c.args.heap.now c.share_desc.new.heap c.args.purse.now c.args.purse.now (IsPaid-nothing c.args.heap.now c.share_desc.new.heap c.args.purse.now c.args.purse.now c.share_desc.ensures.takes refl refl) c.requires.pays
 
 pub returns-clause-paid : goal.returns-clause-paid
 returns-clause-paid c =
-    IsPaid-trans c.args.heap.now c.args.purse.now c.share_desc.new.heap c.args.purse.now c.open_one.new.heap c.open_one.new._purse (IsPaid-nothing c.args.heap.now c.share_desc.new.heap c.args.purse.now c.args.purse.now c.share_desc.ensures.takes refl refl) c.open_one.ensures.paid
+    IsPaid-trans c.args.heap.now c.args.purse.now c.share_desc.new.heap c.args.purse.now c.open_one.new.heap c.open_one.new.purse (IsPaid-nothing c.args.heap.now c.share_desc.new.heap c.args.purse.now c.args.purse.now c.share_desc.ensures.takes refl refl) c.open_one.ensures.paid
+
+pub open_one-requires-clause-left : goal.open_one-requires-clause-left
+open_one-requires-clause-left c = λ none. c.requires.left
+
+pub returns-clause-spent : goal.returns-clause-spent
+returns-clause-spent c = spends_so _ c.args.purse.now c.open_one.new.purse c.open_one.ensures.spent

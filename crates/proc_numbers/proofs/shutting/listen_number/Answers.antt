@@ -24,7 +24,7 @@ returns-in-Ok-clause-answers c = λ numbers script plain have.
     (c.listen.ensures.stands have.opened.socketed.keyed have.opened.socketed.stands)
 
 pub returns-in-Ok-clause-listed : goal.returns-in-Ok-clause-listed
-returns-in-Ok-clause-listed c = listed_on c.args.heap.now c.listen.new.heap c.args.procs.now (ap (λ (h : Heap). h.procs) c.listen.ensures.others.kept) c.requires.listed
+returns-in-Ok-clause-listed c = listed_on c.args.heap.now c.listen.new.heap c.args.procs.now (ap (λ (h : Heap). h.procs) c.listen.ensures.others.kept) (ap (λ (h : Heap). h.leaves) c.listen.ensures.others.kept) c.requires.listed
 
 pub returns-in-Ok-clause-owners : goal.returns-in-Ok-clause-owners
 returns-in-Ok-clause-owners c = owners_change c.args.heap.now c.listen.new.heap [] (record { others = c.listen.ensures.others; objects = c.listen.ensures.owned; held = c.listen.ensures.held }) c.requires.owners
@@ -33,7 +33,7 @@ pub returns-in-Ok-clause-changes : goal.returns-in-Ok-clause-changes
 returns-in-Ok-clause-changes c =
     changes_after c.args.heap.now c.listen.new.heap c.listen.new.heap c.args.procs.now c.args.place.pid (ap (λ (h : Heap). h.procs) c.listen.ensures.others.kept)
     (beside_changed c.args.heap.now c.listen.new.heap c.listen.ensures.others)
-    (changes_nothing c.listen.new.heap c.args.procs.now c.args.place.pid (listed_on c.args.heap.now c.listen.new.heap c.args.procs.now (ap (λ (h : Heap). h.procs) c.listen.ensures.others.kept) c.requires.listed) (ap is_some c.requires.there))
+    (changes_nothing c.listen.new.heap c.args.procs.now c.args.place.pid (listed_on c.args.heap.now c.listen.new.heap c.args.procs.now (ap (λ (h : Heap). h.procs) c.listen.ensures.others.kept) (ap (λ (h : Heap). h.leaves) c.listen.ensures.others.kept) c.requires.listed) (ap is_some c.requires.there))
 
 pub returns-in-Ok-clause-queues : goal.returns-in-Ok-clause-queues
 returns-in-Ok-clause-queues c = queues_changed c.args.heap.now c.listen.new.heap c.listen.ensures.others c.listen.ensures.queues

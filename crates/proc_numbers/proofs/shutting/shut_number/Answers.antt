@@ -28,7 +28,7 @@ returns-in-Ok-clause-answers c = λ numbers script plain have.
     (subst (λ h. MatchResult c.shutdown.result (λ _. SocketsStandFor c.shutdown.new.heap (after_shut have.opened.socketed.keyed c.in-Ok.found.key h)) (λ _. c.shutdown.new.heap ≡ c.args.heap.now)) (to_z-of_z w64 c.args.how c.ranges.how) (c.shutdown.ensures.stands have.opened.socketed.keyed have.opened.socketed.stands))
 
 pub returns-in-Ok-clause-listed : goal.returns-in-Ok-clause-listed
-returns-in-Ok-clause-listed c = listed_on c.args.heap.now c.shutdown.new.heap c.args.procs.now (ap (λ (h : Heap). h.procs) c.shutdown.ensures.others.kept) c.requires.listed
+returns-in-Ok-clause-listed c = listed_on c.args.heap.now c.shutdown.new.heap c.args.procs.now (ap (λ (h : Heap). h.procs) c.shutdown.ensures.others.kept) (ap (λ (h : Heap). h.leaves) c.shutdown.ensures.others.kept) c.requires.listed
 
 pub returns-in-Ok-clause-owners : goal.returns-in-Ok-clause-owners
 returns-in-Ok-clause-owners c = owners_change c.args.heap.now c.shutdown.new.heap [] (record { others = c.shutdown.ensures.others; objects = c.shutdown.ensures.owned; held = c.shutdown.ensures.held }) c.requires.owners
@@ -37,7 +37,7 @@ pub returns-in-Ok-clause-changes : goal.returns-in-Ok-clause-changes
 returns-in-Ok-clause-changes c =
     changes_after c.args.heap.now c.shutdown.new.heap c.shutdown.new.heap c.args.procs.now c.args.place.pid (ap (λ (h : Heap). h.procs) c.shutdown.ensures.others.kept)
     (beside_changed c.args.heap.now c.shutdown.new.heap c.shutdown.ensures.others)
-    (changes_nothing c.shutdown.new.heap c.args.procs.now c.args.place.pid (listed_on c.args.heap.now c.shutdown.new.heap c.args.procs.now (ap (λ (h : Heap). h.procs) c.shutdown.ensures.others.kept) c.requires.listed) (ap is_some c.requires.there))
+    (changes_nothing c.shutdown.new.heap c.args.procs.now c.args.place.pid (listed_on c.args.heap.now c.shutdown.new.heap c.args.procs.now (ap (λ (h : Heap). h.procs) c.shutdown.ensures.others.kept) (ap (λ (h : Heap). h.leaves) c.shutdown.ensures.others.kept) c.requires.listed) (ap is_some c.requires.there))
 
 pub returns-in-Ok-clause-queues : goal.returns-in-Ok-clause-queues
 returns-in-Ok-clause-queues c = queues_changed c.args.heap.now c.shutdown.new.heap c.shutdown.ensures.others c.shutdown.ensures.queues

@@ -10,7 +10,7 @@ use Rattle.proc_table.specs.Standing.{IsTable, forked_in}
 use Rattle.store_objects.specs.declared.objects.Objects.{Objects}
 use Rattle.store_objects.specs.Objects.{AreKept, Runs}
 use Rattle.store_objects.proofs.Replies.{GoesOn}
-use Rattle.process_calls.proofs.Forking.{child_there, does_fork, does_full, kept_pinned, may_hold, number_of, runs_pinned, same_objects}
+use Rattle.process_calls.proofs.Forking.{child_there, copied, does_fork, does_full, kept_pinned, may_hold, number_of, runs_pinned, same_objects}
 use Rattle.process_calls.proofs.Sharing.{can_share}
 use Rattle.store_objects.proofs.Callers.{placed_on}
 use Rattle.store_objects.proofs.GoingOn.{at_its_call}
@@ -39,7 +39,7 @@ key_there-key-requires-clause-there c =
     child_there c.args.script.now c.args.objects.now (record { heap = c.fork.new.heap; procs = c.fork.new.self; tree = c.args.objects.now.tree; names = c.args.objects.now.names }) c.args.caller.now.place.pid c.in-Ok.child c.args.caller.now.control
     c.requires.kept c.requires.runs c.fork.ensures.moves refl refl
     (record { can = can_share c.args.script.now c.args.objects.now c.args.caller.now.place.pid c.requires.runs.proc c.requires.kept c.heap_is_well_formed.ensures c.requires.runs.found; descs = c.in-Ok.ensures.shared c.requires.runs.proc c.requires.runs.found })
-    c.in-Ok.ensures.child
+    c.in-Ok.ensures.child (copied c.args.script.now c.args.objects.now (record { heap = c.fork.new.heap; procs = c.fork.new.self; tree = c.args.objects.now.tree; names = c.args.objects.now.names }) c.args.caller.now.place.pid c.in-Ok.child c.requires.kept c.in-Ok.ensures.child (number_of _ _ c.in-Ok.child (sym c.in-Ok.is ∙ c.fork.ensures.answer)) c.in-Ok.ensures.copies)
 
 pub directory_of-directory-requires-clause-stored : goal.directory_of-directory-requires-clause-stored
 directory_of-directory-requires-clause-stored c = c.requires.kept.holds.stored
@@ -51,7 +51,7 @@ hold_directory-requires c = record {
       may_hold c.args.script.now c.args.objects.now (record { heap = c.fork.new.heap; procs = c.fork.new.self; tree = c.args.objects.now.tree; names = c.args.objects.now.names }) c.move_on.new.self c.args.caller.now.place.pid c.in-Ok.child c.args.caller.now.control c.behind.result
       c.requires.kept c.requires.runs c.fork.ensures.moves refl refl
       (record { can = can_share c.args.script.now c.args.objects.now c.args.caller.now.place.pid c.requires.runs.proc c.requires.kept c.heap_is_well_formed.ensures c.requires.runs.found; descs = c.in-Ok.ensures.shared c.requires.runs.proc c.requires.runs.found })
-      c.in-Ok.ensures.child (number_of _ _ c.in-Ok.child (sym c.in-Ok.is ∙ c.fork.ensures.answer)) c.move_on.ensures
+      c.in-Ok.ensures.child (copied c.args.script.now c.args.objects.now (record { heap = c.fork.new.heap; procs = c.fork.new.self; tree = c.args.objects.now.tree; names = c.args.objects.now.names }) c.args.caller.now.place.pid c.in-Ok.child c.requires.kept c.in-Ok.ensures.child (number_of _ _ c.in-Ok.child (sym c.in-Ok.is ∙ c.fork.ensures.answer)) c.in-Ok.ensures.copies) (number_of _ _ c.in-Ok.child (sym c.in-Ok.is ∙ c.fork.ensures.answer)) c.move_on.ensures
       c.directory_of-directory.result (c.directory_of-directory.ensures c.requires.runs.proc c.requires.runs.found) other some.0 some.1 c.heap_is_well_formed.ensures;
 }
 
@@ -59,14 +59,14 @@ pub go_on_anew-requires-clause-kept : goal.go_on_anew-requires-clause-kept
 go_on_anew-requires-clause-kept c =
     kept_pinned c.args.script.now c.args.objects.now (record { heap = c.fork.new.heap; procs = c.fork.new.self; tree = c.args.objects.now.tree; names = c.args.objects.now.names }) c.move_on.new.self c.hold_directory.new.objects c.args.caller.now.place.pid c.in-Ok.child c.directory_of-directory.result c.args.caller.now.control c.behind.result
     c.requires.kept c.requires.runs c.fork.ensures.moves refl refl (record { can = can_share c.args.script.now c.args.objects.now c.args.caller.now.place.pid c.requires.runs.proc c.requires.kept c.heap_is_well_formed.ensures c.requires.runs.found; descs = c.in-Ok.ensures.shared c.requires.runs.proc c.requires.runs.found })
-    c.in-Ok.ensures.child (number_of _ _ c.in-Ok.child (sym c.in-Ok.is ∙ c.fork.ensures.answer)) c.move_on.ensures
+    c.in-Ok.ensures.child (copied c.args.script.now c.args.objects.now (record { heap = c.fork.new.heap; procs = c.fork.new.self; tree = c.args.objects.now.tree; names = c.args.objects.now.names }) c.args.caller.now.place.pid c.in-Ok.child c.requires.kept c.in-Ok.ensures.child (number_of _ _ c.in-Ok.child (sym c.in-Ok.is ∙ c.fork.ensures.answer)) c.in-Ok.ensures.copies) (number_of _ _ c.in-Ok.child (sym c.in-Ok.is ∙ c.fork.ensures.answer)) c.move_on.ensures
     (c.directory_of-directory.ensures c.requires.runs.proc c.requires.runs.found) c.hold_directory.ensures.only c.hold_directory.ensures.stands c.behind.ensures.stands c.behind.ensures.rests
 
 pub go_on_anew-requires-clause-runs : goal.go_on_anew-requires-clause-runs
 go_on_anew-requires-clause-runs c =
     runs_pinned c.args.script.now c.args.objects.now (record { heap = c.fork.new.heap; procs = c.fork.new.self; tree = c.args.objects.now.tree; names = c.args.objects.now.names }) c.move_on.new.self c.hold_directory.new.objects c.args.caller.now.place.pid c.in-Ok.child c.directory_of-directory.result c.args.caller.now.control c.behind.result
     c.requires.kept c.requires.runs c.fork.ensures.moves refl refl (record { can = can_share c.args.script.now c.args.objects.now c.args.caller.now.place.pid c.requires.runs.proc c.requires.kept c.heap_is_well_formed.ensures c.requires.runs.found; descs = c.in-Ok.ensures.shared c.requires.runs.proc c.requires.runs.found })
-    c.in-Ok.ensures.child (number_of _ _ c.in-Ok.child (sym c.in-Ok.is ∙ c.fork.ensures.answer)) c.move_on.ensures
+    c.in-Ok.ensures.child (copied c.args.script.now c.args.objects.now (record { heap = c.fork.new.heap; procs = c.fork.new.self; tree = c.args.objects.now.tree; names = c.args.objects.now.names }) c.args.caller.now.place.pid c.in-Ok.child c.requires.kept c.in-Ok.ensures.child (number_of _ _ c.in-Ok.child (sym c.in-Ok.is ∙ c.fork.ensures.answer)) c.in-Ok.ensures.copies) (number_of _ _ c.in-Ok.child (sym c.in-Ok.is ∙ c.fork.ensures.answer)) c.move_on.ensures
     (c.directory_of-directory.ensures c.requires.runs.proc c.requires.runs.found) c.hold_directory.ensures.only c.hold_directory.ensures.stands
 
 pub go_on-requires-clause-kept : goal.go_on-requires-clause-kept
@@ -105,7 +105,7 @@ returns-in-Ok-clause-does c =
     does_fork script c.args.objects.now mid c.move_on.new.self c.hold_directory.new.objects c.args.caller.now.place.pid c.in-Ok.child c.directory_of-directory.result c.args.caller.now.control c.behind.result
     c.requires.kept c.requires.runs c.fork.ensures.moves refl refl
     (record { can = can_share c.args.script.now c.args.objects.now c.args.caller.now.place.pid c.requires.runs.proc c.requires.kept c.heap_is_well_formed.ensures c.requires.runs.found; descs = c.in-Ok.ensures.shared c.requires.runs.proc c.requires.runs.found })
-    c.in-Ok.ensures.child (number_of _ _ c.in-Ok.child answer) c.move_on.ensures
+    c.in-Ok.ensures.child (copied c.args.script.now c.args.objects.now (record { heap = c.fork.new.heap; procs = c.fork.new.self; tree = c.args.objects.now.tree; names = c.args.objects.now.names }) c.args.caller.now.place.pid c.in-Ok.child c.requires.kept c.in-Ok.ensures.child (number_of _ _ c.in-Ok.child (sym c.in-Ok.is ∙ c.fork.ensures.answer)) c.in-Ok.ensures.copies) (number_of _ _ c.in-Ok.child answer) c.move_on.ensures
     (c.directory_of-directory.ensures c.requires.runs.proc c.requires.runs.found) c.hold_directory.ensures.only c.hold_directory.ensures.stands
     c.go_on_anew.new.objects c.go_on_anew.result c.behind.ensures.stands c.behind.ensures.rests answer
     (λ table is. subst (λ r. IsTable c.fork.new.heap c.fork.new.self (forked_in table c.args.caller.now.place.pid r)) c.in-Ok.is (c.fork.ensures.table table is))
@@ -120,3 +120,6 @@ returns-in-Err-clause-does c =
     does_full c.args.script.now c.args.objects.now c.go_on.new.objects c.args.caller.now.place.pid c.in-Err.errno c.go_on.result
     (sym c.in-Err.is ∙ c.fork.ensures.answer) c.go_on.ensures.told
     (subst (λ objects. GoesOn c.args.script.now objects c.args.caller.now.place.pid (Fail c.in-Err.errno) c.go_on.new.objects) same c.go_on.ensures.goes)
+
+pub fork-requires-clause-own : goal.fork-requires-clause-own
+fork-requires-clause-own c = c.requires.kept.leaves

@@ -1,8 +1,8 @@
-use Rattle.std.proofs.Common.{map, ap, ◌∙◌}
+use Rattle.std.proofs.Common.{map, ap, None, refl, true, ◌∙◌}
 use Rattle.kabi_types.specs.Arguments.{argument_fault, path_fault, paths_fault, renamed_fault}
 use Rattle.posix_defs.specs.Control.{value_of}
 use Rattle.posix_defs.specs.Made.{made, text_at}
-use Rattle.prog_ctl.proofs.Asking.{bound_by_fault, fault_on_path}
+use Rattle.prog_ctl.proofs.Asking.{bound_by_fault, fault_never, fault_on_path}
 use Rattle.prog_ctl.proofs.asked.bound_at.Goals as goal
 
 pub returns-then-takes_path : goal.returns-then-takes_path
@@ -11,6 +11,12 @@ returns-then-takes_path c =
     c.only_if.ensures
     ∙ bound_by_fault c.args.kind numbers c.args.texts.now c.args.control.now.done c.args.bytes c.names_path.result (path_fault (text_at c.args.texts.now 0)) c.requires.price
     (fault_on_path c.args.kind numbers c.args.texts.now c.args.control.now.done (c.takes_path.ensures c.if-takes_path.true)) c.names_path.ensures
+
+pub returns-then-is_never_wrong : goal.returns-then-is_never_wrong
+returns-then-is_never_wrong c =
+    let numbers = map (value_of c.args.control.now) c.args.operands.now in
+    bound_by_fault c.args.kind numbers c.args.texts.now c.args.control.now.done c.args.bytes true None c.requires.price
+    (fault_never c.args.kind numbers c.args.texts.now c.args.control.now.done (c.is_never_wrong.ensures c.if-is_never_wrong.true)) refl
 
 pub returns-in-Link : goal.returns-in-Link
 returns-in-Link c =

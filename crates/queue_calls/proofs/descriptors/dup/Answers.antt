@@ -1,6 +1,6 @@
 use Rattle.std.proofs.Common.{ap, refl, subst, sym}
 use Rattle.kabi_types.specs.declared.calls.Call.TheVariants as call
-use Rattle.kheap_laws.proofs.PaidLemmas.{TakesNothing-trans, IsPaid-nothing, IsPaid-trans}
+use Rattle.kheap_laws.proofs.PaidLemmas.{IsPaid-nothing, IsPaid-trans}
 use Rattle.kheap_slabs.specs.Heap.{Heap}
 use Rattle.posix_defs.specs.Calls.OnDescriptors.{dup}
 use Rattle.proc_numbers.proofs.Fronts.{queues_same}
@@ -27,9 +27,6 @@ pub go_on-requires-clause-runs : goal.go_on-requires-clause-runs
 go_on-requires-clause-runs c =
     let done = c.dup_one.ensures in
     runs_then c.args.script.now c.args.objects.now c.dup_one.new.heap c.args.caller.now.place.pid c.args.caller.now.control c.requires.kept c.requires.runs done.changes done.listed done.owners (λ key. ap (λ (h : Heap). name_of h.socks key) done.beside)
-
-pub returns-clause-takes : goal.returns-clause-takes
-returns-clause-takes c = TakesNothing-trans c.args.objects.now.heap c.dup_one.new.heap c.go_on.new.objects.heap c.dup_one.ensures.takes c.go_on.ensures.takes
 
 pub returns-clause-does : goal.returns-clause-does
 returns-clause-does c =

@@ -9,7 +9,7 @@ use Rattle.kheap_slabs.proofs.kheap.KHeap.set_proc_control.Goals as goal
 pub invariant_of-self : goal.invariant_of-self
 invariant_of-self c =
     let there = object_of c.self.inside.memory.procs c.args.key (rw (ap (λ (h : Heap). h.procs) c.self.view_is) c.requires) in
-    IsMetered-proc (heap_of c.self.inside) c.self.inside.meter.live c.args.key c.set_control.new.self there.0 (record there.0 { control = c.args.control }) c.self.invariant there.1 (c.self.invariant.well_formed.descriptors c.args.key there.0 there.1) (c.self.invariant.well_formed.spaces c.args.key there.0 there.1) (c.set_control.ensures.kept there.0 there.1)
+    IsMetered-proc (heap_of c.self.inside) c.self.inside.meter.live c.args.key c.set_control.new.self there.0 (record there.0 { control = c.args.control }) c.self.invariant there.1 (c.self.invariant.well_formed.descriptors c.args.key there.0 there.1) (c.self.invariant.well_formed.spaces c.args.key there.0 there.1) (c.self.invariant.well_formed.leaves c.args.key there.0 there.1) (c.set_control.ensures.kept there.0 there.1)
 
 pub returns-clause-stays : goal.returns-clause-stays
 returns-clause-stays c =

@@ -11,7 +11,7 @@ use Rattle.kheap_slabs.proofs.ObjectLemmas.{InUse-within, object_of, object-put}
 use Rattle.kheap_laws.proofs.PaidLemmas.{TakesNothing-trans, TakesNothing-freed}
 use Rattle.kheap_laws.proofs.TableLemmas.{without-put}
 use Rattle.page_space.specs.Entries.{entry_at, PageTurns}
-use Rattle.page_space.proofs.KeyPlaces.{key_there}
+use Rattle.kheap_laws.proofs.KeyPlaces.{key_there}
 use Rattle.page_space.proofs.TurnLemmas.{turn-set, turn-clear}
 use Rattle.page_space.proofs.spaces.Space.clear_entry.Goals as goal
 

@@ -2,7 +2,7 @@ use Rattle.std.proofs.Common.{◌≡◌, ◌/◌, ◌%◌, ℕ, List, Option, ge
 use Rattle.kheap_slabs.specs.Objects.{count}
 use Rattle.kheap_slabs.proofs.ObjectLemmas.{count-put_used, object_of}
 use Rattle.page_space.specs.Entries.{entry_at, PageTurns}
-use Rattle.page_space.proofs.KeyPlaces.{key_there}
+use Rattle.kheap_laws.proofs.KeyPlaces.{key_there}
 use Rattle.page_space.proofs.TurnLemmas.{turn-set, mapped_set}
 use Rattle.page_space.proofs.spaces.Space.set_entry.Goals as goal
 

@@ -1,5 +1,5 @@
 use Rattle.std.proofs.Common.{◌≡◌, ◌/◌, get_or, None, Some, subst}
-use Rattle.page_space.proofs.KeyPlaces.{key_there}
+use Rattle.kheap_laws.proofs.KeyPlaces.{key_there}
 use Rattle.page_space.proofs.spaces.Space.skip_unmapped.Goals as goal
 
 pub get_node-requires : goal.get_node-requires
