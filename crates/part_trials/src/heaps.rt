@@ -39,6 +39,13 @@ fn leaf_of(desc: u32) -> Leaf {
     }
 }
 
+fn last_desc(leaf: &Leaf) -> Option<u32> {
+    match leaf.descriptors[31] {
+        Some(descriptor) => Some(descriptor.desc),
+        None => None,
+    }
+}
+
 fn node_of(page: u32) -> Node {
     Node {
         entries: [PageEntry::Frame(page); 64],
@@ -257,7 +264,7 @@ fn renew_leaf(heap: &mut KHeap) -> bool
     let freed = heap.free_leaf(first);
     let second = heap.insert_leaf(leaf_of(5));
     let found = heap.get_leaf(second);
-    freed == leaf_of(3) && *found == leaf_of(5)
+    last_desc(&freed) == Some(3) && last_desc(found) == Some(5)
 }
 
 // 512 + 512 + 4096 + 64 + 128 + 64 + 1088 + 128 + 576 + 128 + 256 bytes.
