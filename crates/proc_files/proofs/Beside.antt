@@ -4,7 +4,6 @@ use Rattle.kheap_laws.proofs.OwnerLemmas.{IsOwned-same}
 use Rattle.kheap_laws.proofs.TableLemmas.{OwnsItsObjects-along}
 use Rattle.kheap_slabs.specs.Objects.{object}
 use Rattle.kheap_slabs.specs.declared.objects.Pipe.{Pipe as HeldPipe}
-use Rattle.kheap_slabs.specs.declared.objects.Proc.{Proc}
 use Rattle.kheap_slabs.specs.declared.objects.Sock.{Sock}
 use Rattle.kheap_slabs.specs.Heap.{Heap}
 use Rattle.kheap_slabs.specs.Owners.{IsOwned, Owners, pipe_queues, sock_queues, spaces_of, with_space}
