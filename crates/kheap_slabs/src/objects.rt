@@ -30,7 +30,7 @@ pub struct Descriptor {
 }
 
 /// The open descriptors of 32 further numbers of a process, of which one is open.
-#[derive(Clone, Copy, Debug, PartialEq, Eq)]
+#[derive(Clone, Copy)]
 pub struct Leaf {
     pub descriptors: [Option<Descriptor>; 32],
 }
