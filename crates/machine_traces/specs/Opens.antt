@@ -33,8 +33,8 @@ faults_on_files =
     ∷ fails 1 (call.Pwrite (pos 9) (pos 4096) (pos 1) (negsuc 0)) errno.EINVAL
     ∷ fails 1 (call.Pwrite (pos 0) (pos 8192) (pos 1) (pos 0)) errno.EBADF
     ∷ fails 1 (call.Pwrite (pos 1) (pos 8192) (pos 1) (pos 0)) errno.EFAULT
-    ∷ gets 1 (call.Pwrite (pos 1) (pos 8192) (pos 0) (pos 300000)) (reply.Val (pos 0))
-    ∷ fails 1 (call.Pwrite (pos 1) (pos 4096) (pos 1) (pos 300000)) errno.EFBIG
+    ∷ gets 1 (call.Pwrite (pos 1) (pos 8192) (pos 0) (pos 67381248)) (reply.Val (pos 0))
+    ∷ fails 1 (call.Pwrite (pos 1) (pos 4096) (pos 1) (pos 67381248)) errno.EFBIG
     ∷ fails 1 (call.Fstat (pos 128)) errno.EBADF
     ∷ fails 1 (call.Fstat (negsuc 0)) errno.EBADF
     ∷ fails 1 (call.Dup (pos 9)) errno.EBADF
