@@ -8,6 +8,7 @@ ghost use Rattle.memfs_dir.specs.Slots.{entry_size, entries_in_block, IsCalled, 
 ghost use Rattle.memfs_dir.specs.Looking.{FoundIn, IsLookOf, asked_to_find, found_place};
 ghost use Rattle.memfs_dir.specs.Listed.{IsDirectory, IsInUse, place_called};
 
+use crate::copied::CopiedBlocks;
 use crate::slots::{ENTRIES_IN_BLOCK, ENTRY_SIZE, node_in, slot_called};
 use disk_layout::pointers_in;
 use kabi_types::Inode;
@@ -47,7 +48,7 @@ pub trait LookedBlocks: Blocks {
 /// The place of the first entry of a directory that has this name, counted from 0; None exactly where none has it.
 ///
 /// It asks for each block of the directory at most once, and for no block behind that of the entry.
-pub fn dir_find<B: LookedBlocks>(b: &mut B, dir: &Inode, name: &[u8]) -> Option<u32>
+pub fn dir_find<B: Blocks>(b: &mut B, dir: &Inode, name: &[u8]) -> Option<u32>
     requires sound { Sound (B.blocks b.old) }
     requires node { IsInUse (B.blocks b.old) dir.now }
     requires entries { IsDirectory (B.blocks b.old) dir.now }
@@ -57,7 +58,8 @@ pub fn dir_find<B: LookedBlocks>(b: &mut B, dir: &Inode, name: &[u8]) -> Option<
     ensures asked { AskedInTurn B.asked b.old (asked_to_find (B.blocks b.old) dir.now result) b.new }
     ensures follows { B.follows b.old b.new }
 {
-    place_of(dir_look(b, dir, name))
+    let mut copied = CopiedBlocks { below: b };
+    place_of(dir_look(&mut copied, dir, name))
 }
 
 fn place_of(found: Option<FoundEntry>) -> Option<u32>
@@ -69,7 +71,7 @@ fn place_of(found: Option<FoundEntry>) -> Option<u32>
     }
 }
 
-/// The same with the node of that entry.
+/// The same with the node of that entry, in blocks that are looked through where they lie.
 pub fn dir_look<B: LookedBlocks>(b: &mut B, dir: &Inode, name: &[u8]) -> Option<FoundEntry>
     requires sound { Sound (B.blocks b.old) }
     requires node { IsInUse (B.blocks b.old) dir.now }
