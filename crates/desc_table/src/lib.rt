@@ -1,14 +1,13 @@
 //! Descriptors and open descriptions in the kernel's heap: the descriptors of one process by number, and how a description
-//! is shared and dropped.
+//! is shared.
 //!
-//! A description counts the descriptors that name it. With the last one it goes, and what it was open on is closed: an end
-//! of a pipe, or a socket with those that wait for it. A node is closed by the caller, who is told its number.
+//! A description counts the descriptors that name it. With the last one it goes, which is the work of who closes numbers.
 #![tactic(auto)]
 
 mod descriptions;
 mod descriptors;
 mod laws;
 
-pub use descriptions::{drop_desc, share_desc, share_descs};
+pub use descriptions::{share_desc, share_descs};
 pub use descriptors::Descs;
 pub use laws::descriptions_count_their_descriptors;

@@ -14,7 +14,7 @@ ghost use Rattle.proc_table.specs.Table.{IsPlaced, processes};
 ghost use Rattle.proc_numbers.specs.Queues.{QueuesStand};
 ghost use Rattle.proc_numbers.specs.Having.{AreListed, ClosesNumber, HaveOpen, OpensNoNode, node_closed};
 
-use desc_table::drop_desc;
+use crate::dropping::drop_desc;
 use kheap_slabs::{KHeap, Proc};
 use proc_table::{Place, ProcTable};
 
