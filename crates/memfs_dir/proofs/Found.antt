@@ -94,11 +94,11 @@ pub asked_append : {Thing Question : Type 0} (asked : Thing → Question → Thi
 asked_append {Thing} {Question} asked first second third [] ys one other = subst (λ (thing : Thing). AskedInTurn asked thing ys third) one other
 asked_append {Thing} {Question} asked first second third (x ∷ xs) ys one other = (one.0, one.1, asked_append asked one.0 second third xs ys one.2 other)
 
--- what is asked of a thing for a part of it is asked of the part
-pub asked_part : {Thing Part Question : Type 0} (asked : Part → Question → Part → Type 0) (part : Thing → Part) (before after : Thing) (questions : List Question)
-    → AskedInTurn (λ one question other. asked (part one) question (part other)) before questions after → AskedInTurn asked (part before) questions (part after)
-asked_part {Thing} {Part} {Question} asked part before after [] is = ap part is
-asked_part {Thing} {Part} {Question} asked part before after (question ∷ questions) is = (part is.0, is.1, asked_part asked part is.0 after questions is.2)
+-- what is asked of a thing is asked of what it stands for
+pub asked_through : {A B Q : Type 0} (of : A → B) (asked : B → Q → B → Type 0) (before : A) (questions : List Q) (after : A)
+    → AskedInTurn (λ a question b. asked (of a) question (of b)) before questions after → AskedInTurn asked (of before) questions (of after)
+asked_through of asked before [] after is = ap of is
+asked_through of asked before (question ∷ questions) after is = (of is.0, is.1, asked_through of asked is.0 questions after is.2)
 
 map_both : (f : Place → ℕ) (xs ys : List Place) → map f (xs ++ ys) ≡ map f xs ++ map f ys
 map_both f [] ys = refl
