@@ -32,6 +32,7 @@ EXCEPTIONS = {
     ("kheap_laws", "fork"): "a worked call: its contract follows from those of the heap and from laws",
     ("kheap_laws", "new_pipe"): "a worked call: its contract follows from those of the heap and from laws",
     ("vnode_cache", "forget"): "the three caches answer to the same calls",
+    ("memfs_dir", "dir_find"): "a look through any blocks; the tree looks through its own where they lie, by dir_look",
     ("desc_table", "set"): "a table of descriptors by itself; a process's are set in its Proc",
     ("prog_ctl", "next_call"): "the next call, and where its caller stands then; the store asks for one at a time",
     ("kern_events", "default_event"): "what a run takes that chooses nothing; the program picks by numbers, by ends or by workers",

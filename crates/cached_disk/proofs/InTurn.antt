@@ -10,12 +10,6 @@ use Rattle.posix_defs.specs.Asking.{AskedInTurn}
 use Rattle.block_cache.specs.Blocks.{block_slot, cached_block}
 use Rattle.cached_disk.specs.Lent.{Parts, IsReordered, IsFound, IsFetched, Asked, IsCached}
 
--- what is asked of a thing is asked of what it stands for
-pub asked_through : {A B Q : Type 0} (of : A → B) (asked : B → Q → B → Type 0) (before : A) (questions : List Q) (after : A)
-    → AskedInTurn (λ a question b. asked (of a) question (of b)) before questions after → AskedInTurn asked (of before) questions (of after)
-asked_through of asked before [] after is = ap of is
-asked_through of asked before (question ∷ questions) after is = (of is.0, is.1, asked_through of asked is.0 questions after is.2)
-
 found_if : (A B : Type 0) (o : Option ℕ) → IsSome o → MatchOption o A (λ _. B) → B
 found_if A B None some is = absurd (cc)
 found_if A B (Some slot) some is = is

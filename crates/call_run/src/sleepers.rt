@@ -193,7 +193,7 @@ fn stirs_of(call: &Call, came: Came) -> Stirs
 }
 
 /// Whether a turn that came to this leaves its call asleep.
-fn leaves_asleep(turned: &Turned) -> bool
+fn is_sleep(turned: &Turned) -> bool
     ensures { result ≡ is_sleep turned.now }
 {
     matches!(turned, Turned::Sleep | Turned::Part(_))
@@ -691,7 +691,7 @@ impl Sleepers {
             → AreMinded script.now new.plain self.new.told self.new.channels }
         ensures named { HasNamed (is_settled self.old.told) (is_settled self.new.told) self.new.stirred }
     {
-        if !self.told.is_empty() || leaves_asleep(turned) || !self.stirred.is_empty() {
+        if !self.told.is_empty() || is_sleep(turned) || !self.stirred.is_empty() {
             self.look_after(script, objects, pid, call, came_of(turned));
         }
     }

@@ -94,6 +94,12 @@ pub asked_append : {Thing Question : Type 0} (asked : Thing → Question → Thi
 asked_append {Thing} {Question} asked first second third [] ys one other = subst (λ (thing : Thing). AskedInTurn asked thing ys third) one other
 asked_append {Thing} {Question} asked first second third (x ∷ xs) ys one other = (one.0, one.1, asked_append asked one.0 second third xs ys one.2 other)
 
+-- what is asked of a thing is asked of what it stands for
+pub asked_through : {A B Q : Type 0} (of : A → B) (asked : B → Q → B → Type 0) (before : A) (questions : List Q) (after : A)
+    → AskedInTurn (λ a question b. asked (of a) question (of b)) before questions after → AskedInTurn asked (of before) questions (of after)
+asked_through of asked before [] after is = ap of is
+asked_through of asked before (question ∷ questions) after is = (of is.0, is.1, asked_through of asked is.0 questions after is.2)
+
 map_both : (f : Place → ℕ) (xs ys : List Place) → map f (xs ++ ys) ≡ map f xs ++ map f ys
 map_both f [] ys = refl
 map_both f (x ∷ xs) ys = ap (λ (rest : List ℕ). f x ∷ rest) (map_both f xs ys)

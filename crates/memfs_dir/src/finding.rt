@@ -9,6 +9,7 @@ ghost use Rattle.blk_map.specs.Runs.{run_start};
 ghost use Rattle.memfs_dir.specs.Looking.{FoundIn, HasDouble, HasRun, IsLookOf, asked_to_find, blocks_at, entered, found_place};
 ghost use Rattle.memfs_dir.specs.Listed.{IsDirectory, IsInUse, place_called};
 
+use crate::copied::CopiedBlocks;
 use crate::slots::{ENTRIES_IN_BLOCK, ENTRY_SIZE, node_in, slot_called};
 use blk_map::{BLOCK_POINTERS, DIRECT_POINTERS, run_of};
 use disk_layout::pointers_in;
@@ -46,7 +47,7 @@ pub trait LookedBlocks: Blocks {
 /// The place of the first entry of a directory that has this name, counted from 0; None exactly where none has it.
 ///
 /// It asks for each block of the directory at most once, and for no block behind that of the entry.
-pub fn dir_find<B: LookedBlocks>(b: &mut B, dir: &Inode, name: &[u8]) -> Option<u32>
+pub fn dir_find<B: Blocks>(b: &mut B, dir: &Inode, name: &[u8]) -> Option<u32>
     requires sound { Sound (B.blocks b.old) }
     requires node { IsInUse (B.blocks b.old) dir.now }
     requires entries { IsDirectory (B.blocks b.old) dir.now }
@@ -56,7 +57,8 @@ pub fn dir_find<B: LookedBlocks>(b: &mut B, dir: &Inode, name: &[u8]) -> Option<
     ensures asked { AskedInTurn B.asked b.old (asked_to_find (B.blocks b.old) dir.now result) b.new }
     ensures follows { B.follows b.old b.new }
 {
-    place_of(dir_look(b, dir, name))
+    let mut copied = CopiedBlocks { below: b };
+    place_of(dir_look(&mut copied, dir, name))
 }
 
 fn place_of(found: Option<FoundEntry>) -> Option<u32>
@@ -68,7 +70,7 @@ fn place_of(found: Option<FoundEntry>) -> Option<u32>
     }
 }
 
-/// The same with the node of that entry.
+/// The same with the node of that entry, in blocks that are looked through where they lie.
 pub fn dir_look<B: LookedBlocks>(b: &mut B, dir: &Inode, name: &[u8]) -> Option<FoundEntry>
     requires sound { Sound (B.blocks b.old) }
     requires node { IsInUse (B.blocks b.old) dir.now }

@@ -1,10 +1,11 @@
 //! A directory as the list of its entries, of which the first two are `.` and `..`.
 //!
 //! Every call works over any `Blocks`, keeps one block's bytes in hand, and copies out the entry or the pointers that it
-//! needs of it. A place is counted from 0, that of `.`; which entry may go or change is for the caller to say.
+//! needs of it; `dir_look` alone takes blocks that are looked through where they lie. A place is counted from 0, that of `.`; which entry may go or change is for the caller to say.
 #![tactic(auto)]
 
 mod adding;
+mod copied;
 mod entries;
 mod finding;
 mod laws;

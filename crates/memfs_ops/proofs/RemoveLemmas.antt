@@ -120,6 +120,15 @@ held_alike heap fs one other mine pins number s also none = elim (cases_lt 0 (pi
   | inr zero_pins ↦ omega arith
 ]
 
+pub held_same : (heap : Heap) (fs : TreeView) (one other : Tree) (mine pins : ℕ → ℕ) (number : ℕ) (answer : Bool) → Stands heap fs one mine → Stands heap fs other pins → answer ≡ is_held mine number → is_held pins number ≡ answer
+held_same heap fs one other mine pins number answer s also is = ap (ltb 0) same ∙ sym is
+  where
+    same : pins number ≡ mine number
+    same = elim (cases_lt 0 (mine number)) [
+      | inl some ↦ same_pins mine pins heap.vnodes number s.held also.held some
+      | inr few ↦ let none : mine number ≡ 0 = omega (arith, few) in held_alike heap fs one other mine pins number s also none ∙ sym none
+    ]
+
 -- ---- what an unlink tells
 
 pub no_held : (count : ℕ) → ltb 0 count ≡ false → count ≡ 0

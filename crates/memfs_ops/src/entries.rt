@@ -11,7 +11,7 @@ ghost use Rattle.blk_map.specs.Named.{FreesNone, TakesLowest, TakesNone};
 ghost use Rattle.memfs_ops.specs.Entries.{edited, HasEntry, MayEdit, TakesFor};
 
 use kabi_types::{DirEntry, Inode, Name27};
-use memfs_dir::{LookedBlocks, dir_add, dir_find, dir_remove, dir_rename};
+use memfs_dir::{LookedBlocks, dir_add, dir_look, dir_remove, dir_rename};
 use posix_defs::Blocks;
 
 /// What becomes of one entry of a directory.
@@ -80,10 +80,10 @@ fn take_out<B: LookedBlocks>(b: &mut B, dir: u32, inode: &mut Inode, name: &Name
     ensures takes_none { TakesNone (B.blocks b.old) (B.blocks b.new) }
     ensures follows { B.follows b.old b.new }
 {
-    let Some(place) = dir_find(b, inode, name.items()) else {
+    let Some(found) = dir_look(b, inode, name.items()) else {
         unreachable!()
     };
-    let _node = dir_remove(b, dir, inode, place);
+    let _node = dir_remove(b, dir, inode, found.place);
 }
 
 // An entry gets a name and a node, in its place.
@@ -108,14 +108,14 @@ fn set_named<B: LookedBlocks>(
     ensures frees_none { FreesNone (B.blocks b.old) (B.blocks b.new) }
     ensures follows { B.follows b.old b.new }
 {
-    let Some(place) = dir_find(b, inode, from.items()) else {
+    let Some(found) = dir_look(b, inode, from.items()) else {
         unreachable!()
     };
     let entry = DirEntry {
         node,
         name: to.copy(),
     };
-    dir_rename(b, inode, place, &entry);
+    dir_rename(b, inode, found.place, &entry);
 }
 
 // The entry `..` names another directory.

@@ -1,12 +1,12 @@
 //! Names that go: those of files and sockets, and of directories without entries.
-ghost use Rattle.std.specs.Prelude.{◌≡◌, ℕ, ◌&&◌, ◌==◌, Bool, Option, List, true, false, not, None, Some, Ok, Err, Result, IsSome};
+ghost use Rattle.std.specs.Prelude.{◌≡◌, ◌≢◌, ℕ, ◌&&◌, ◌==◌, Bool, Option, List, true, false, not, None, Some, Ok, Err, Result, IsSome};
 ghost use Rattle.std.specs.List.{last_or};
 ghost use Rattle.std.specs.Option.{option_map};
 ghost use Rattle.kabi_types.specs.Arguments.{path_fault};
 ghost use Rattle.kabi_types.specs.PathParts.{components};
 ghost use Rattle.kabi_types.specs.declared.errnos.Errno.TheVariants.{EBUSY, ENOTDIR, ENOTEMPTY, EPERM};
 ghost use Rattle.posix_defs.specs.PathCalls as calls;
-ghost use Rattle.posix_defs.specs.Tree.{Tree, IsInodeAt, found, is_directory as directory_in};
+ghost use Rattle.posix_defs.specs.Tree.{Tree, IsInodeAt, root, found, is_directory as directory_in};
 ghost use Rattle.posix_defs.specs.TreeChanges.{unlink};
 ghost use Rattle.vnode_cache.specs.Nodes.{node_slot};
 ghost use Rattle.memfs_ops.specs.FileTree.{Stands, MayWalk, Pays};
@@ -27,17 +27,21 @@ impl FileTree {
     /// Takes a directory without entries away. EINVAL where the path ends in `.`, ENOTEMPTY where it ends in `..` or the
     /// directory has entries, ENOTDIR where it is none, EBUSY where it is the root or is in use, else the faults of the walk.
     ///
-    /// See [rmdir](https://pubs.opengroup.org/onlinepubs/9699919799/functions/rmdir.html).
-    pub fn remove_dir(
+    /// `busy` says of each node but the root whether it is held. See
+    /// [rmdir](https://pubs.opengroup.org/onlinepubs/9699919799/functions/rmdir.html).
+    pub fn remove_dir<U: Fn(u32) -> bool>(
         &mut self,
         heap: &mut KHeap,
         purse: &mut Purse,
         cwd: u32,
         path: &[u8],
+        busy: &U,
     ) -> Result<(), Errno>
         requires stands { (tree : Tree) × (pins : ℕ → ℕ) × Stands heap.old self.old tree pins
-            × (directory_in tree cwd ≡ true) }
+            × (directory_in tree cwd ≡ true)
+            × ((number : ℕ) (answer : Bool) → U.post busy.now number answer → number ≢ root → answer ≡ is_held pins number) }
         requires path { path_fault path.now ≡ None }
+        requires callable { U.IsAlwaysCallable busy.now }
         requires may { MayWalk heap.old purse.old }
         ensures answer { (tree : Tree) (pins : ℕ → ℕ) (held : ℕ → Bool) → Stands heap.old self.old tree pins
             → TellsHeld pins held
@@ -56,7 +60,7 @@ impl FileTree {
                 name,
                 node,
                 ..
-            } => self.remove_empty(heap, purse, parent, &name, node),
+            } => self.remove_empty(heap, purse, parent, &name, node, busy),
             Walked::Node(_) => Err(Errno::EBUSY),
             Walked::Free { .. } => Err(Errno::ENOENT),
             Walked::Fail(errno) => Err(errno),
@@ -64,16 +68,19 @@ impl FileTree {
     }
 
     // The same of a name that is there.
-    fn remove_empty(
+    fn remove_empty<U: Fn(u32) -> bool>(
         &mut self,
         heap: &mut KHeap,
         purse: &mut Purse,
         parent: u32,
         name: &Name27,
         node: u32,
+        busy: &U,
     ) -> Result<(), Errno>
         requires stands { (tree : Tree) × (pins : ℕ → ℕ) × Stands heap.old self.old tree pins
-            × (found tree parent name.now ≡ Some node) }
+            × (found tree parent name.now ≡ Some node)
+            × ((number : ℕ) (answer : Bool) → U.post busy.now number answer → number ≢ root → answer ≡ is_held pins number) }
+        requires callable { U.IsAlwaysCallable busy.now }
         requires may { MayWalk heap.old purse.old }
         ensures answer { (tree : Tree) (pins : ℕ → ℕ) → Stands heap.old self.old tree pins
             → ChangedTo heap.new self.new tree
@@ -90,7 +97,7 @@ impl FileTree {
         if inode.size != NO_ENTRIES {
             return Err(Errno::ENOTEMPTY);
         }
-        if self.is_pinned(heap, node) {
+        if busy(node) {
             return Err(Errno::EBUSY);
         }
         self.take_name(heap, purse, parent, name, node, false);
@@ -155,15 +162,6 @@ impl FileTree {
         let opened = self.stays_open(heap, node, &inode);
         self.take_name(heap, purse, parent, name, node, opened);
         Ok(socket_freed(node, &inode))
-    }
-
-    /// Whether someone holds a node that is cached.
-    pub(crate) fn is_pinned(&self, heap: &KHeap, node: u32) -> bool
-        requires stands { (tree : Tree) × (pins : ℕ → ℕ) × Stands heap.now self.now tree pins }
-        requires there { IsSome (node_slot self.now.vnodes node) }
-        ensures { (tree : Tree) (pins : ℕ → ℕ) → Stands heap.now self.now tree pins → result ≡ is_held pins node }
-    {
-        self.vnodes.pins(heap, node) != 0
     }
 
     /// Whether a node that is cached stays without a name: a file does as long as someone holds it.

@@ -8,7 +8,7 @@ ghost use Rattle.posix_defs.specs.IsTree.{IsEntryName};
 ghost use Rattle.posix_defs.specs.PathCalls as calls;
 ghost use Rattle.posix_defs.specs.Paths.{resolve};
 ghost use Rattle.posix_defs.specs.SoundDisk.{HasNode};
-ghost use Rattle.posix_defs.specs.Tree.{Tree, found, is_directory as directory_in, is_in_use, parent_at};
+ghost use Rattle.posix_defs.specs.Tree.{Tree, root, found, is_directory as directory_in, is_in_use, parent_at};
 ghost use Rattle.posix_defs.specs.TreeChanges.{rename_over, rename_to, takes_entry, is_at_or_above, hung_if_directory};
 ghost use Rattle.blk_map.specs.Named.{FreesNone, PrefersLowest, TakesNone};
 ghost use Rattle.lru_index.specs.NameKeys.{name_key};
@@ -41,21 +41,24 @@ impl FileTree {
     /// or a slash stands behind a free name, ENOTEMPTY where a directory that goes has entries, ENOSPC where there is no room,
     /// else the faults of both walks.
     ///
-    /// Of the blocks that were free it takes the lowest. See
+    /// Of the blocks that were free it takes the lowest. `busy` says of each node but the root whether it is held. See
     /// [rename](https://pubs.opengroup.org/onlinepubs/9699919799/functions/rename.html).
-    pub fn rename_name(
+    pub fn rename_name<U: Fn(u32) -> bool>(
         &mut self,
         heap: &mut KHeap,
         purse: &mut Purse,
         cwd: u32,
         old: &[u8],
         new: &[u8],
+        busy: &U,
     ) -> Result<Option<u32>, Errno>
         requires stands { (tree : Tree) × (pins : ℕ → ℕ) × Stands heap.old self.old tree pins
-            × (directory_in tree cwd ≡ true) × HoldsNoSocket tree pins }
+            × (directory_in tree cwd ≡ true) × HoldsNoSocket tree pins
+            × ((number : ℕ) (answer : Bool) → U.post busy.now number answer → number ≢ root → answer ≡ is_held pins number) }
         requires old { path_fault old.now ≡ None }
         requires new { path_fault new.now ≡ None }
         requires bytes { All (λ byte. (0 < byte) × (byte < 2 ^ 8)) new.now }
+        requires callable { U.IsAlwaysCallable busy.now }
         requires may { MayWalk heap.old purse.old }
         ensures answer { (tree : Tree) (pins : ℕ → ℕ) (opened held : ℕ → Bool) → Stands heap.old self.old tree pins
             → TellsOpened tree pins opened → TellsHeld pins held
@@ -70,7 +73,7 @@ impl FileTree {
                 name,
                 node,
                 ..
-            } => self.rename_from(heap, purse, cwd, parent, &name, node, new),
+            } => self.rename_from(heap, purse, cwd, parent, &name, node, new, busy),
             Walked::Node(_) => self.rename_root(heap, purse, cwd, new),
             Walked::Free { .. } => Err(Errno::ENOENT),
             Walked::Fail(errno) => Err(errno),
@@ -103,7 +106,7 @@ impl FileTree {
     }
 
     // A rename of a name that is there.
-    fn rename_from(
+    fn rename_from<U: Fn(u32) -> bool>(
         &mut self,
         heap: &mut KHeap,
         purse: &mut Purse,
@@ -112,11 +115,14 @@ impl FileTree {
         name: &Name27,
         number: u32,
         new: &[u8],
+        busy: &U,
     ) -> Result<Option<u32>, Errno>
         requires stands { (tree : Tree) × (pins : ℕ → ℕ) × Stands heap.old self.old tree pins
-            × (directory_in tree cwd ≡ true) × (found tree dir name.now ≡ Some number) × HoldsNoSocket tree pins }
+            × (directory_in tree cwd ≡ true) × (found tree dir name.now ≡ Some number) × HoldsNoSocket tree pins
+            × ((number : ℕ) (answer : Bool) → U.post busy.now number answer → number ≢ root → answer ≡ is_held pins number) }
         requires new { path_fault new.now ≡ None }
         requires bytes { All (λ byte. (0 < byte) × (byte < 2 ^ 8)) new.now }
+        requires callable { U.IsAlwaysCallable busy.now }
         requires may { MayWalk heap.old purse.old }
         ensures answer { (tree : Tree) (pins : ℕ → ℕ) → Stands heap.old self.old tree pins
             → ToldTo heap.new self.new tree (calls.rename_named tree (is_held pins) (is_held pins) dir name.now number
@@ -130,7 +136,7 @@ impl FileTree {
                 name: target,
                 node,
                 ..
-            } => self.rename_onto(heap, purse, dir, name, number, to, &target, node),
+            } => self.rename_onto(heap, purse, dir, name, number, to, &target, node, busy),
             Walked::Free {
                 parent: to,
                 name: target,
@@ -142,7 +148,7 @@ impl FileTree {
     }
 
     // A rename over a name that is there.
-    fn rename_onto(
+    fn rename_onto<U: Fn(u32) -> bool>(
         &mut self,
         heap: &mut KHeap,
         purse: &mut Purse,
@@ -152,9 +158,12 @@ impl FileTree {
         to: u32,
         new: &Name27,
         replaced: u32,
+        busy: &U,
     ) -> Result<Option<u32>, Errno>
         requires stands { (tree : Tree) × (pins : ℕ → ℕ) × Stands heap.old self.old tree pins
-            × (found tree dir name.now ≡ Some number) × (found tree to new.now ≡ Some replaced) × HoldsNoSocket tree pins }
+            × (found tree dir name.now ≡ Some number) × (found tree to new.now ≡ Some replaced) × HoldsNoSocket tree pins
+            × ((number : ℕ) (answer : Bool) → U.post busy.now number answer → number ≢ root → answer ≡ is_held pins number) }
+        requires callable { U.IsAlwaysCallable busy.now }
         requires may { MayWalk heap.old purse.old }
         ensures answer { (tree : Tree) (pins : ℕ → ℕ) → Stands heap.old self.old tree pins
             → ToldTo heap.new self.new tree (calls.unless (calls.goes_below tree number to) EINVAL
@@ -168,11 +177,11 @@ impl FileTree {
         if number == replaced {
             return Ok(None);
         }
-        self.replace(heap, purse, dir, name, number, to, new, replaced)
+        self.replace(heap, purse, dir, name, number, to, new, replaced, busy)
     }
 
     // The same of another node, in whose way no directory stands.
-    fn replace(
+    fn replace<U: Fn(u32) -> bool>(
         &mut self,
         heap: &mut KHeap,
         purse: &mut Purse,
@@ -182,11 +191,14 @@ impl FileTree {
         to: u32,
         new: &Name27,
         replaced: u32,
+        busy: &U,
     ) -> Result<Option<u32>, Errno>
         requires stands { (tree : Tree) × (pins : ℕ → ℕ) × Stands heap.old self.old tree pins
             × (found tree dir name.now ≡ Some number) × (found tree to new.now ≡ Some replaced) × HoldsNoSocket tree pins
+            × ((number : ℕ) (answer : Bool) → U.post busy.now number answer → number ≢ root → answer ≡ is_held pins number)
             × IsOffWay tree number to }
         requires other { number ≢ replaced }
+        requires callable { U.IsAlwaysCallable busy.now }
         requires may { MayWalk heap.old purse.old }
         ensures answer { (tree : Tree) (pins : ℕ → ℕ) → Stands heap.old self.old tree pins
             → ToldTo heap.new self.new tree
@@ -198,7 +210,7 @@ impl FileTree {
         let gone = self.inode(heap, purse, replaced);
         let moves = is_directory(&moved);
         let goes = is_directory(&gone);
-        let used = self.is_pinned(heap, replaced);
+        let used = busy(replaced);
         match onto_fault(moves, goes, gone.size == NO_ENTRIES, used) {
             Some(errno) => Err(errno),
             None => {

@@ -21,12 +21,7 @@ use Rattle.proc_files.specs.Holders.{AreOpenNodes}
 use Rattle.store_objects.specs.Trees.{held_nodes, pins_in}
 use Rattle.store_objects.specs.Working.{AreDirectories}
 use Rattle.store_objects.proofs.HeldNodes.{counts_in, held_same, in_counts}
-
--- a test holds where another does, and the other way round
-alike : (a b : Bool) → (a ≡ true → b ≡ true) → (b ≡ true → a ≡ true) → a ≡ b
-alike true b to from = sym (to refl)
-alike false true to from = from refl
-alike false false to from = refl
+use Rattle.path_calls.proofs.Adding.{alike}
 
 -- some of these numbers are the number where they count it
 counted : (n : ℕ) (ns : List ℕ) → nat_lt 0 (count_by (λ k. k == n) ns) ≡ is_in n ns
@@ -62,7 +57,7 @@ other_than_root : (n : ℕ) → n ≢ root → (root == n) ≡ false
 other_than_root n other = elim (eqb_tells root n) [ inl same ↦ absurd (other (sym same.1)) | inr apart ↦ apart.0 ]
 
 -- each node but the root is held where it is busy
-held_busy : (plain : Plain) (n : ℕ) → n ≢ root → is_busy plain n ≡ is_held (pins_in plain) n
+pub held_busy : (plain : Plain) (n : ℕ) → n ≢ root → is_busy plain n ≡ is_held (pins_in plain) n
 held_busy plain n other =
     ap (λ b. b || list_any (works_in n) plain.table) (opens_is plain.files n)
     ∙ ap (λ b. is_in n (opened_nodes plain.files) || b) (works_is n plain.table)

@@ -3,7 +3,11 @@ pub mod WaysKnown
 pub mod Walked
 pub mod Stated
 pub mod Entering
+pub mod Adding
+pub mod Walking
+pub mod Opened
 pub mod Busy
+pub mod HeldBy
 pub mod Changed
 pub mod WorkedOn
 pub mod OpenAfter

@@ -14,6 +14,7 @@ ghost use Rattle.store_objects.specs.Objects.{AreKept, Runs};
 ghost use Rattle.store_objects.specs.Standing.{StandsFor};
 ghost use Rattle.store_objects.specs.Walking.{Reaches};
 
+use crate::held::held_nodes;
 use crate::replies::done;
 use kabi_types::Script;
 use kheap_slabs::Purse;
@@ -70,7 +71,12 @@ pub fn rmdir(
     ensures paid { IsPaid objects.old.heap purse.old objects.new.heap purse.new }
     ensures does { Reaches script.now objects.old caller.now.place.pid (Call.Rmdir path.now) (λ plain. rmdir script.now plain caller.now.place.pid path.now) result objects.new }
 {
+    objects.heap_is_well_formed();
     let cwd = directory_of(objects, caller.place);
-    let gone = objects.tree.remove_dir(&mut objects.heap, purse, cwd, path);
+    let held = held_nodes(&objects.heap, &objects.procs);
+    let busy = |node: u32| held.has(node);
+    let gone = objects
+        .tree
+        .remove_dir(&mut objects.heap, purse, cwd, path, &busy);
     go_on(script, objects, caller, done(gone))
 }

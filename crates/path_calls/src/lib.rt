@@ -3,7 +3,9 @@
 #![tactic(auto)]
 
 mod directories;
+mod held;
 mod names;
+mod node_set;
 mod replies;
 mod telling;
 mod working;

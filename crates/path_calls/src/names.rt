@@ -14,6 +14,7 @@ ghost use Rattle.store_objects.specs.Objects.{AreKept, Runs};
 ghost use Rattle.store_objects.specs.Standing.{IsSound, StandsFor};
 ghost use Rattle.store_objects.specs.Walking.{Reaches, Serves};
 
+use crate::held::held_nodes;
 use crate::replies::{done, freed, gone_reply};
 use kabi_types::Script;
 use kheap_slabs::Purse;
@@ -111,10 +112,13 @@ pub fn rename(
     ensures paid { IsPaid objects.old.heap purse.old objects.new.heap purse.new }
     ensures does { Serves script.now objects.old caller.now.place.pid (Call.Rename old.now new.now) (λ plain. rename script.now plain caller.now.place.pid old.now new.now) result objects.new }
 {
+    objects.heap_is_well_formed();
     let cwd = directory_of(objects, caller.place);
+    let held = held_nodes(&objects.heap, &objects.procs);
+    let busy = |node: u32| held.has(node);
     let renamed = objects
         .tree
-        .rename_name(&mut objects.heap, purse, cwd, old, new);
+        .rename_name(&mut objects.heap, purse, cwd, old, new, &busy);
     objects.heap_is_well_formed();
     name_freed(&mut objects.heap, &mut objects.names, freed(&renamed));
     go_on(script, objects, caller, gone_reply(renamed))

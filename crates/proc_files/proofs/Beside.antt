@@ -4,12 +4,11 @@ use Rattle.kheap_laws.proofs.OwnerLemmas.{IsOwned-same}
 use Rattle.kheap_laws.proofs.TableLemmas.{OwnsItsObjects-along}
 use Rattle.kheap_slabs.specs.Objects.{object}
 use Rattle.kheap_slabs.specs.declared.objects.Pipe.{Pipe as HeldPipe}
-use Rattle.kheap_slabs.specs.declared.objects.Proc.{Proc}
 use Rattle.kheap_slabs.specs.declared.objects.Sock.{Sock}
 use Rattle.kheap_slabs.specs.Heap.{Heap}
 use Rattle.kheap_slabs.specs.Owners.{IsOwned, Owners, pipe_queues, sock_queues, spaces_of, with_space}
 use Rattle.open_laws.specs.Open.{HaveFronts, descriptors_by}
-use Rattle.open_laws.specs.Owned.{HasItsOwners, namings_of}
+use Rattle.open_laws.specs.Owned.{HasItsOwners, all_namings}
 use Rattle.open_laws.proofs.GoingLemmas.{held_open_on, named_on, open_on}
 use Rattle.open_laws.specs.Placed.{Numbers}
 use Rattle.posix_defs.specs.Account.{Account}

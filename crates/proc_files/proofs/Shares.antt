@@ -19,7 +19,7 @@ use Rattle.kheap_slabs.specs.Paid.{CanPay, IsPaid}
 use Rattle.kheap_slabs.specs.Purse.{Purse, left_bytes}
 
 -- a share leaves the caches
-caches_shared : (old new : Heap) → new ≡ record old { procs = new.procs; descs = new.descs } → CachesStay old new
+caches_shared : (old new : Heap) → new ≡ record old { procs = new.procs; leaves = new.leaves; descs = new.descs; high = new.high } → CachesStay old new
 caches_shared old new beside = record {
   vnodes = ap (λ (h : Heap). h.vnodes) beside;
   names = ap (λ (h : Heap). h.names) beside;
@@ -29,7 +29,7 @@ caches_shared old new beside = record {
 
 -- descriptors alone are others
 pub hold_named : (numbers : Numbers) (others : ℕ → ℕ) (old new : Heap) (kept : TableView) (fs : TreeView) (names : List (Option ℕ)) (files : Files) (pid fd : ℕ) (descriptor : Option Descriptor)
-    → new ≡ record old { procs = new.procs; descs = new.descs } → HoldNames numbers others old kept fs names files → HaveOpen numbers new kept (with_open files pid fd descriptor)
+    → new ≡ record old { procs = new.procs; leaves = new.leaves; descs = new.descs; high = new.high } → HoldNames numbers others old kept fs names files → HaveOpen numbers new kept (with_open files pid fd descriptor)
     → HoldNames numbers others new kept fs names (with_open files pid fd descriptor)
 hold_named numbers others old new kept fs names files pid fd descriptor beside hold have = record {
   held = record {

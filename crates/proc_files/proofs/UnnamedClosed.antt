@@ -5,6 +5,7 @@ use Rattle.std.proofs.lemmas.Bool.Decides.{eqb_tells}
 use Rattle.kheap_slabs.specs.Objects.{object}
 use Rattle.kheap_slabs.specs.declared.objects.Desc.{Desc}
 use Rattle.kheap_slabs.specs.declared.objects.Descriptor.{Descriptor as HeldDescriptor}
+use Rattle.kheap_slabs.specs.declared.objects.Leaf.{Leaf}
 use Rattle.kheap_slabs.specs.declared.objects.Proc.{Proc}
 use Rattle.kheap_slabs.specs.declared.objects.Target.{Target as HeldTarget}
 use Rattle.kheap_slabs.specs.declared.objects.Target.TheVariants as target
@@ -153,7 +154,7 @@ sockets_stay files pid fd same = record {
 module _ (numbers : Numbers) (others : ℕ → ℕ) (old mid new : Heap) (kept : TableView) (fs now : TreeView) (names after : List (Option ℕ)) (files : Files) (pid fd : ℕ)
     (held : HeldDescriptor) (desc : Desc) (is : named_at old kept pid fd ≡ Some held) (there : object old.descs held.desc ≡ Some desc)
     (listed : AreListed old kept) (owners : HasItsOwners old []) (before : HoldNames numbers others old kept fs names files)
-    (procs : mid.procs ≡ old.procs) (descs : mid.descs ≡ old.descs) (listed_mid : AreListed mid kept) (owners_mid : HasItsOwners mid [])
+    (procs : mid.procs ≡ old.procs) (leaves : mid.leaves ≡ old.leaves) (descs : mid.descs ≡ old.descs) (listed_mid : AreListed mid kept) (owners_mid : HasItsOwners mid [])
     (hold : HoldNames numbers others mid kept fs after (unnamed numbers files (socket_going desc)))
     (closes : ClosesHolding mid new kept pid fd) (listed_new : AreListed new kept)
     (leads : (n : Numbers) (o : ℕ → ℕ) (f : Files) → HoldFiles n o mid kept fs f → HoldFiles n o new kept now (after_close f pid fd)) where
@@ -179,7 +180,9 @@ module _ (numbers : Numbers) (others : ℕ → ℕ) (old mid new : Heap) (kept :
 
   -- what is named is as before
   named_mid : named_at mid kept pid fd ≡ named_at old kept pid fd
-  named_mid = ap (λ (p : List (Option Proc)). named_at (record old { procs = p }) kept pid fd) procs
+  named_mid =
+      ap (λ (l : List (Option Leaf)). named_at (record old { procs = mid.procs; leaves = l }) kept pid fd) leaves
+      ∙ ap (λ (p : List (Option Proc)). named_at (record old { procs = p }) kept pid fd) procs
 
   goes : Goes first (after_close first pid fd) (node_closed mid.descs (named_at mid kept pid fd))
   goes =

@@ -11,6 +11,7 @@ mod buffer;
 mod closing;
 mod controlling;
 mod describing;
+mod dropping;
 mod ends;
 mod finding;
 pub mod laws;

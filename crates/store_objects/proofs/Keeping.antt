@@ -11,10 +11,10 @@ use Rattle.kheap_slabs.specs.declared.objects.Proc.{Proc}
 use Rattle.kheap_slabs.specs.declared.objects.Sock.{Sock}
 use Rattle.kheap_slabs.specs.Heap.{Heap}
 use Rattle.kheap_slabs.specs.Keys.{AreKeysOf, IsOnce}
-use Rattle.kheap_slabs.specs.Owners.{pipe_queues, sock_queues}
+use Rattle.kheap_slabs.specs.Owners.{OwnsItsObjects, pipe_queues, sock_queues}
 use Rattle.kheap_laws.proofs.KeyLemmas.{AreKeysOf-changes}
 use Rattle.kheap_laws.proofs.OnceLemmas.{IsOnce-cons}
-use Rattle.open_laws.specs.Owned.{CountsItsNames, HasItsOwners, IsHeldOpen, all_namings, desc_count_at, leaf_namings_of}
+use Rattle.open_laws.specs.Owned.{CountsItsNames, HasItsOwners, IsHeldOpen, desc_count_at, leaf_namings_of}
 use Rattle.open_laws.proofs.GoingLemmas.{held_open_on}
 use Rattle.proc_numbers.specs.Having.{AreListed}
 use Rattle.proc_files.specs.Names.{AreBound, name_of}

@@ -6,12 +6,12 @@ use Rattle.std.specs.Option.{option_map}
 use Rattle.std.proofs.lemmas.List.{append_assoc, length-map, length-replicate, map-append}
 use Rattle.std.proofs.lemmas.List.Sums.{sum_by-cons}
 use Rattle.std.proofs.lemmas.Option.{unwrap_or-slice_get}
-use Rattle.kheap_slabs.specs.Objects.{count, object}
+use Rattle.kheap_slabs.specs.Objects.{count}
 use Rattle.kheap_slabs.specs.declared.objects.Descriptor.{Descriptor as HeldDescriptor}
 use Rattle.kheap_slabs.specs.declared.objects.Leaf.{Leaf}
 use Rattle.kheap_slabs.specs.declared.objects.Proc.{Proc}
 use Rattle.kheap_slabs.specs.Heap.{Heap, IsWellFormed}
-use Rattle.kheap_slabs.specs.Leaves.{IsFilled, OwnsLeaves, leaf_keys, no_row, numbers_by, row_at, row_of}
+use Rattle.kheap_slabs.specs.Leaves.{OwnsLeaves, leaf_keys, numbers_by, row_at, row_of}
 use Rattle.kheap_slabs.specs.Spaces.{keys_in}
 use Rattle.kheap_slabs.proofs.ObjectLemmas.{object_of}
 use Rattle.kheap_laws.proofs.KeyPlaces.{key_there}
@@ -137,8 +137,8 @@ module _ (number : ℕ → ℕ) (leaves : List (Option Leaf)) (first : List (Opt
       omega (arith, a, b, c, none, x, y, z, many)
     where
       key_first : (key : Option ℕ) (keys : List (Option ℕ)) → length (keys_in (key ∷ keys)) ≡ cond {A = ℕ} (is_some key) 1 0 + length (keys_in keys)
-      key_first None keys = refl
-      key_first (Some key) keys = refl
+      key_first None keys = omega arith
+      key_first (Some key) keys = omega arith
 
       as_many : (keys : List (Option ℕ)) → length keys ≡ 3
           → length (keys_in keys) ≡ cond {A = ℕ} (is_some (slice_index_or keys 0 None)) 1 0 + cond (is_some (slice_index_or keys 1 None)) 1 0 + cond (is_some (slice_index_or keys 2 None)) 1 0
@@ -162,9 +162,6 @@ length-leaf_keys (proc ∷ procs) =
     let sum = sum_by-cons (λ (p : Proc). length (keys_in p.leaves)) proc procs in
     let both = length-append (keys_in proc.leaves) (leaf_keys procs) in
     omega (arith, more, sum, both)
-
-no_leaves_open : leaves_of none_open ≡ 0
-no_leaves_open = refl
 
 pub leaves_are : (numbers : Numbers) (h : Heap) (kept : TableView) (files : Files) → IsWellFormed h → AreListed h kept → HaveDescriptors (numbers_in h) numbers.descs (processes h kept) kept.last files
     → count h.leaves ≡ leaves_open files

@@ -49,12 +49,13 @@ places_nodes pid now proc = by_test (proc.pid == pid)
     by_test false = refl
 
 -- the Proc itself
-own_of : Option Proc → Proc
+pub own_of : Option Proc → Proc
 own_of None = first_proc
 own_of (Some proc) = proc
 
 -- with its own numbers a process is what it is
-opening_own : (o : Option Proc) → o ≡ option_map (opening (own_of o)) o
+pub opening_own : (o : Option Proc) → o ≡ option_map (opening (own_of o)) o
+unfolding own_of
 opening_own None = refl
 opening_own (Some proc) = refl
 

@@ -16,7 +16,7 @@ use Rattle.proc_files.specs.Closing.{ChangesHolding}
 use Rattle.proc_files.specs.Names.{AreBound, name_of}
 use Rattle.proc_numbers.specs.Standing.{IsKept}
 use Rattle.proc_table.specs.Accounting.{HasAccount}
-use Rattle.proc_table.specs.Procs.{HasNoneOpenOnce, IsAlive, IsLight, first_proc, proc_of}
+use Rattle.proc_table.specs.Procs.{HasNoneOpenOnce, IsAlive, IsLight, proc_of}
 use Rattle.proc_table.specs.Standing.{IsTable}
 use Rattle.proc_table.specs.Table.{Holds, TableView, processes, procs_at}
 use Rattle.proc_table.proofs.LawLemmas.{elsewhere_account, elsewhere_table}
@@ -28,18 +28,8 @@ use Rattle.store_objects.specs.Trees.{KeepsTree}
 use Rattle.store_objects.proofs.Peeling.{by_pid}
 use Rattle.store_objects.proofs.RunningProcs.{all_found}
 use Rattle.store_objects.specs.OpenMoves.{ProcsStay, opening}
-use Rattle.store_objects.proofs.Numbers.{account_opened, table_opened}
+use Rattle.store_objects.proofs.Numbers.{account_opened, opening_own, own_of, table_opened}
 use Rattle.store_objects.specs.FileMoves.{FileMoves, MemoryStays}
-
--- the Proc itself
-own_of : Option Proc → Proc
-own_of None = first_proc
-own_of (Some proc) = proc
-
--- with its own numbers a process is what it is
-opening_own : (o : Option Proc) → o ≡ option_map (opening (own_of o)) o
-opening_own None = refl
-opening_own (Some proc) = refl
 
 -- a table that has all processes of a heap holds, where each that has ended has nothing
 holds_all : (h : Heap) (kept : TableView) → AreListed h kept → OwnsItsObjects h → AllByRecursion IsLight (processes h kept) → Holds h kept

@@ -7,5 +7,5 @@ mod turns;
 pub use turns::{
     a_turn_leaves_others_themselves, a_turn_that_moves_bytes_leaves_its_numbers,
     a_turn_that_moves_bytes_wakes_who_waits_there, a_turn_that_passes_by_leaves_its_numbers,
-    a_turn_that_passes_by_wakes_nobody, who_has_ended_has_nothing_open,
+    a_turn_that_passes_by_wakes_nobody, no_number_outlives_its_process,
 };

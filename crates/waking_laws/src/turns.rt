@@ -50,7 +50,7 @@ pub fn a_turn_that_passes_by_leaves_its_numbers()
 {}
 
 /// Who has ended has nothing open.
-pub fn who_has_ended_has_nothing_open()
+pub fn no_number_outlives_its_process()
     ensures { (script : Script) (plain : Plain) (pid : ℕ) (fd : ℤ) → IsReached script plain → is_alive plain.table pid ≡ false
         → target_at plain.files pid fd ≡ None }
 {}

@@ -6,7 +6,8 @@ use Rattle.posix_defs.specs.DiskContents.{data_block}
 use Rattle.memfs_file.specs.Ranges.{asked_to_read}
 use Rattle.cached_disk.specs.Lent.{Parts, parts, Asked, IsCached, IsReordered}
 use Rattle.cached_disk.specs.declared.blocks.CachedBlocks.{CachedBlocks}
-use Rattle.cached_disk.proofs.InTurn.{asked_through, nothing_read, last_cached}
+use Rattle.memfs_dir.proofs.Found.{asked_through}
+use Rattle.cached_disk.proofs.InTurn.{nothing_read, last_cached}
 use Rattle.cached_disk.proofs.LastBlock.{read_ends}
 use Rattle.cached_disk.proofs.through.read_through.Goals as goal
 

@@ -11,7 +11,7 @@ use Rattle.posix_defs.specs.declared.walked.Walked.TheVariants as walked
 use Rattle.name_cache.specs.Names.{name_slot}
 use Rattle.cached_disk.specs.TreeLent.{TreeParts, tree_parts, StandsThrough, HasName, AreReordered, Answered, IsKnown}
 use Rattle.cached_disk.specs.declared.dirs.CachedDirs.{CachedDirs}
-use Rattle.cached_disk.proofs.InTurn.{asked_through}
+use Rattle.memfs_dir.proofs.Found.{asked_through}
 use Rattle.cached_disk.proofs.QueriesInTurn.{all_known, path_cached}
 use Rattle.cached_disk.proofs.walking.walk_through.Goals as goal
 

@@ -6,7 +6,6 @@ ghost use Rattle.posix_defs.specs.SoundDisk.{HasNode, Sound};
 
 use disk_layout::RamDisk;
 use kabi_types::Inode;
-use memfs_dir::LookedBlocks;
 use memfs_node::{NewNode, lowest_node, make_node};
 use posix_defs::Blocks;
 use std::process::Abort;
@@ -42,8 +41,6 @@ impl Blocks for Counting {
         self.disk.write(number, bytes);
     }
 }
-
-impl LookedBlocks for Counting {}
 
 /// The lowest free node, which is to be this one, is a file without bytes from now on.
 pub(crate) fn new_file(rt: &impl Abort, b: &mut Counting, number: u32) -> Inode

@@ -1,16 +1,15 @@
-use Rattle.std.proofs.Common.{◌≡◌, ◌∙◌, None, ap, is_some, pos, refl, subst, sym, w64}
+use Rattle.std.proofs.Common.{◌≡◌, ◌∙◌, None, ap, pos, refl, subst, sym, w64}
 use Rattle.std.proofs.lemmas.Int.{to_z-of_z}
 use Rattle.kabi_types.specs.Arguments.{count_of}
 use Rattle.kheap_laws.proofs.PaidLemmas.{IsPaid-refl}
 use Rattle.memfs_ops.proofs.CachedLemmas.{cached_still}
 use Rattle.posix_defs.specs.Files.Closing.{after_close}
 use Rattle.proc_numbers.proofs.Fronts.{queues_same}
-use Rattle.proc_numbers.proofs.NumberCloses.{no_some}
+use Rattle.proc_numbers.proofs.NumberCloses.{no_some, unopened}
 use Rattle.proc_numbers.proofs.OpenedBy.{is_counted, is_none}
 use Rattle.proc_numbers.specs.Having.{node_closed}
 use Rattle.proc_numbers.specs.Naming.{named_at, named_by}
-use Rattle.proc_files.proofs.Finding.{is_at}
-use Rattle.proc_files.proofs.Unopened.{close_of_none, closes_nothing, opened_found}
+use Rattle.proc_files.proofs.Unopened.{closes_nothing, opened_found}
 use Rattle.proc_files.specs.Closing.{ClosesHolding}
 use Rattle.proc_files.specs.NameHolding.{HoldNames}
 use Rattle.proc_files.proofs.closing.close_at.Goals as goal
@@ -22,14 +21,14 @@ returns-in_default-clause-closed c = λ numbers others files hold.
     let number : c.opened-on.result.fd ≡ pos c.args.fd = c.opened-on.ensures.number ∙ to_z-of_z w64 c.from.result (record { sfits = c.from.type_inv }) ∙ c.from.ensures in
     let none : named_at c.args.heap.now c.args.procs.now c.args.place.pid c.args.fd ≡ None =
     ap (named_by c.args.heap.now c.args.procs.now c.args.place.pid) (sym number) ∙ is_none c.args.heap.now c.args.procs.now c.args.place.pid c.opened-on.result c.opened-on.ensures.opened (no_some c.opened-on.result.found c.in_default.not-Some) in
-    subst (HoldNames numbers others c.args.heap.now c.args.procs.now c.args.tree.now c.args.names.now) (sym (close_of_none numbers c.args.heap.now c.args.procs.now files c.args.place.pid c.args.fd hold.held.opened none)) hold
+    subst (HoldNames numbers others c.args.heap.now c.args.procs.now c.args.tree.now c.args.names.now) (sym (unopened numbers c.args.heap.now c.args.procs.now files c.args.place.pid c.args.fd none hold.held.opened)) hold
 
 pub returns-in_default-clause-closes : goal.returns-in_default-clause-closes
 returns-in_default-clause-closes c =
     let number : c.opened-on.result.fd ≡ pos c.args.fd = c.opened-on.ensures.number ∙ to_z-of_z w64 c.from.result (record { sfits = c.from.type_inv }) ∙ c.from.ensures in
     let none : named_at c.args.heap.now c.args.procs.now c.args.place.pid c.args.fd ≡ None =
     ap (named_by c.args.heap.now c.args.procs.now c.args.place.pid) (sym number) ∙ is_none c.args.heap.now c.args.procs.now c.args.place.pid c.opened-on.result c.opened-on.ensures.opened (no_some c.opened-on.result.found c.in_default.not-Some) in
-    closes_nothing c.args.heap.now c.args.procs.now c.args.place.pid c.args.fd (is_at c.args.heap.now c.args.procs.now c.args.place.pid c.requires.listed (ap is_some c.requires.there)) none
+    closes_nothing c.args.heap.now c.args.procs.now c.args.place.pid c.args.fd c.args.place.key c.requires.listed c.requires.there none
 
 pub returns-in_default-clause-queues : goal.returns-in_default-clause-queues
 returns-in_default-clause-queues c = queues_same c.args.heap.now c.args.heap.now refl refl

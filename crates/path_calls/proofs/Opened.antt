@@ -1,0 +1,177 @@
+-- Which nodes the processes of a heap have open are those that the machine's descriptions open.
+use Rattle.std.proofs.Common.{◌≡◌, ℕ, zero, suc, ◌+◌, ◌<◌, ◌==◌, ◌||◌, Bool, true, false, List, [], ◌∷◌, Option, None, Some, refl, ap, sym, ◌∙◌, inl, inr, arith}
+use Rattle.std.specs.Prelude.{count_by}
+use Rattle.std.specs.List.{Contains, cons_option, list_any}
+use Rattle.std.specs.Option.{option_map}
+use Rattle.std.proofs.lemmas.Bool.Decides.{eqb_tells}
+use Rattle.kheap_slabs.specs.Objects.{InUse, object}
+use Rattle.kheap_slabs.proofs.ObjectLemmas.{object_of}
+use Rattle.kheap_slabs.specs.declared.objects.Desc.{Desc}
+use Rattle.kheap_slabs.specs.declared.objects.Descriptor.{Descriptor}
+use Rattle.kheap_slabs.specs.declared.objects.Proc.{Proc}
+use Rattle.kheap_slabs.specs.declared.objects.Target.{Target as HeldTarget}
+use Rattle.kheap_slabs.specs.declared.objects.Target.TheVariants as target
+use Rattle.kheap_slabs.specs.Heap.{Heap}
+use Rattle.machine_laws.proofs.Openers.{Opener, by_opener, opens_by}
+use Rattle.open_laws.specs.Described.{Counted, CountedList, counted_in, node_in, target_in, uncounted}
+use Rattle.open_laws.specs.Owned.{HasItsOwners, desc_count_at, names_desc, namings_in, namings_of}
+use Rattle.open_laws.proofs.DropLemmas.{description_in}
+use Rattle.open_laws.proofs.GoingLemmas.{named_there}
+use Rattle.open_laws.specs.Placed.{Numbers}
+use Rattle.posix_defs.specs.Files.Descriptions.{Description, Descriptions, OnNode, Target, description_at}
+use Rattle.posix_defs.specs.Files.State.{Files, is_number, opens}
+use Rattle.proc_numbers.specs.Having.{AreListed, HaveOpen}
+use Rattle.proc_numbers.proofs.Sums.{one_if, part_of_sum, some_adds}
+use Rattle.proc_numbers.proofs.NamedOpen.{described_so}
+use Rattle.proc_table.specs.Procs.{numbers_in}
+use Rattle.proc_table.specs.Table.{AreStored, TableView, keys_of, processes, procs_at}
+use Rattle.proc_table.specs.declared.places.Place.{Place}
+use Rattle.proc_table.proofs.PlaceLemmas.{Contains-cases, IsAt, eqb_same, some_same, stored_is}
+use Rattle.path_calls.specs.Nodes.{node_of, opens_at, some_opens}
+use Rattle.path_calls.proofs.Adding.{alike}
+
+never : {X : Type 0} → true ≡ false → X
+never e = cc
+
+-- ---- what a descriptor names is there
+
+names_some : (places : List (Option Descriptor)) (fd : ℕ) (held : Descriptor) → object places fd ≡ Some held → 0 < count_by (names_desc held.desc) places
+names_some places fd held is =
+    let part = part_of_sum (λ o. one_if (names_desc held.desc o)) places fd held is in
+    let one = ap one_if (eqb_same held.desc held.desc refl) in
+    omega (arith, part, one)
+
+pub desc_named : (h : Heap) (key : ℕ) (proc : Proc) (fd : ℕ) (held : Descriptor) → HasItsOwners h [] → object h.procs key ≡ Some proc → object (numbers_in h proc) fd ≡ Some held
+    → InUse h.descs held.desc
+desc_named h key proc fd held owners there is =
+    let some = names_some (numbers_in h proc) fd held is in
+    let part = part_of_sum (namings_in held.desc) h.procs key proc there in
+    let it = named_there h [] held.desc owners (omega (arith, some, part)) in
+    let used : InUse h.descs held.desc = rw it.1 refl in used
+
+-- ---- from the heap to the machine
+
+-- what is open on a node in the heap is so in the machine
+on_node : (numbers : Numbers) (on : HeldTarget) (n : ℕ) → is_number n (node_in on) ≡ true → target_in numbers on ≡ OnNode n
+on_node numbers (target.Inode number) n is = elim (eqb_tells number n) [ inl same ↦ ap OnNode same.1 | inr apart ↦ never (sym is ∙ apart.0) ]
+on_node numbers (target.Pipe key) n is = cc
+on_node numbers (target.Sock key) n is = cc
+
+module _ (numbers : Numbers) (h : Heap) (kept : TableView) (files : Files) (have : HaveOpen numbers h kept files) where
+  opened_key : (key n : ℕ) (o : Option Desc) → object h.descs key ≡ o → is_number n (node_of o) ≡ true → opens files n ≡ true
+  opened_key key n None is e = cc
+  opened_key key n (Some desc) is e =
+      by_opener files n
+      (record { place = numbers.descs key; description = (counted_in numbers desc).is; is = described_so numbers h have.list files key desc have.opened is; on = on_node numbers desc.target n e })
+
+  opened_place : (n : ℕ) (place : Option Descriptor) → opens_at h.descs n place ≡ true → opens files n ≡ true
+  opened_place n None e = cc
+  opened_place n (Some held) e = opened_key held.desc n (object h.descs held.desc) refl e
+
+  opened_places : (n : ℕ) (places : List (Option Descriptor)) → some_opens h.descs places n ≡ true → opens files n ≡ true
+  opened_places n [] e = cc
+  opened_places n (place ∷ places) e = go (opens_at h.descs n place) refl e (opened_places n places)
+    where
+      go : (b : Bool) → opens_at h.descs n place ≡ b → (b || some_opens h.descs places n) ≡ true → (some_opens h.descs places n ≡ true → opens files n ≡ true) → opens files n ≡ true
+      go true is some rest = opened_place n place is
+      go false is some rest = rest some
+
+  opened_procs : (n : ℕ) (procs : List Proc) → list_any (λ proc. some_opens h.descs (numbers_in h proc) n) procs ≡ true → opens files n ≡ true
+  opened_procs n [] e = cc
+  opened_procs n (proc ∷ procs) e = go (some_opens h.descs (numbers_in h proc) n) refl e (opened_procs n procs)
+    where
+      go : (b : Bool) → some_opens h.descs (numbers_in h proc) n ≡ b → (b || list_any (λ p. some_opens h.descs (numbers_in h p) n) procs) ≡ true
+          → (list_any (λ p. some_opens h.descs (numbers_in h p) n) procs ≡ true → opens files n ≡ true) → opens files n ≡ true
+      go true is some rest = opened_places n (numbers_in h proc) is
+      go false is some rest = rest some
+
+-- ---- from the machine to the heap
+
+later : (b c : Bool) → c ≡ true → (b || c) ≡ true
+later true c e = refl
+later false c e = e
+
+-- one that passes among some
+any_here : {X : Type 0} (test : Option X → Bool) (xs : List (Option X)) (at : ℕ) (x : X) → object xs at ≡ Some x → test (Some x) ≡ true → list_any test xs ≡ true
+any_here test [] at x is passes = cc
+any_here test (first ∷ xs) zero x is passes = ap (λ o. test o || list_any test xs) is ∙ ap (λ b. b || list_any test xs) passes
+any_here test (first ∷ xs) (suc at) x is passes = later (test first) (list_any test xs) (any_here test xs at x is passes)
+
+-- the process of each key that is listed is among those of the table
+any_listed : (test : Proc → Bool) (objects : List (Option Proc)) (places : List Place) (key : ℕ) (proc : Proc) → AreStored objects places → Contains (keys_of places) key
+    → object objects key ≡ Some proc → test proc ≡ true → list_any test (procs_at objects places) ≡ true
+any_listed test objects [] key proc stored among is passes = absurd (let within = among.1 in omega (arith, within))
+any_listed test objects (place ∷ places) key proc stored among is passes =
+    ap (λ o. list_any test (cons_option o (procs_at objects places))) here.is
+    ∙ elim (Contains-cases place.key key (keys_of places) among) [
+      | inl same ↦
+          ap (λ b. b || list_any test (procs_at objects places))
+          (ap test (some_same (object objects key) here.proc proc (ap (object objects) (sym same) ∙ here.is) is) ∙ passes)
+      | inr more ↦ later (test here.proc) (list_any test (procs_at objects places)) (any_listed test objects places key proc stored.1 more is passes)
+    ]
+  where
+    here : IsAt objects place
+    here = stored_is objects place stored.0
+
+-- what a target of the machine is on a node for, that of the heap is
+node_back : (numbers : Numbers) (on : HeldTarget) (n : ℕ) → target_in numbers on ≡ OnNode n → is_number n (node_in on) ≡ true
+node_back numbers (target.Inode number) n is = eqb_same number n (same (OnNode number) refl is)
+  where
+    same : (t : Target) → t ≡ OnNode number → t ≡ OnNode n → number ≡ n
+    same t e f = cc
+node_back numbers (target.Pipe key) n is = cc
+node_back numbers (target.Sock key) n is = cc
+
+-- a descriptor that names a key
+names_key : (key : ℕ) (held : Descriptor) → 0 < one_if (names_desc key (Some held)) → held.desc ≡ key
+names_key key held some = elim (eqb_tells held.desc key) [
+  | inl same ↦ same.1
+  | inr apart ↦ absurd (let none : one_if (held.desc == key) ≡ 0 = ap one_if apart.0 in omega (arith, some, none))
+]
+
+module _ (numbers : Numbers) (h : Heap) (kept : TableView) (files : Files) (have : HaveOpen numbers h kept files) (listed : AreListed h kept) (owners : HasItsOwners h []) where
+  -- the Desc of each description that opens a node
+  desc_of : (n : ℕ) (opener : Opener files.descriptions n) → (key : ℕ) × (desc : Desc) × (object h.descs key ≡ Some desc) × (is_number n (node_in desc.target) ≡ true)
+  desc_of n opener =
+      let all = have.opened.described in
+      let counted = counted_at have.list opener.place opener.description (sym (ap (λ (d : Descriptions). description_at d opener.place) have.opened.descriptions) ∙ opener.is) in
+      let found = all.found opener.place counted.0 counted.1 in
+      let desc = object_of h.descs found.0 found.1 in
+      let means = all.means found.0 desc.0 counted.0 desc.1 (ap (object have.list) found.2 ∙ counted.1) in
+      (found.0, desc.0, desc.1, node_back numbers desc.0.target n (same_target counted.0 (counted_in numbers desc.0) opener.description means counted.2 ∙ opener.on))
+    where
+      same_target : (one other : Counted) (d : Description) → one ≡ other → one.is ≡ d → other.is.target ≡ d.target
+      same_target one other d e f = sym (ap (λ (c : Counted). c.is.target) e) ∙ ap (λ (t : Description). t.target) f
+
+      counted_in_place : (o : Option Counted) (d : Description) → option_map (λ (c : Counted). c.is) o ≡ Some d → (c : Counted) × (o ≡ Some c) × (c.is ≡ d)
+      counted_in_place None d e = cc
+      counted_in_place (Some c) d e = (c, refl, same (Some c.is) refl e)
+        where
+          same : (o : Option Description) → o ≡ Some c.is → o ≡ Some d → c.is ≡ d
+          same o f g = cc
+
+      counted_at : (list : CountedList) (place : ℕ) (d : Description) → description_at (uncounted list) place ≡ Some d → (c : Counted) × (object list place ≡ Some c) × (c.is ≡ d)
+      counted_at list place d e = counted_in_place (object list place) d (sym (description_in list place) ∙ e)
+
+  -- some process of the table names it
+  named_so : (test : Proc → Bool) (key : ℕ) → InUse h.descs key → ((proc : Proc) (fd : ℕ) (held : Descriptor) → object (numbers_in h proc) fd ≡ Some held → held.desc ≡ key → test proc ≡ true)
+      → list_any test (processes h kept) ≡ true
+  named_so test key used passes =
+      let at = some_adds (namings_in key) h.procs refl (more (desc_count_at h.descs key) (namings_of h.procs key) (owners.named.counts key) (owners.named.named key used)) in
+      let by = some_adds (λ o. one_if (names_desc key o)) (numbers_in h at.value) refl at.adds in
+      any_listed test h.procs kept.listed at.key at.value listed.stored (listed.all.listed at.key (let there : InUse h.procs at.key = rw at.is refl in there)) at.is
+      (passes at.value by.key by.value by.is (names_key key by.value by.adds))
+    where
+      more : (count names : ℕ) → count ≡ names + 0 → 0 < count → 0 < names
+      more count names same some = omega (arith, same, some)
+
+  opens_procs : (n : ℕ) → opens files n ≡ true → list_any (λ proc. some_opens h.descs (numbers_in h proc) n) (processes h kept) ≡ true
+  opens_procs n some =
+      let at = desc_of n (opens_by files n some) in
+      named_so (λ proc. some_opens h.descs (numbers_in h proc) n) at.0 (let used : InUse h.descs at.0 = rw at.2 refl in used)
+      (λ proc fd held is names.
+      any_here (opens_at h.descs n) (numbers_in h proc) fd held is (ap (λ key. is_number n (node_of (object h.descs key))) names ∙ ap (λ o. is_number n (node_of o)) at.2 ∙ at.3))
+
+  -- the same are open
+  pub opens_same : (n : ℕ) → list_any (λ proc. some_opens h.descs (numbers_in h proc) n) (processes h kept) ≡ opens files n
+  opens_same n = alike (list_any (λ proc. some_opens h.descs (numbers_in h proc) n) (processes h kept)) (opens files n) (opened_procs numbers h kept files have n (processes h kept)) (opens_procs n)

@@ -1,0 +1,58 @@
+//! Who holds which nodes, told while the heap is lent to the tree.
+
+ghost use Rattle.std.specs.Prelude.{◌≡◌, ◌&&◌, ℕ, [], Some, nat_lt};
+ghost use Rattle.kheap_slabs.specs.Objects.{InUse, object};
+ghost use Rattle.kheap_slabs.specs.declared.objects.Proc.{Proc};
+ghost use Rattle.kheap_slabs.specs.Heap.{IsWellFormed};
+ghost use Rattle.open_laws.specs.Described.{node_in};
+ghost use Rattle.open_laws.specs.Owned.{HasItsOwners};
+ghost use Rattle.posix_defs.specs.Files.State.{is_number};
+ghost use Rattle.proc_table.specs.Table.{AreStored, processes};
+ghost use Rattle.path_calls.specs.Nodes.{Adds, has_node, holds_node, most_nodes, some_holds};
+
+use crate::node_set::NodeSet;
+use kheap_slabs::{Desc, KHeap, Target};
+use proc_table::ProcTable;
+
+/// The nodes that live processes work in, and those that are open.
+pub(crate) fn held_nodes(heap: &KHeap, procs: &ProcTable) -> NodeSet
+    requires whole { IsWellFormed heap.now }
+    requires stored { AreStored heap.now.procs procs.now.listed }
+    requires owners { HasItsOwners heap.now [] }
+    ensures { (number : ℕ) → has_node result number
+        ≡ (nat_lt number most_nodes && some_holds heap.now (processes heap.now procs.now) number) }
+{
+    let mut nodes = NodeSet::new();
+    for place in procs.listed() {
+        add_held(heap, place.key, &mut nodes);
+    }
+    nodes
+}
+
+// The node that a process works in, as long as it runs, and those that it has open.
+fn add_held(heap: &KHeap, key: u32, nodes: &mut NodeSet)
+    requires whole { IsWellFormed heap.now }
+    requires there { InUse heap.now.procs key }
+    requires owners { HasItsOwners heap.now [] }
+    ensures { (proc : Proc) → object heap.now.procs key ≡ Some proc
+        → Adds nodes.old nodes.new (λ number. holds_node heap.now number proc) }
+{
+    let proc = heap.get_proc(key);
+    if proc.status.is_none() {
+        nodes.add(proc.cwd);
+    }
+    for descriptor in &proc.descriptors {
+        if let Some(held) = descriptor {
+            add_opened(heap.get_desc(held.desc), nodes);
+        }
+    }
+}
+
+// The node that a description opens, if it opens one.
+fn add_opened(desc: &Desc, nodes: &mut NodeSet)
+    ensures { Adds nodes.old nodes.new (λ number. is_number number (node_in desc.now.target)) }
+{
+    if let Target::Inode(node) = desc.target {
+        nodes.add(node);
+    }
+}
