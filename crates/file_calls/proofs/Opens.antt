@@ -47,6 +47,11 @@ pub one_left : (path : List ℕ) (flags : ℤ) (purse : Purse) → argument_faul
 one_left path flags purse right needed =
     let one : purse.left.desc ≡ 1 = ap (λ (need : Need). need.desc) (needed ∙ right_needs (call.OpenFile path flags) right) in omega (arith, one)
 
+-- and one Leaf
+pub leaf_left : (path : List ℕ) (flags : ℤ) (purse : Purse) → argument_fault (call.OpenFile path flags) ≡ None → purse.left ≡ need_of (call.OpenFile path flags) → 0 < purse.left.leaf
+leaf_left path flags purse right needed =
+    let one : purse.left.leaf ≡ 1 = ap (λ (need : Need). need.leaf) (needed ∙ right_needs (call.OpenFile path flags) right) in omega (arith, one)
+
 module _ (script : Script) (old mid : Objects) (before : Purse) (pid : ℕ) (path : List ℕ) (flags : ℤ) (proc : Proc) (found : proc_of (procs_of old) pid ≡ Some proc) (up : proc.status ≡ None)
     (right : argument_fault (call.OpenFile path flags) ≡ None) (told : Result ℕ Errno)
     (saved : (proc : Proc) (plain : Tree) (pins : ℕ → ℕ) → proc_of (procs_of old) pid ≡ Some proc → Stands old.heap old.tree plain pins

@@ -20,7 +20,7 @@ use Rattle.store_objects.proofs.Keeping.{listed_in}
 use Rattle.store_objects.proofs.Replies.{GoesOn}
 use Rattle.store_objects.proofs.Within.{within_paid}
 use Rattle.file_calls.proofs.CallingOpens.{alive_who_runs, bound_still, kept_mid, mid, runs_mid, serves_anew}
-use Rattle.file_calls.proofs.Opens.{leaves_open, one_left}
+use Rattle.file_calls.proofs.Opens.{leaf_left, leaves_open, one_left}
 use Rattle.file_calls.proofs.opening.open.Goals as goal
 
 pub open_path-opened-requires-clause-listed : goal.open_path-opened-requires-clause-listed
@@ -40,6 +40,9 @@ open_path-opened-requires-clause-right c =
 
 pub open_path-opened-requires-clause-left : goal.open_path-opened-requires-clause-left
 open_path-opened-requires-clause-left c = one_left c.args.path.now c.args.flags c.args.purse.now c.requires.right c.requires.needed
+
+pub open_path-opened-requires-clause-left_leaf : goal.open_path-opened-requires-clause-left_leaf
+open_path-opened-requires-clause-left_leaf c = leaf_left c.args.path.now c.args.flags c.args.purse.now c.requires.right c.requires.needed
 
 pub go_on-requires-clause-kept : goal.go_on-requires-clause-kept
 go_on-requires-clause-kept c =
