@@ -1,6 +1,7 @@
 -- Nothing open stays nothing open where a process ends, and where one is made.
 use Rattle.std.proofs.Common.{◌≡◌, ℕ, zero, suc, List, [], ◌∷◌, ◌++◌, length, replicate, Option, None, refl, ap, sym, ◌∙◌, subst, slice_get, slice_index_or, unwrap_or}
 use Rattle.std.specs.List.{range_with_len}
+use Rattle.kabi_types.specs.Arguments.{most_descriptors}
 use Rattle.posix_defs.specs.Plain.{Plain}
 use Rattle.posix_defs.specs.Ending.{closed_by, die}
 use Rattle.posix_defs.specs.Files.Descriptors.{Descriptor, Descriptors, descriptor_at, none_open}
@@ -18,7 +19,7 @@ none_within (suc count) (suc fd) = none_within count fd
 -- no number is open where none is
 pub none_open_at : (fd : ℕ) → descriptor_at none_open fd ≡ None
 unfolding none_open
-none_open_at fd = none_within 32 fd
+none_open_at fd = none_within most_descriptors fd
 
 -- so closing changes nothing
 close_unopened : (files : Files) (pid fd : ℕ) → descriptors_of files pid ≡ none_open → after_close files pid fd ≡ files

@@ -12,6 +12,7 @@ use Rattle.posix_defs.specs.declared.turner.Turned.TheVariants as turned
 use Rattle.posix_defs.specs.Needs.{bound}
 use Rattle.posix_defs.specs.Sizes.{fixed, reserve}
 use Rattle.posix_defs.specs.Plain.{last_pid}
+use Rattle.posix_defs.specs.Files.Descriptors.{none_open}
 use Rattle.posix_defs.specs.Memory.{no_places}
 use Rattle.posix_defs.specs.World.{live_of}
 use Rattle.posix_defs.specs.CoreState.{CoreState, asked_by, charged_in, held, next_call, phase_of, reserved_in, with_phase, with_phase_in}
@@ -97,7 +98,7 @@ step_within script old (Kill pid) noted new step sound within =
 
 pub charged_within : {rule : ℕ → CoreState → Event → Type 0} {script : Script} {steps : ℕ} {run : List Noted} {s : CoreState} → IsRunBy rule script steps run s
     → fixed ≤ script.heap → charged_in s ≤ script.heap
-unfolding no_places
+unfolding no_places none_open
 charged_within boots enough = enough
 charged_within {script = script} (goes_on run old new noted before ends follows step) enough =
     step_within script old noted.event noted new step (is_sound before) (charged_within before enough)

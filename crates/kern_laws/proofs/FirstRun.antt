@@ -61,14 +61,14 @@ always_fits : 0 ≤ 5376
 always_fits = omega arith
 
 asks_pid : Steps first_script (boot_state first_script) (noted (Ask 1) kind.Getpid None 2816) after_one
-unfolding bound no_places
+unfolding bound no_places none_open
 asks_pid = inl (record { enabled = refl; fits_ever = always_fits; after = refl; noted_so = refl })
 
 has_room : 2816 + 0 ≤ 8192
 has_room = omega arith
 
 admits_pid : Steps first_script after_one (noted (Admit 1) kind.Getpid None 2816) after_two
-unfolding no_places
+unfolding no_places none_open
 admits_pid = record { enabled = record { waits = record { asked = for_pid; is = refl }; room = has_room }; after = refl; noted_so = refl }
 
 grows_by : (n k : ℕ) → n ≤ n + k
@@ -78,7 +78,7 @@ falls_to : (n k : ℕ) → 128 ≤ 640 + k
 falls_to n k = omega arith
 
 tells_pid : Steps first_script after_two (noted (Turn 1) kind.Getpid (Some (entry.Done 1 kind.Getpid (Val (pos 1)))) 2816) after_three
-unfolding no_places
+unfolding no_places none_open
 tells_pid = record {
   enabled = record { asked = for_pid; is = refl };
   told = turned.Done (Val (pos 1));
@@ -88,11 +88,11 @@ tells_pid = record {
 }
 
 asks_exit : Steps first_script after_three (noted (Ask 1) kind.Exit None 2816) after_four
-unfolding bound no_places
+unfolding bound no_places none_open
 asks_exit = inl (record { enabled = refl; fits_ever = always_fits; after = refl; noted_so = refl })
 
 admits_exit : Steps first_script after_four (noted (Admit 1) kind.Exit None 2816) after_five
-unfolding no_places
+unfolding no_places none_open
 admits_exit = record { enabled = record { waits = record { asked = for_exit; is = refl }; room = has_room }; after = refl; noted_so = refl }
 
 exits : Steps first_script after_five (noted (Turn 1) kind.Exit (Some (entry.Ended 1 kind.Exit 0)) 2304) after_six
@@ -144,7 +144,7 @@ no_other_pid s run =
     ∙ ap (λ told. value_in (Some (entry_of 1 third.2.enabled.asked.kind told))) tells.0)
 
 pub no_other_charge : (s : CoreState) → IsCoreRun first_script 1000 (pid_run 2817 (pos 1)) s → ⊥
-unfolding no_places
+unfolding no_places none_open
 no_other_charge s run =
     let third = last_step run (noted (Ask 1) kind.Getpid None 2817 ∷ noted (Admit 1) kind.Getpid None 2816 ∷ []) _ refl in
     let second = last_step third.1 (noted (Ask 1) kind.Getpid None 2817 ∷ []) _ refl in

@@ -10,6 +10,7 @@ use Rattle.posix_defs.specs.CoreRun.{IsCoreRun, boots}
 use Rattle.posix_defs.specs.CoreState.{boot_state}
 use Rattle.posix_defs.specs.History.{boot_past, is_among}
 use Rattle.posix_defs.specs.Licence.{can_evict_any}
+use Rattle.posix_defs.specs.Files.Descriptors.{none_open}
 use Rattle.posix_defs.specs.Memory.{no_places}
 use Rattle.posix_defs.specs.Needs.{bound}
 use Rattle.posix_defs.specs.Plain.{boot_plain, call_of, last_pid}
@@ -45,7 +46,7 @@ none_dozing false = refl
 
 module _ {T : Type 0} (stands_for : T → World → Type 0) (script_of : T → Script) (beside : T → ℕ → Call → Turned → T → Type 0) where
   pub at_boot : StandsAtBoot stands_for script_of beside
-  unfolding no_places
+  unfolding no_places none_open
   at_boot store seat steps total entry_room held_room awake_room dozing_room stands boot holds heap same_heap room = record {
     past = boot_past (script_of store);
     world = boot_world (script_of store);

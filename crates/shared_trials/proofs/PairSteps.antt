@@ -290,7 +290,7 @@ first_not_killed now pid is = subst (λ n. scene_killed (who n) now ≡ now) (sy
 
 -- what all takes of the heap
 pub pair_live : (now : Scene) (cached : Bool) → live_of (world_at now cached) ≡ live_at now cached
-unfolding no_places
+unfolding no_places none_open
 pair_live Young false = refl
 pair_live Young true = refl
 pair_live (Alone a) false = refl

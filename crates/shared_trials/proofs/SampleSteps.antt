@@ -44,12 +44,12 @@ sample_ends place (suc (suc n)) false which other few alive calls = cc
 
 -- what the process that asks for its pid takes of the heap
 pub sample_live : (place : ℕ) (lives : Bool) → live_of (world_at place lives boot_kept) ≡ live_at lives
-unfolding no_places
+unfolding no_places none_open
 sample_live place true = refl
 sample_live place false = refl
 
 asks_at : Answers sample (world_at 0 true boot_kept) 1 (call_of sample (world_at 0 true boot_kept).plain 1) (Done (Val (pos 1))) (world_at 1 true boot_kept)
-unfolding bound need_of no_places
+unfolding bound need_of no_places none_open
 asks_at = record { answer = (refl, refl); account = refl; may_keep = record { names = tt; blocks = tt; vnodes = (tt, tt); pinned = λ node e. e; true_names = tt; on_disk = tt; in_use = (refl, tt) }; live = lit≤ tt; names = lit≤ tt; blocks = lit≤ tt; vnodes = lit≤ tt; reads = lit≤ tt; untouched = λ _. (refl, refl); left = λ _. tt; known = λ _. refl }
 
 -- it asks for its pid

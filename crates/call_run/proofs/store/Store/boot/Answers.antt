@@ -2,6 +2,7 @@ use Rattle.std.proofs.Common.{◌≡◌, ℕ, ◌+◌, ◌≤◌, ◌∙◌, ap,
 use Rattle.std.specs.Prelude.{codes}
 use Rattle.kabi_types.specs.declared.scripts.Script.{Script}
 use Rattle.machine_laws.specs.Reached.{boots}
+use Rattle.posix_defs.specs.Files.Descriptors.{none_open}
 use Rattle.posix_defs.specs.Memory.{no_places}
 use Rattle.posix_defs.specs.Plain.{place_of}
 use Rattle.posix_defs.specs.Sizes.{reserve}
@@ -22,7 +23,7 @@ go_to_call-requires g c =
 
 -- a store that has just begun has room for what is kept back
 boot_live : (script : Script) → live_of (boot_world script) ≡ 640
-unfolding no_places
+unfolding no_places none_open
 boot_live script = refl
 
 begins : (script : Script) → IsValid script → live_of (boot_world script) + reserve ≤ script.heap

@@ -2,6 +2,7 @@ use Rattle.std.proofs.Common.{◌≡◌, ◌≤◌, ◌+◌, ◌++◌, ◌∷◌
 use Rattle.posix_defs.specs.declared.phases.Phase.TheVariants.{User}
 use Rattle.posix_defs.specs.declared.phases.Task.{Task}
 use Rattle.posix_defs.specs.CoreState.{boot_state}
+use Rattle.posix_defs.specs.Files.Descriptors.{none_open}
 use Rattle.posix_defs.specs.Memory.{no_places}
 use Rattle.posix_defs.specs.CoreRun.{IsCoreRun, boots, peak_of}
 use Rattle.std.specs.List.{AllByRecursion, count_by}
@@ -11,7 +12,7 @@ use Rattle.kern_events.specs.Sleepers.{WaitsForAtMost}
 use Rattle.kern_events.proofs.cores.Core.boot.Goals as goal
 
 pub invariant_of-result : goal.invariant_of-result
-unfolding no_places
+unfolding no_places none_open
 invariant_of-result g c =
     let script = g.T.Turner.script c.args.store in
     let first : Task = record { pid = 1; phase = User } in
@@ -51,7 +52,7 @@ invariant_of-result g c =
     }
 
 pub returns-clause-booted : goal.returns-clause-booted
-unfolding no_places
+unfolding no_places none_open
 returns-clause-booted g c =
     let first : Task = record { pid = 1; phase = User } in
     let tasks : c.push_reserved.new.self.items ≡ first ∷ [] = c.push_reserved.ensures.items ∙ ap (λ before. before ++ first ∷ []) c.in_ok-tasks.ensures.items in
