@@ -6,7 +6,11 @@ use Rattle.path_calls.specs.Nodes.{has_node}
 use Rattle.path_calls.proofs.Changed.{kept_mid, leads, paid_on}
 use Rattle.path_calls.proofs.Led.{at_directory, led_keeps, rmdir_changes, rmdir_leads}
 use Rattle.path_calls.proofs.HeldBy.{told_held}
+use Rattle.store_objects.proofs.Keeping.{listed_in}
 use Rattle.path_calls.proofs.directories.rmdir.Goals as goal
+
+pub held_nodes-held-requires-clause-listed : goal.held_nodes-held-requires-clause-listed
+held_nodes-held-requires-clause-listed c = listed_in c.args.script.now c.args.objects.now (let some = c.requires.stands in some.1.kept)
 
 pub remove_dir-gone-requires-clause-stands : goal.remove_dir-gone-requires-clause-stands
 remove_dir-gone-requires-clause-stands c =

@@ -9,8 +9,12 @@ use Rattle.path_calls.proofs.Busy.{holds_no_socket}
 use Rattle.path_calls.proofs.Changed.{kept_mid, paid_on}
 use Rattle.path_calls.proofs.Freeing.{kept_gone, runs_gone, serves}
 use Rattle.path_calls.proofs.HeldBy.{told_held}
+use Rattle.store_objects.proofs.Keeping.{listed_in}
 use Rattle.path_calls.proofs.Led.{at_directory, freed_keeps, rename_changes, rename_leads}
 use Rattle.path_calls.proofs.names.rename.Goals as goal
+
+pub held_nodes-held-requires-clause-listed : goal.held_nodes-held-requires-clause-listed
+held_nodes-held-requires-clause-listed c = listed_in c.args.script.now c.args.objects.now (let some = c.requires.stands in some.1.kept)
 
 pub rename_name-renamed-requires-clause-stands : goal.rename_name-renamed-requires-clause-stands
 rename_name-renamed-requires-clause-stands c =
