@@ -6,7 +6,7 @@ use Rattle.kabi_types.specs.declared.classes.Weight.{Weight}
 use Rattle.kheap_slabs.specs.Objects.{object}
 use Rattle.kheap_slabs.specs.declared.objects.Proc.{Proc}
 use Rattle.kheap_slabs.specs.Heap.{Heap}
-use Rattle.slab.proofs.SlabLemmas.{Contains-cons}
+use Rattle.proc_table.proofs.AmongLemmas.{Contains-cons}
 use Rattle.kheap_slabs.specs.Leaves.{HoldLeaves, OwnsLeaves}
 use Rattle.kheap_laws.proofs.LeafOwners.{HoldLeaves-owns}
 use Rattle.proc_table.specs.Table.{AreStored, Holds, TableView, processes, procs_at}

@@ -207,9 +207,10 @@ either false x y same = refl
 behind : (test : ℕ → Bool) (files : Files) (pid below n : ℕ)
     → ((fd : ℕ) → below ≤ fd → cond (test fd) (after_close (closed_where test files pid below) pid fd) (closed_where test files pid below) ≡ closed_where test files pid below)
     → closed_where test files pid (n + below) ≡ closed_where test files pid below
-behind test files pid below zero same = refl
+behind test files pid below zero same = ap (closed_where test files pid) (let none : 0 + below ≡ below = omega arith in none)
 behind test files pid below (suc n) same =
-    ap (λ f. cond (test (n + below)) (after_close f pid (n + below)) f) (behind test files pid below n same) ∙ same (n + below) (omega arith)
+    ap (closed_where test files pid) (let next : suc n + below ≡ suc (n + below) = omega arith in next)
+    ∙ ap (λ f. cond (test (n + below)) (after_close f pid (n + below)) f) (behind test files pid below n same) ∙ same (n + below) (omega arith)
 
 -- where they aren't open, closing them changes nothing
 pub where_rest : (test : ℕ → Bool) (files : Files) (pid below : ℕ) → below ≤ most_descriptors
@@ -294,6 +295,3 @@ rest_none h proc fd whole long three none least = elim (cases_lt fd 128) [
     without (suc i) (None ∷ keys) none = without i keys none
     without i (Some key ∷ keys) none = absurd (false≢true (sym none))
 
-pub both_true : (one other : Bool) → (not one && other) ≡ true → (one ≡ false) × (other ≡ true)
-both_true true other is = absurd (false≢true is)
-both_true false other is = (refl, is)

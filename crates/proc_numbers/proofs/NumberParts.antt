@@ -5,7 +5,7 @@ use Rattle.std.specs.List.{concat}
 use Rattle.std.proofs.lemmas.Bool.Decides.{eqb_tells}
 use Rattle.std.proofs.lemmas.List.Elements.{Contains-append_cases}
 use Rattle.std.proofs.lemmas.List.Sums.{get_or-le-sum_by, sum_by-cons}
-use Rattle.slab.proofs.SlabLemmas.{Contains-cons, Contains-cons_cases}
+use Rattle.proc_table.proofs.AmongLemmas.{Contains-cons, Contains-cons_cases}
 use Rattle.kheap_laws.proofs.KeyPlaces.{key_placed}
 use Rattle.kheap_laws.proofs.LeafLemmas.{numbers_by-count}
 use Rattle.kheap_laws.proofs.LeafOwners.{keys_of_leaves}

@@ -1,3 +1,4 @@
+pub mod AmongLemmas
 pub mod PlaceLemmas
 pub mod FindLemmas
 pub mod OwnLemmas

@@ -89,20 +89,20 @@ first_turns : (heap : ℕ) (now : Scene) (cached : Bool) → HasTurn heap 1 now 
 unfolding open_file bound need_of no_places none_open after_end_of
 first_turns heap Young false = record { answer = (refl, refl); account = refl; may_keep = may_keep (Two next.Open next.Open) false; live = lit≤ tt; names = lit≤ tt; blocks = lit≤ tt; vnodes = lit≤ tt; reads = lit≤ tt; untouched = λ _. (refl, refl); left = λ _. tt; known = λ _. refl }
 first_turns heap Young true = record { answer = (refl, refl); account = refl; may_keep = may_keep (Two next.Open next.Open) true; live = lit≤ tt; names = lit≤ tt; blocks = lit≤ tt; vnodes = lit≤ tt; reads = lit≤ tt; untouched = λ _. (refl, refl); left = λ _. tt; known = λ _. refl }
-first_turns heap (Alone next.Open) false = record { answer = (refl, refl); account = refl; may_keep = may_keep (Alone next.Exit) true; live = lit≤ tt; names = lit≤ tt; blocks = lit≤ tt; vnodes = lit≤ tt; reads = lit≤ tt; untouched = λ e. cc; left = λ _. tt; known = λ _. refl }
-first_turns heap (Alone next.Open) true = record { answer = (refl, refl); account = refl; may_keep = may_keep (Alone next.Exit) true; live = lit≤ tt; names = lit≤ tt; blocks = lit≤ tt; vnodes = lit≤ tt; reads = lit≤ tt; untouched = λ e. cc; left = λ _. tt; known = λ _. refl }
+first_turns heap (Alone next.Open) false = record { answer = (refl, refl); account = refl; may_keep = may_keep (Alone next.Exit) true; live = lit≤ tt; names = lit≤ tt; blocks = lit≤ tt; vnodes = lit≤ tt; reads = lit≤ tt; untouched = λ e. cc; left = λ e. absurd (nobody e); known = λ _. refl }
+first_turns heap (Alone next.Open) true = record { answer = (refl, refl); account = refl; may_keep = may_keep (Alone next.Exit) true; live = lit≤ tt; names = lit≤ tt; blocks = lit≤ tt; vnodes = lit≤ tt; reads = lit≤ tt; untouched = λ e. cc; left = λ e. absurd (nobody e); known = λ _. refl }
 first_turns heap (Alone next.Exit) false = record { answer = (refl, refl); account = refl; may_keep = may_keep Over false; live = lit≤ tt; names = lit≤ tt; blocks = lit≤ tt; vnodes = lit≤ tt; reads = lit≤ tt; untouched = λ _. (refl, refl); left = λ _. tt; known = λ _. refl }
 first_turns heap (Alone next.Exit) true = record { answer = (refl, refl); account = refl; may_keep = may_keep Over true; live = lit≤ tt; names = lit≤ tt; blocks = lit≤ tt; vnodes = lit≤ tt; reads = lit≤ tt; untouched = λ _. (refl, refl); left = λ _. tt; known = λ _. refl }
-first_turns heap (Two next.Open b) false = record { answer = (refl, refl); account = refl; may_keep = may_keep (Two next.Exit b) true; live = lit≤ tt; names = lit≤ tt; blocks = lit≤ tt; vnodes = lit≤ tt; reads = lit≤ tt; untouched = λ e. cc; left = λ _. tt; known = λ _. refl }
-first_turns heap (Two next.Open b) true = record { answer = (refl, refl); account = refl; may_keep = may_keep (Two next.Exit b) true; live = lit≤ tt; names = lit≤ tt; blocks = lit≤ tt; vnodes = lit≤ tt; reads = lit≤ tt; untouched = λ e. cc; left = λ _. tt; known = λ _. refl }
+first_turns heap (Two next.Open b) false = record { answer = (refl, refl); account = refl; may_keep = may_keep (Two next.Exit b) true; live = lit≤ tt; names = lit≤ tt; blocks = lit≤ tt; vnodes = lit≤ tt; reads = lit≤ tt; untouched = λ e. cc; left = λ e. absurd (nobody e); known = λ _. refl }
+first_turns heap (Two next.Open b) true = record { answer = (refl, refl); account = refl; may_keep = may_keep (Two next.Exit b) true; live = lit≤ tt; names = lit≤ tt; blocks = lit≤ tt; vnodes = lit≤ tt; reads = lit≤ tt; untouched = λ e. cc; left = λ e. absurd (nobody e); known = λ _. refl }
 first_turns heap (Two next.Exit b) false = record { answer = (refl, refl); account = refl; may_keep = may_keep (BothOver b) false; live = lit≤ tt; names = lit≤ tt; blocks = lit≤ tt; vnodes = lit≤ tt; reads = lit≤ tt; untouched = λ _. (refl, refl); left = λ _. tt; known = λ _. refl }
 first_turns heap (Two next.Exit b) true = record { answer = (refl, refl); account = refl; may_keep = may_keep (BothOver b) true; live = lit≤ tt; names = lit≤ tt; blocks = lit≤ tt; vnodes = lit≤ tt; reads = lit≤ tt; untouched = λ _. (refl, refl); left = λ _. tt; known = λ _. refl }
-first_turns heap (Exited next.Open) false = record { answer = (refl, refl); account = refl; may_keep = may_keep (Exited next.Exit) true; live = lit≤ tt; names = lit≤ tt; blocks = lit≤ tt; vnodes = lit≤ tt; reads = lit≤ tt; untouched = λ e. cc; left = λ _. tt; known = λ _. refl }
-first_turns heap (Exited next.Open) true = record { answer = (refl, refl); account = refl; may_keep = may_keep (Exited next.Exit) true; live = lit≤ tt; names = lit≤ tt; blocks = lit≤ tt; vnodes = lit≤ tt; reads = lit≤ tt; untouched = λ e. cc; left = λ _. tt; known = λ _. refl }
+first_turns heap (Exited next.Open) false = record { answer = (refl, refl); account = refl; may_keep = may_keep (Exited next.Exit) true; live = lit≤ tt; names = lit≤ tt; blocks = lit≤ tt; vnodes = lit≤ tt; reads = lit≤ tt; untouched = λ e. cc; left = λ e. absurd (nobody e); known = λ _. refl }
+first_turns heap (Exited next.Open) true = record { answer = (refl, refl); account = refl; may_keep = may_keep (Exited next.Exit) true; live = lit≤ tt; names = lit≤ tt; blocks = lit≤ tt; vnodes = lit≤ tt; reads = lit≤ tt; untouched = λ e. cc; left = λ e. absurd (nobody e); known = λ _. refl }
 first_turns heap (Exited next.Exit) false = record { answer = (refl, refl); account = refl; may_keep = may_keep (BothOver next.Exit) false; live = lit≤ tt; names = lit≤ tt; blocks = lit≤ tt; vnodes = lit≤ tt; reads = lit≤ tt; untouched = λ _. (refl, refl); left = λ _. tt; known = λ _. refl }
 first_turns heap (Exited next.Exit) true = record { answer = (refl, refl); account = refl; may_keep = may_keep (BothOver next.Exit) true; live = lit≤ tt; names = lit≤ tt; blocks = lit≤ tt; vnodes = lit≤ tt; reads = lit≤ tt; untouched = λ _. (refl, refl); left = λ _. tt; known = λ _. refl }
-first_turns heap (Killed next.Open b) false = record { answer = (refl, refl); account = refl; may_keep = may_keep (Killed next.Exit b) true; live = lit≤ tt; names = lit≤ tt; blocks = lit≤ tt; vnodes = lit≤ tt; reads = lit≤ tt; untouched = λ e. cc; left = λ _. tt; known = λ _. refl }
-first_turns heap (Killed next.Open b) true = record { answer = (refl, refl); account = refl; may_keep = may_keep (Killed next.Exit b) true; live = lit≤ tt; names = lit≤ tt; blocks = lit≤ tt; vnodes = lit≤ tt; reads = lit≤ tt; untouched = λ e. cc; left = λ _. tt; known = λ _. refl }
+first_turns heap (Killed next.Open b) false = record { answer = (refl, refl); account = refl; may_keep = may_keep (Killed next.Exit b) true; live = lit≤ tt; names = lit≤ tt; blocks = lit≤ tt; vnodes = lit≤ tt; reads = lit≤ tt; untouched = λ e. cc; left = λ e. absurd (nobody e); known = λ _. refl }
+first_turns heap (Killed next.Open b) true = record { answer = (refl, refl); account = refl; may_keep = may_keep (Killed next.Exit b) true; live = lit≤ tt; names = lit≤ tt; blocks = lit≤ tt; vnodes = lit≤ tt; reads = lit≤ tt; untouched = λ e. cc; left = λ e. absurd (nobody e); known = λ _. refl }
 first_turns heap (Killed next.Exit b) false = record { answer = (refl, refl); account = refl; may_keep = may_keep (BothOver b) false; live = lit≤ tt; names = lit≤ tt; blocks = lit≤ tt; vnodes = lit≤ tt; reads = lit≤ tt; untouched = λ _. (refl, refl); left = λ _. tt; known = λ _. refl }
 first_turns heap (Killed next.Exit b) true = record { answer = (refl, refl); account = refl; may_keep = may_keep (BothOver b) true; live = lit≤ tt; names = lit≤ tt; blocks = lit≤ tt; vnodes = lit≤ tt; reads = lit≤ tt; untouched = λ _. (refl, refl); left = λ _. tt; known = λ _. refl }
 first_turns heap Over cached = tt
@@ -112,8 +112,8 @@ second_turns : (heap : ℕ) (now : Scene) (cached : Bool) → HasTurn heap 2 now
 unfolding open_file bound need_of no_places none_open after_end_of
 second_turns heap Young cached = tt
 second_turns heap (Alone a) cached = tt
-second_turns heap (Two a next.Open) false = record { answer = (refl, refl); account = refl; may_keep = may_keep (Two a next.Exit) true; live = lit≤ tt; names = lit≤ tt; blocks = lit≤ tt; vnodes = lit≤ tt; reads = lit≤ tt; untouched = λ e. cc; left = λ _. tt; known = λ _. refl }
-second_turns heap (Two a next.Open) true = record { answer = (refl, refl); account = refl; may_keep = may_keep (Two a next.Exit) true; live = lit≤ tt; names = lit≤ tt; blocks = lit≤ tt; vnodes = lit≤ tt; reads = lit≤ tt; untouched = λ e. cc; left = λ _. tt; known = λ _. refl }
+second_turns heap (Two a next.Open) false = record { answer = (refl, refl); account = refl; may_keep = may_keep (Two a next.Exit) true; live = lit≤ tt; names = lit≤ tt; blocks = lit≤ tt; vnodes = lit≤ tt; reads = lit≤ tt; untouched = λ e. cc; left = λ e. absurd (nobody e); known = λ _. refl }
+second_turns heap (Two a next.Open) true = record { answer = (refl, refl); account = refl; may_keep = may_keep (Two a next.Exit) true; live = lit≤ tt; names = lit≤ tt; blocks = lit≤ tt; vnodes = lit≤ tt; reads = lit≤ tt; untouched = λ e. cc; left = λ e. absurd (nobody e); known = λ _. refl }
 second_turns heap (Two a next.Exit) false = record { answer = (refl, refl); account = refl; may_keep = may_keep (Exited a) false; live = lit≤ tt; names = lit≤ tt; blocks = lit≤ tt; vnodes = lit≤ tt; reads = lit≤ tt; untouched = λ _. (refl, refl); left = λ _. tt; known = λ _. refl }
 second_turns heap (Two a next.Exit) true = record { answer = (refl, refl); account = refl; may_keep = may_keep (Exited a) true; live = lit≤ tt; names = lit≤ tt; blocks = lit≤ tt; vnodes = lit≤ tt; reads = lit≤ tt; untouched = λ _. (refl, refl); left = λ _. tt; known = λ _. refl }
 second_turns heap (Exited a) cached = tt

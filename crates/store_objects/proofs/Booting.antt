@@ -57,7 +57,7 @@ use Rattle.proc_numbers.specs.Having.{AreListed, places_in}
 use Rattle.proc_files.specs.Names.{AreBound, name_in, name_of}
 use Rattle.proc_table.specs.Procs.{first_proc, numbers_in, proc_of}
 use Rattle.proc_table.specs.Standing.{IsTable}
-use Rattle.proc_table.specs.Table.{no_table, processes}
+use Rattle.proc_table.specs.Table.{TableView, no_table, processes}
 use Rattle.kheap_slabs.specs.Leaves.{HoldLeaves}
 use Rattle.proc_table.proofs.NumberLemmas.{none_numbers}
 use Rattle.proc_table.proofs.LeafEnds.{hold_booted, hold_turned}

@@ -159,6 +159,7 @@ kept_with script old was fs table new keeps tree same moves leaves owners groups
 pub kept_on : (script : Script) (old new : Objects) → AreKept script old → new.tree ≡ old.tree → new.names ≡ old.names → TableMoves old.heap old.procs new.heap new.procs
     → HoldLeaves new.heap.leaves (procs_of new) → AllByRecursion (λ proc. length proc.nodes ≡ 4) (procs_of new) → AreAtCalls script (procs_of new)
     → ((key : ℕ) → names_in key (procs_of new) ≡ names_in key (procs_of old)) → AreKept script new
+unfolding keeps_heap
 kept_on script old new kept tree same moves leaves groups calls names =
     let keeps = keeps_heap script old kept in
     kept_with script old.heap old.procs old.tree old.names new keeps tree same moves leaves
