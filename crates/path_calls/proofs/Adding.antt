@@ -1,8 +1,12 @@
 -- Nodes come into a set: the one that a process works in, and those that it has open.
-use Rattle.std.proofs.Common.{◌≡◌, ℕ, ◌≤◌, ◌==◌, ◌&&◌, ◌||◌, not, Bool, true, false, List, length, take, Option, None, Some, is_none, is_some, nat_lt, refl, ap, sym, ◌∙◌}
-use Rattle.std.proofs.lemmas.List.{take_all}
+use Rattle.std.proofs.Common.{◌≡◌, ℕ, ◌==◌, ◌&&◌, ◌||◌, ◌++◌, not, Bool, true, false, List, length, get_or, Option, None, Some, is_none, is_some, nat_lt, refl, ap, sym, ◌∙◌}
+use Rattle.std.proofs.lemmas.List.Folds.{list_any-append}
+use Rattle.kheap_slabs.specs.Leaves.{row_at}
+use Rattle.kheap_slabs.specs.declared.objects.Desc.{Desc}
+use Rattle.kheap_slabs.specs.declared.objects.Descriptor.{Descriptor}
 use Rattle.kheap_slabs.specs.declared.objects.Proc.{Proc}
-use Rattle.path_calls.specs.Nodes.{Adds, has_node, holds_node, most_nodes, some_opens, works_at}
+use Rattle.kheap_laws.proofs.LeafLemmas.{numbers_by-three}
+use Rattle.path_calls.specs.Nodes.{Adds, has_node, holds_node, most_nodes, opens_at, some_opens, works_at}
 use Rattle.path_calls.specs.declared.node_set.NodeSet.{NodeSet}
 use Rattle.kheap_slabs.specs.Heap.{Heap}
 use Rattle.proc_table.specs.Procs.{numbers_in}
@@ -26,6 +30,12 @@ both_more true one other may = refl
 both_more false one other true = refl
 both_more false one other false = refl
 
+-- what passes no test brings nothing in
+pub none_more : (was may : Bool) → (was || (may && false)) ≡ was
+none_more true may = refl
+none_more false true = refl
+none_more false false = refl
+
 -- who runs has the node in that he works in
 pub works_added : (old new : NodeSet) (proc : Proc) → is_none proc.status ≡ true → Adds old new (λ number. proc.cwd == number) → Adds old new (λ number. works_at number proc)
 works_added old new proc runs adds = λ number.
@@ -34,18 +44,40 @@ works_added old new proc runs adds = λ number.
 -- and who has ended works nowhere
 pub works_nowhere : (set : NodeSet) (proc : Proc) → is_none proc.status ≡ false → Adds set set (λ number. works_at number proc)
 works_nowhere set proc ended = λ number.
-    sym (ap (λ b. has_node set number || (nat_lt number most_nodes && (b && proc.cwd == number))) ended ∙ either (has_node set number) (nat_lt number most_nodes))
-  where
-    either : (was may : Bool) → (was || (may && false)) ≡ was
-    either true may = refl
-    either false true = refl
-    either false false = refl
+    sym (ap (λ b. has_node set number || (nat_lt number most_nodes && (b && proc.cwd == number))) ended ∙ none_more (has_node set number) (nat_lt number most_nodes))
 
--- so all are in that a process holds
-pub held_added : (old mid new : NodeSet) (h : Heap) (proc : Proc) (index : ℕ) → length (numbers_in h proc) ≤ index → Adds old mid (λ number. works_at number proc)
-    → Adds mid new (some_opens h.descs (take index (numbers_in h proc))) → Adds old new (λ number. holds_node h number proc)
-held_added old mid new h proc index all works opens = λ number.
-    opens number
-    ∙ ap (λ places. has_node mid number || (nat_lt number most_nodes && some_opens h.descs places number)) (take_all index (numbers_in h proc) all)
-    ∙ ap (λ b. b || (nat_lt number most_nodes && some_opens h.descs (numbers_in h proc) number)) (works number)
-    ∙ both_more (has_node old number) (works_at number proc) (some_opens h.descs (numbers_in h proc) number) (nat_lt number most_nodes)
+-- nodes come in of one test, and then of another
+adds_both : (old mid new : NodeSet) (one other : ℕ → Bool) → Adds old mid one → Adds mid new other → Adds old new (λ number. one number || other number)
+adds_both old mid new one other first second = λ number.
+    second number ∙ ap (λ b. b || (nat_lt number most_nodes && other number)) (first number)
+    ∙ both_more (has_node old number) (one number) (other number) (nat_lt number most_nodes)
+
+-- what is open of some numbers and of others
+opens_both : (descs : List (Option Desc)) (one other : List (Option Descriptor)) (number : ℕ) → some_opens descs (one ++ other) number ≡ (some_opens descs one number || some_opens descs other number)
+opens_both descs one other number = list_any-append (opens_at descs number) one other
+
+-- so all are in that a process holds: where it works, and what its Proc and its three Leaves have open
+module _ (h : Heap) (proc : Proc) (three : length proc.leaves ≡ 3) where
+  abbrev row : ℕ → List (Option Descriptor)
+  row group = row_at h.leaves (get_or proc.leaves group None)
+
+  opens_rows : (number : ℕ) → some_opens h.descs (numbers_in h proc) number
+      ≡ (some_opens h.descs proc.descriptors number || (some_opens h.descs (row 0) number || (some_opens h.descs (row 1) number || some_opens h.descs (row 2) number)))
+  opens_rows number =
+      ap (λ places. some_opens h.descs places number) (numbers_by-three h.leaves proc.descriptors proc.leaves three)
+      ∙ opens_both h.descs proc.descriptors (row 0 ++ (row 1 ++ row 2)) number
+      ∙ ap (λ b. some_opens h.descs proc.descriptors number || b)
+      (opens_both h.descs (row 0) (row 1 ++ row 2) number ∙ ap (λ b. some_opens h.descs (row 0) number || b) (opens_both h.descs (row 1) (row 2) number))
+
+  pub held_added : (old works first one two last : NodeSet) → Adds old works (λ number. works_at number proc) → Adds works first (some_opens h.descs proc.descriptors)
+      → Adds first one (some_opens h.descs (row_at h.leaves (get_or proc.leaves 0 None))) → Adds one two (some_opens h.descs (row_at h.leaves (get_or proc.leaves 1 None)))
+      → Adds two last (some_opens h.descs (row_at h.leaves (get_or proc.leaves 2 None))) → Adds old last (λ number. holds_node h number proc)
+  held_added old works first one two last adds_works adds_first adds_one adds_two adds_last =
+      let end = adds_both one two last (some_opens h.descs (row 1)) (some_opens h.descs (row 2)) adds_two adds_last in
+      let leaves = adds_both first one last (some_opens h.descs (row 0)) (λ n. some_opens h.descs (row 1) n || some_opens h.descs (row 2) n) adds_one end in
+      let opens = adds_both works first last (some_opens h.descs proc.descriptors)
+      (λ n. some_opens h.descs (row 0) n || (some_opens h.descs (row 1) n || some_opens h.descs (row 2) n)) adds_first leaves in
+      λ number.
+      adds_both old works last (λ n. works_at n proc)
+      (λ n. some_opens h.descs proc.descriptors n || (some_opens h.descs (row 0) n || (some_opens h.descs (row 1) n || some_opens h.descs (row 2) n))) adds_works opens number
+      ∙ ap (λ b. has_node old number || (nat_lt number most_nodes && (works_at number proc || b))) (sym (opens_rows number))

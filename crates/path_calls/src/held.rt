@@ -1,17 +1,19 @@
 //! Who holds which nodes, told while the heap is lent to the tree.
 
-ghost use Rattle.std.specs.Prelude.{◌≡◌, ◌&&◌, ℕ, [], Some, nat_lt};
+ghost use Rattle.std.specs.Prelude.{◌≡◌, ◌&&◌, ℕ, [], IfSome, Some, nat_lt};
+ghost use Rattle.kheap_slabs.specs.Leaves.{OwnsLeaves, row_at};
 ghost use Rattle.kheap_slabs.specs.Objects.{InUse, object};
+ghost use Rattle.kheap_slabs.specs.declared.objects.Descriptor.{Descriptor as HeldDescriptor};
 ghost use Rattle.kheap_slabs.specs.declared.objects.Proc.{Proc};
 ghost use Rattle.kheap_slabs.specs.Heap.{IsWellFormed};
 ghost use Rattle.open_laws.specs.Described.{node_in};
 ghost use Rattle.open_laws.specs.Owned.{HasItsOwners};
 ghost use Rattle.posix_defs.specs.Files.State.{is_number};
 ghost use Rattle.proc_table.specs.Table.{AreStored, processes};
-ghost use Rattle.path_calls.specs.Nodes.{Adds, has_node, holds_node, most_nodes, some_holds};
+ghost use Rattle.path_calls.specs.Nodes.{Adds, has_node, holds_node, most_nodes, some_holds, some_opens};
 
 use crate::node_set::NodeSet;
-use kheap_slabs::{Desc, KHeap, Target};
+use kheap_slabs::{Desc, Descriptor, KHeap, Target};
 use proc_table::ProcTable;
 
 /// The nodes that live processes work in, and those that are open.
@@ -19,6 +21,7 @@ pub(crate) fn held_nodes(heap: &KHeap, procs: &ProcTable) -> NodeSet
     requires whole { IsWellFormed heap.now }
     requires stored { AreStored heap.now.procs procs.now.listed }
     requires owners { HasItsOwners heap.now [] }
+    requires leaves { (at : ℕ) (proc : Proc) → object heap.now.procs at ≡ Some proc → OwnsLeaves heap.now.leaves proc.leaves }
     ensures { (number : ℕ) → has_node result number
         ≡ (nat_lt number most_nodes && some_holds heap.now (processes heap.now procs.now) number) }
 {
@@ -34,6 +37,7 @@ fn add_held(heap: &KHeap, key: u32, nodes: &mut NodeSet)
     requires whole { IsWellFormed heap.now }
     requires there { InUse heap.now.procs key }
     requires owners { HasItsOwners heap.now [] }
+    requires leaves { (at : ℕ) (proc : Proc) → object heap.now.procs at ≡ Some proc → OwnsLeaves heap.now.leaves proc.leaves }
     ensures { (proc : Proc) → object heap.now.procs key ≡ Some proc
         → Adds nodes.old nodes.new (λ number. holds_node heap.now number proc) }
 {
@@ -41,7 +45,30 @@ fn add_held(heap: &KHeap, key: u32, nodes: &mut NodeSet)
     if proc.status.is_none() {
         nodes.add(proc.cwd);
     }
-    for descriptor in &proc.descriptors {
+    add_row(heap, &proc.descriptors, nodes);
+    add_leaf(heap, proc.leaves[0], nodes);
+    add_leaf(heap, proc.leaves[1], nodes);
+    add_leaf(heap, proc.leaves[2], nodes);
+}
+
+// The nodes that a Leaf has open, where one is there.
+fn add_leaf(heap: &KHeap, leaf: Option<u32>, nodes: &mut NodeSet)
+    requires there { IfSome leaf (InUse heap.now.leaves) }
+    requires owners { HasItsOwners heap.now [] }
+    ensures { Adds nodes.old nodes.new (some_opens heap.now.descs (row_at heap.now.leaves leaf)) }
+{
+    match leaf {
+        Some(key) => add_row(heap, &heap.get_leaf(key).descriptors, nodes),
+        None => {}
+    }
+}
+
+// The nodes that 32 numbers are open on.
+fn add_row(heap: &KHeap, row: &[Option<Descriptor>; 32], nodes: &mut NodeSet)
+    requires { (fd : ℕ) (held : HeldDescriptor) → object row.now fd ≡ Some held → InUse heap.now.descs held.desc }
+    ensures { Adds nodes.old nodes.new (some_opens heap.now.descs row.now) }
+{
+    for descriptor in row {
         if let Some(held) = descriptor {
             add_opened(heap.get_desc(held.desc), nodes);
         }
