@@ -1,6 +1,6 @@
 //! Who holds which nodes, told while the heap is lent to the tree.
 
-ghost use Rattle.std.specs.Prelude.{◌≡◌, ◌&&◌, ℕ, [], Some, nat_lt};
+ghost use Rattle.std.specs.Prelude.{◌≡◌, ◌&&◌, ℕ, [], Some, false, nat_lt};
 ghost use Rattle.kheap_slabs.specs.Objects.{InUse, object};
 ghost use Rattle.kheap_slabs.specs.declared.objects.Descriptor.{Descriptor as HeldDescriptor};
 ghost use Rattle.kheap_slabs.specs.declared.objects.Proc.{Proc};
@@ -17,20 +17,19 @@ use crate::node_set::NodeSet;
 use kheap_slabs::{Desc, Descriptor, KHeap, Target};
 use proc_table::ProcTable;
 
-/// The nodes that live processes work in, and those that are open.
-pub(crate) fn held_nodes(heap: &KHeap, procs: &ProcTable) -> NodeSet
+/// Puts the nodes that live processes work in, and those that are open, into a set that has none.
+pub(crate) fn add_all_held(heap: &KHeap, procs: &ProcTable, nodes: &mut NodeSet)
     requires whole { IsWellFormed heap.now }
     requires stored { AreStored heap.now.procs procs.now.listed }
     requires listed { AreListed heap.now procs.now }
     requires owners { HasItsOwners heap.now [] }
-    ensures { (number : ℕ) → has_node result number
+    requires none { (number : ℕ) → has_node nodes.old number ≡ false }
+    ensures { (number : ℕ) → has_node nodes.new number
         ≡ (nat_lt number most_nodes && some_holds heap.now (processes heap.now procs.now) number) }
 {
-    let mut nodes = NodeSet::new();
     for place in procs.listed() {
-        add_held(heap, place.key, &mut nodes);
+        add_held(heap, place.key, nodes);
     }
-    nodes
 }
 
 // The node that a process works in, as long as it runs, and those that it has open.

@@ -1,7 +1,7 @@
 use Rattle.std.proofs.Common.{◌<◌, length, arith}
 use Rattle.kheap_slabs.proofs.ObjectLemmas.{object_of}
 use Rattle.path_calls.proofs.Walking.{here, is_there, one_added, owns_key}
-use Rattle.path_calls.proofs.held.held_nodes.Goals as goal
+use Rattle.path_calls.proofs.held.add_all_held.Goals as goal
 
 pub add_held-requires-clause-owns : goal.add_held-requires-clause-owns
 add_held-requires-clause-owns c = λ proc is.
