@@ -5,6 +5,8 @@ use Rattle.std.specs.Option.{option_map}
 use Rattle.kabi_types.specs.declared.scripts.Control.{Control}
 use Rattle.kabi_types.specs.declared.scripts.Script.{Script}
 use Rattle.kheap_slabs.specs.declared.objects.Proc.{Proc}
+use Rattle.kheap_slabs.specs.Heap.{Heap}
+use Rattle.kheap_slabs.specs.Leaves.{HoldLeaves}
 use Rattle.posix_defs.specs.Memory.{after_clear, no_memory}
 use Rattle.posix_defs.specs.MemoryCalls.{remembered}
 use Rattle.posix_defs.specs.World.{World, directories_of}
@@ -15,6 +17,7 @@ use Rattle.proc_table.specs.Moves.{TableMoves}
 use Rattle.proc_numbers.specs.Having.{HaveDescriptors}
 use Rattle.proc_table.specs.Opening.{HaveOpen as TableOpen}
 use Rattle.proc_table.specs.Procs.{no_nodes, numbers_in, proc_of}
+use Rattle.proc_table.proofs.LeafEnds.{hold_nodes}
 use Rattle.proc_table.proofs.OpenLemmas.{have_nodes}
 use Rattle.proc_table.specs.Standing.{IsTable, cleared_in}
 use Rattle.proc_table.specs.Table.{TableView, processes}
@@ -83,6 +86,7 @@ module _ (script : Script) (old new : Objects) (pid : ℕ) (same : new.procs ≡
   pub kept_forgotten : AreKept script old → AreKept script new
   kept_forgotten kept =
       kept_on script old new kept tree names moves
+      (subst (HoldLeaves new.heap.leaves) (sym are) (subst (λ leaves. HoldLeaves leaves (map (cleared pid) (procs_of old))) (sym (ap (λ (h : Heap). h.leaves) moves.kept)) (hold_nodes old.heap pid no_nodes (procs_of old) kept.leaves)))
       (subst (AllByRecursion (λ proc. length proc.nodes ≡ 4)) (sym are) (all_cleared (λ proc. length proc.nodes ≡ 4) pid (procs_of old) (λ proc long. refl) kept.groups))
       (subst (AreAtCalls script) (sym are)
       (all_cleared (λ proc. proc.status ≡ None → IsAtCall script proc) pid (procs_of old)

@@ -1,10 +1,13 @@
 -- Nodes come into a set: the one that a process works in, and those that it has open.
-use Rattle.std.proofs.Common.{◌≡◌, ℕ, ◌≤◌, ◌==◌, ◌&&◌, ◌||◌, not, Bool, true, false, List, length, take, Option, None, Some, is_none, is_some, nat_lt, refl, ap, sym, ◌∙◌}
-use Rattle.std.proofs.lemmas.List.{take_all}
+use Rattle.std.proofs.Common.{◌≡◌, ℕ, ◌==◌, ◌&&◌, ◌||◌, not, Bool, true, false, List, ◌++◌, get_or, length, Option, None, Some, is_none, is_some, nat_lt, refl, ap, sym, ◌∙◌}
+use Rattle.std.proofs.lemmas.List.Folds.{list_any-append}
+use Rattle.kheap_slabs.specs.declared.objects.Descriptor.{Descriptor}
 use Rattle.kheap_slabs.specs.declared.objects.Proc.{Proc}
-use Rattle.path_calls.specs.Nodes.{Adds, has_node, holds_node, most_nodes, some_opens, works_at}
+use Rattle.path_calls.specs.Nodes.{Adds, has_node, holds_node, most_nodes, opens_at, some_opens, works_at}
 use Rattle.path_calls.specs.declared.node_set.NodeSet.{NodeSet}
 use Rattle.kheap_slabs.specs.Heap.{Heap}
+use Rattle.kheap_slabs.specs.Leaves.{row_at}
+use Rattle.kheap_laws.proofs.LeafLemmas.{numbers_by-three}
 use Rattle.proc_table.specs.Procs.{numbers_in}
 
 -- a test holds where another does, and the other way round
@@ -41,11 +44,39 @@ works_nowhere set proc ended = λ number.
     either false true = refl
     either false false = refl
 
--- so all are in that a process holds
-pub held_added : (old mid new : NodeSet) (h : Heap) (proc : Proc) (index : ℕ) → length (numbers_in h proc) ≤ index → Adds old mid (λ number. works_at number proc)
-    → Adds mid new (some_opens h.descs (take index (numbers_in h proc))) → Adds old new (λ number. holds_node h number proc)
-held_added old mid new h proc index all works opens = λ number.
-    opens number
-    ∙ ap (λ places. has_node mid number || (nat_lt number most_nodes && some_opens h.descs places number)) (take_all index (numbers_in h proc) all)
-    ∙ ap (λ b. b || (nat_lt number most_nodes && some_opens h.descs (numbers_in h proc) number)) (works number)
-    ∙ both_more (has_node old number) (works_at number proc) (some_opens h.descs (numbers_in h proc) number) (nat_lt number most_nodes)
+-- what two add
+pub both_added : (old mid new : NodeSet) (one other : ℕ → Bool) → Adds old mid one → Adds mid new other → Adds old new (λ number. one number || other number)
+both_added old mid new one other first second = λ number.
+    second number
+    ∙ ap (λ b. b || (nat_lt number most_nodes && other number)) (first number)
+    ∙ both_more (has_node old number) (one number) (other number) (nat_lt number most_nodes)
+
+-- so all are in that a process holds: the node that it works in, and those of its own row and of its Leaves'
+pub held_added : (old mid own one two new : NodeSet) (h : Heap) (proc : Proc) → length proc.leaves ≡ 3 → Adds old mid (λ number. works_at number proc)
+    → Adds mid own (some_opens h.descs proc.descriptors) → Adds own one (some_opens h.descs (row_at h.leaves (get_or proc.leaves 0 None)))
+    → Adds one two (some_opens h.descs (row_at h.leaves (get_or proc.leaves 1 None))) → Adds two new (some_opens h.descs (row_at h.leaves (get_or proc.leaves 2 None)))
+    → Adds old new (λ number. holds_node h number proc)
+held_added old mid own one two new h proc three works row first second last = λ number.
+    both_added old mid new (λ n. works_at n proc) opened works
+    (both_added mid own new (some_opens h.descs proc.descriptors) later row (both_added own one new (leaf_opens 0) (λ n. leaf_opens 1 n || leaf_opens 2 n) first (both_added one two new (leaf_opens 1) (leaf_opens 2) second last)))
+    number
+    ∙ ap (λ b. has_node old number || (nat_lt number most_nodes && (works_at number proc || b))) (sym (all_opened number))
+  where
+    leaf_row : ℕ → List (Option Descriptor)
+    leaf_row at = row_at h.leaves (get_or proc.leaves at None)
+
+    leaf_opens : ℕ → ℕ → Bool
+    leaf_opens at number = some_opens h.descs (leaf_row at) number
+
+    later : ℕ → Bool
+    later n = leaf_opens 0 n || (leaf_opens 1 n || leaf_opens 2 n)
+
+    opened : ℕ → Bool
+    opened n = some_opens h.descs proc.descriptors n || later n
+
+    all_opened : (n : ℕ) → some_opens h.descs (numbers_in h proc) n ≡ opened n
+    all_opened n =
+        ap (λ places. some_opens h.descs places n) (numbers_by-three h.leaves proc.descriptors proc.leaves three)
+        ∙ list_any-append (opens_at h.descs n) proc.descriptors (leaf_row 0 ++ (leaf_row 1 ++ leaf_row 2))
+        ∙ ap (λ b. some_opens h.descs proc.descriptors n || b)
+        (list_any-append (opens_at h.descs n) (leaf_row 0) (leaf_row 1 ++ leaf_row 2) ∙ ap (λ b. leaf_opens 0 n || b) (list_any-append (opens_at h.descs n) (leaf_row 1) (leaf_row 2)))

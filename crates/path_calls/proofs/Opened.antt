@@ -1,9 +1,10 @@
 -- Which nodes the processes of a heap have open are those that the machine's descriptions open.
-use Rattle.std.proofs.Common.{◌≡◌, ℕ, zero, suc, ◌+◌, ◌<◌, ◌==◌, ◌||◌, Bool, true, false, List, [], ◌∷◌, Option, None, Some, refl, ap, sym, ◌∙◌, inl, inr, arith}
+use Rattle.std.proofs.Common.{◌≡◌, ℕ, zero, suc, ◌+◌, ◌<◌, ◌≤◌, ◌==◌, ◌||◌, Bool, true, false, cond, List, [], ◌∷◌, get_or, length, Option, None, Some, refl, ap, sym, ◌∙◌, inl, inr, arith}
 use Rattle.std.specs.Prelude.{count_by}
-use Rattle.std.specs.List.{Contains, cons_option, list_any}
+use Rattle.std.specs.List.{list_any}
 use Rattle.std.specs.Option.{option_map}
 use Rattle.std.proofs.lemmas.Bool.Decides.{eqb_tells}
+use Rattle.std.proofs.lemmas.List.Sums.{get_or-le-sum_by}
 use Rattle.kheap_slabs.specs.Objects.{InUse, object}
 use Rattle.kheap_slabs.proofs.ObjectLemmas.{object_of}
 use Rattle.kheap_slabs.specs.declared.objects.Desc.{Desc}
@@ -12,21 +13,23 @@ use Rattle.kheap_slabs.specs.declared.objects.Proc.{Proc}
 use Rattle.kheap_slabs.specs.declared.objects.Target.{Target as HeldTarget}
 use Rattle.kheap_slabs.specs.declared.objects.Target.TheVariants as target
 use Rattle.kheap_slabs.specs.Heap.{Heap}
+use Rattle.kheap_slabs.specs.Leaves.{row_at}
+use Rattle.kheap_laws.proofs.LeafLemmas.{numbers_by-count}
 use Rattle.machine_laws.proofs.Openers.{Opener, by_opener, opens_by}
 use Rattle.open_laws.specs.Described.{Counted, CountedList, counted_in, node_in, target_in, uncounted}
-use Rattle.open_laws.specs.Owned.{HasItsOwners, desc_count_at, names_desc, namings_in, namings_of}
+use Rattle.open_laws.specs.Owned.{HasItsOwners, all_namings, desc_count_at, names_desc}
 use Rattle.open_laws.proofs.DropLemmas.{description_in}
 use Rattle.open_laws.proofs.GoingLemmas.{named_there}
 use Rattle.open_laws.specs.Placed.{Numbers}
 use Rattle.posix_defs.specs.Files.Descriptions.{Description, Descriptions, OnNode, Target, description_at}
 use Rattle.posix_defs.specs.Files.State.{Files, is_number, opens}
 use Rattle.proc_numbers.specs.Having.{AreListed, HaveOpen}
+use Rattle.proc_numbers.proofs.NumberParts.{named_part, named_whole}
 use Rattle.proc_numbers.proofs.Sums.{one_if, part_of_sum, some_adds}
 use Rattle.proc_numbers.proofs.NamedOpen.{described_so}
-use Rattle.proc_table.specs.Procs.{numbers_in}
-use Rattle.proc_table.specs.Table.{AreStored, TableView, keys_of, processes, procs_at}
-use Rattle.proc_table.specs.declared.places.Place.{Place}
-use Rattle.proc_table.proofs.PlaceLemmas.{Contains-cases, IsAt, eqb_same, some_same, stored_is}
+use Rattle.proc_table.specs.Procs.{numbers_in, proc_of}
+use Rattle.proc_table.specs.Table.{TableView, processes}
+use Rattle.proc_table.proofs.PlaceLemmas.{eqb_same, some_same}
 use Rattle.path_calls.specs.Nodes.{node_of, opens_at, some_opens}
 use Rattle.path_calls.proofs.Adding.{alike}
 
@@ -41,13 +44,27 @@ names_some places fd held is =
     let one = ap one_if (eqb_same held.desc held.desc refl) in
     omega (arith, part, one)
 
-pub desc_named : (h : Heap) (key : ℕ) (proc : Proc) (fd : ℕ) (held : Descriptor) → HasItsOwners h [] → object h.procs key ≡ Some proc → object (numbers_in h proc) fd ≡ Some held
-    → InUse h.descs held.desc
-desc_named h key proc fd held owners there is =
-    let some = names_some (numbers_in h proc) fd held is in
-    let part = part_of_sum (namings_in held.desc) h.procs key proc there in
-    let it = named_there h [] held.desc owners (omega (arith, some, part)) in
+-- in a part of a process's numbers, of which some name it as often as the whole does
+pub desc_named : (h : Heap) (key : ℕ) (proc : Proc) (row : List (Option Descriptor)) (fd : ℕ) (held : Descriptor) → HasItsOwners h [] → object h.procs key ≡ Some proc
+    → count_by (names_desc held.desc) row ≤ count_by (names_desc held.desc) (numbers_in h proc) → object row fd ≡ Some held → InUse h.descs held.desc
+desc_named h key proc row fd held owners there part is =
+    let some = names_some row fd held is in
+    let it = named_there h [] held.desc owners (named_part held.desc h key proc there (omega (arith, some, part))) in
     let used : InUse h.descs held.desc = rw it.1 refl in used
+
+-- the parts are the row of the Proc and those of its Leaves
+module _ (h : Heap) (proc : Proc) (key : ℕ) where
+  abbrev leaf_names : Option ℕ → ℕ
+  leaf_names leaf = count_by (names_desc key) (row_at h.leaves leaf)
+
+  pub first_part : count_by (names_desc key) proc.descriptors ≤ count_by (names_desc key) (numbers_in h proc)
+  first_part = let all = numbers_by-count (names_desc key) h.leaves proc.descriptors proc.leaves in omega (arith, all)
+
+  pub leaf_part : (at : ℕ) → at < length proc.leaves → leaf_names (get_or proc.leaves at None) ≤ count_by (names_desc key) (numbers_in h proc)
+  leaf_part at within =
+      let all = numbers_by-count (names_desc key) h.leaves proc.descriptors proc.leaves in
+      let least = get_or-le-sum_by leaf_names proc.leaves at None within in
+      omega (arith, all, least)
 
 -- ---- from the heap to the machine
 
@@ -97,21 +114,14 @@ any_here test [] at x is passes = cc
 any_here test (first ∷ xs) zero x is passes = ap (λ o. test o || list_any test xs) is ∙ ap (λ b. b || list_any test xs) passes
 any_here test (first ∷ xs) (suc at) x is passes = later (test first) (list_any test xs) (any_here test xs at x is passes)
 
--- the process of each key that is listed is among those of the table
-any_listed : (test : Proc → Bool) (objects : List (Option Proc)) (places : List Place) (key : ℕ) (proc : Proc) → AreStored objects places → Contains (keys_of places) key
-    → object objects key ≡ Some proc → test proc ≡ true → list_any test (procs_at objects places) ≡ true
-any_listed test objects [] key proc stored among is passes = absurd (let within = among.1 in omega (arith, within))
-any_listed test objects (place ∷ places) key proc stored among is passes =
-    ap (λ o. list_any test (cons_option o (procs_at objects places))) here.is
-    ∙ elim (Contains-cases place.key key (keys_of places) among) [
-      | inl same ↦
-          ap (λ b. b || list_any test (procs_at objects places))
-          (ap test (some_same (object objects key) here.proc proc (ap (object objects) (sym same) ∙ here.is) is) ∙ passes)
-      | inr more ↦ later (test here.proc) (list_any test (procs_at objects places)) (any_listed test objects places key proc stored.1 more is passes)
-    ]
+-- a process of a pid is among them
+any_found : (test : Proc → Bool) (procs : List Proc) (pid : ℕ) (proc : Proc) → proc_of procs pid ≡ Some proc → test proc ≡ true → list_any test procs ≡ true
+any_found test [] pid proc found passes = cc
+any_found test (first ∷ procs) pid proc found passes = by_pid (first.pid == pid) found (any_found test procs pid proc)
   where
-    here : IsAt objects place
-    here = stored_is objects place stored.0
+    by_pid : (b : Bool) → cond b (Some first) (proc_of procs pid) ≡ Some proc → (proc_of procs pid ≡ Some proc → test proc ≡ true → list_any test procs ≡ true) → list_any test (first ∷ procs) ≡ true
+    by_pid true is rest = ap (λ b. b || list_any test procs) (ap test (some_same (Some first) first proc refl is) ∙ passes)
+    by_pid false is rest = later (test first) (list_any test procs) (rest is passes)
 
 -- what a target of the machine is on a node for, that of the heap is
 node_back : (numbers : Numbers) (on : HeldTarget) (n : ℕ) → target_in numbers on ≡ OnNode n → is_number n (node_in on) ≡ true
@@ -157,10 +167,9 @@ module _ (numbers : Numbers) (h : Heap) (kept : TableView) (files : Files) (have
   named_so : (test : Proc → Bool) (key : ℕ) → InUse h.descs key → ((proc : Proc) (fd : ℕ) (held : Descriptor) → object (numbers_in h proc) fd ≡ Some held → held.desc ≡ key → test proc ≡ true)
       → list_any test (processes h kept) ≡ true
   named_so test key used passes =
-      let at = some_adds (namings_in key) h.procs refl (more (desc_count_at h.descs key) (namings_of h.procs key) (owners.named.counts key) (owners.named.named key used)) in
-      let by = some_adds (λ o. one_if (names_desc key o)) (numbers_in h at.value) refl at.adds in
-      any_listed test h.procs kept.listed at.key at.value listed.stored (listed.all.listed at.key (let there : InUse h.procs at.key = rw at.is refl in there)) at.is
-      (passes at.value by.key by.value by.is (names_key key by.value by.adds))
+      let at = named_whole key h kept listed (more (desc_count_at h.descs key) (all_namings h key) (owners.named.counts key) (owners.named.named key used)) in
+      let by = some_adds (λ o. one_if (names_desc key o)) (numbers_in h at.proc) refl at.names in
+      any_found test (processes h kept) at.pid at.proc at.found (passes at.proc by.key by.value by.is (names_key key by.value by.adds))
     where
       more : (count names : ℕ) → count ≡ names + 0 → 0 < count → 0 < names
       more count names same some = omega (arith, same, some)

@@ -1,11 +1,15 @@
 -- A walk over the processes of a table puts the nodes that they hold into a set.
-use Rattle.std.proofs.Common.{◌≡◌, ℕ, ◌+◌, ◌<◌, ◌&&◌, ◌||◌, Bool, true, false, List, [], ◌∷◌, length, get_or, drop, Option, Some, nat_lt, refl, ap, sym, ◌∙◌, subst}
+use Rattle.std.proofs.Common.{◌≡◌, ℕ, ◌+◌, ◌<◌, ◌&&◌, ◌||◌, Bool, true, false, List, [], ◌∷◌, length, get_or, drop, Option, Some, is_some, nat_lt, refl, ap, sym, ◌∙◌, subst}
 use Rattle.std.specs.List.{cons_option}
 use Rattle.std.proofs.lemmas.List.{at_drop_more, drop_more}
 use Rattle.kheap_slabs.specs.Objects.{InUse, object}
 use Rattle.kheap_slabs.specs.declared.objects.Proc.{Proc}
 use Rattle.kheap_slabs.specs.Heap.{Heap}
-use Rattle.proc_table.specs.Table.{AreStored, procs_at}
+use Rattle.kheap_slabs.specs.Leaves.{OwnsLeaves}
+use Rattle.proc_numbers.specs.Having.{AreListed}
+use Rattle.proc_numbers.proofs.Listing.{key_listed}
+use Rattle.proc_numbers.proofs.PlacedLeaves.{owns_placed}
+use Rattle.proc_table.specs.Table.{AreStored, TableView, procs_at}
 use Rattle.proc_table.specs.declared.places.Place.{Place}
 use Rattle.proc_table.proofs.PlaceLemmas.{stored_is}
 use Rattle.path_calls.specs.Nodes.{Adds, has_node, holds_node, most_nodes, some_holds}
@@ -42,11 +46,17 @@ all_added set h objects all left added none number =
     either false true = refl
     either false false = refl
 
+-- who is in the heap owns its Leaves
+pub owns_key : (h : Heap) (kept : TableView) (key : ℕ) (proc : Proc) → AreListed h kept → object h.procs key ≡ Some proc → OwnsLeaves h.leaves proc.leaves
+owns_key h kept key proc listed is =
+    let at = key_listed kept.listed 0 kept.last key listed.rising (listed.all.listed key (ap is_some is)) in
+    owns_placed h kept at.0 key proc listed at.1 is
+
 module _ (h : Heap) (objects : List (Option Proc)) (all places : List Place) (at : ℕ) (within : at < length places) where
   abbrev rest : List Place
   rest = drop (at + 1) places
 
-  abbrev here : Place
+  abbrev pub here : Place
   here = get_or places at no_place
 
   -- its process is there

@@ -1,32 +1,35 @@
 //! Who holds which nodes, told while the heap is lent to the tree.
 
-ghost use Rattle.std.specs.Prelude.{◌≡◌, ◌&&◌, ℕ, [], Some, nat_lt};
+ghost use Rattle.std.specs.Prelude.{◌≡◌, ◌&&◌, ℕ, [], Some, false, nat_lt};
 ghost use Rattle.kheap_slabs.specs.Objects.{InUse, object};
+ghost use Rattle.kheap_slabs.specs.declared.objects.Descriptor.{Descriptor as HeldDescriptor};
 ghost use Rattle.kheap_slabs.specs.declared.objects.Proc.{Proc};
 ghost use Rattle.kheap_slabs.specs.Heap.{IsWellFormed};
+ghost use Rattle.kheap_slabs.specs.Leaves.{OwnsLeaves, row_at};
 ghost use Rattle.open_laws.specs.Described.{node_in};
 ghost use Rattle.open_laws.specs.Owned.{HasItsOwners};
 ghost use Rattle.posix_defs.specs.Files.State.{is_number};
+ghost use Rattle.proc_numbers.specs.Having.{AreListed};
 ghost use Rattle.proc_table.specs.Table.{AreStored, processes};
-ghost use Rattle.path_calls.specs.Nodes.{Adds, has_node, holds_node, most_nodes, some_holds};
+ghost use Rattle.path_calls.specs.Nodes.{Adds, has_node, holds_node, most_nodes, some_holds, some_opens};
 
 use crate::node_set::NodeSet;
-use kheap_slabs::{Desc, KHeap, Target};
+use kheap_slabs::{Desc, Descriptor, KHeap, Target};
 use proc_table::ProcTable;
 
-/// The nodes that live processes work in, and those that are open.
-pub(crate) fn held_nodes(heap: &KHeap, procs: &ProcTable) -> NodeSet
+/// Puts the nodes that live processes work in, and those that are open, into a set that has none.
+pub(crate) fn add_all_held(heap: &KHeap, procs: &ProcTable, nodes: &mut NodeSet)
     requires whole { IsWellFormed heap.now }
     requires stored { AreStored heap.now.procs procs.now.listed }
+    requires listed { AreListed heap.now procs.now }
     requires owners { HasItsOwners heap.now [] }
-    ensures { (number : ℕ) → has_node result number
+    requires none { (number : ℕ) → has_node nodes.old number ≡ false }
+    ensures { (number : ℕ) → has_node nodes.new number
         ≡ (nat_lt number most_nodes && some_holds heap.now (processes heap.now procs.now) number) }
 {
-    let mut nodes = NodeSet::new();
     for place in procs.listed() {
-        add_held(heap, place.key, &mut nodes);
+        add_held(heap, place.key, nodes);
     }
-    nodes
 }
 
 // The node that a process works in, as long as it runs, and those that it has open.
@@ -34,6 +37,7 @@ fn add_held(heap: &KHeap, key: u32, nodes: &mut NodeSet)
     requires whole { IsWellFormed heap.now }
     requires there { InUse heap.now.procs key }
     requires owners { HasItsOwners heap.now [] }
+    requires owns { (proc : Proc) → object heap.now.procs key ≡ Some proc → OwnsLeaves heap.now.leaves proc.leaves }
     ensures { (proc : Proc) → object heap.now.procs key ≡ Some proc
         → Adds nodes.old nodes.new (λ number. holds_node heap.now number proc) }
 {
@@ -41,7 +45,31 @@ fn add_held(heap: &KHeap, key: u32, nodes: &mut NodeSet)
     if proc.status.is_none() {
         nodes.add(proc.cwd);
     }
-    for descriptor in &proc.descriptors {
+    add_row(heap, &proc.descriptors, nodes);
+    add_leaf(heap, proc.leaves[0], nodes);
+    add_leaf(heap, proc.leaves[1], nodes);
+    add_leaf(heap, proc.leaves[2], nodes);
+}
+
+// The nodes that the numbers of a Leaf are open on, where it is there.
+fn add_leaf(heap: &KHeap, leaf: Option<u32>, nodes: &mut NodeSet)
+    requires there { (key : ℕ) → leaf ≡ Some key → InUse heap.now.leaves key }
+    requires whole { IsWellFormed heap.now }
+    requires named { (fd : ℕ) (held : HeldDescriptor) → object (row_at heap.now.leaves leaf) fd ≡ Some held → InUse heap.now.descs held.desc }
+    ensures { Adds nodes.old nodes.new (some_opens heap.now.descs (row_at heap.now.leaves leaf)) }
+{
+    let Some(key) = leaf else {
+        return;
+    };
+    add_row(heap, &heap.get_leaf(key).descriptors, nodes);
+}
+
+// The nodes that these descriptors are open on.
+fn add_row(heap: &KHeap, row: &[Option<Descriptor>; 32], nodes: &mut NodeSet)
+    requires named { (fd : ℕ) (held : HeldDescriptor) → object row.now fd ≡ Some held → InUse heap.now.descs held.desc }
+    ensures { Adds nodes.old nodes.new (some_opens heap.now.descs row.now) }
+{
+    for descriptor in row {
         if let Some(held) = descriptor {
             add_opened(heap.get_desc(held.desc), nodes);
         }

@@ -14,7 +14,8 @@ ghost use Rattle.store_objects.specs.Objects.{AreKept, Runs};
 ghost use Rattle.store_objects.specs.Standing.{IsSound, StandsFor};
 ghost use Rattle.store_objects.specs.Walking.{Reaches, Serves};
 
-use crate::held::held_nodes;
+use crate::held::add_all_held;
+use crate::node_set::NodeSet;
 use crate::replies::{done, freed, gone_reply};
 use kabi_types::Script;
 use kheap_slabs::Purse;
@@ -114,7 +115,8 @@ pub fn rename(
 {
     objects.heap_is_well_formed();
     let cwd = directory_of(objects, caller.place);
-    let held = held_nodes(&objects.heap, &objects.procs);
+    let mut held = NodeSet::new();
+    add_all_held(&objects.heap, &objects.procs, &mut held);
     let busy = |node: u32| held.has(node);
     let renamed = objects
         .tree

@@ -59,6 +59,7 @@ keeps_shared script old mid kept = record {
 -- All has its owner in the heap with the child.
 pub owners_shared : (script : Script) (old mid : Objects) (parent its : Proc) → AreKept script old → HasShared old mid parent → HasCopies old.heap mid.heap parent its → HoldLeaves mid.heap.leaves (procs_of mid)
     → TableMoves (sharing old.heap mid.heap) old.procs mid.heap mid.procs → HasItsOwners mid.heap []
+unfolding keeps_shared
 owners_shared script old mid parent its kept shared copies leaves moves =
     owners_so (sharing old.heap mid.heap) mid.heap old.procs mid.procs old.heap.leaves (keeps_shared script old mid kept).listed leaves moves
     (OwnsItsObjects-along old.heap (sharing old.heap mid.heap) refl refl refl refl refl refl kept.owners.objects)

@@ -6,7 +6,11 @@ use Rattle.path_calls.specs.Nodes.{has_node}
 use Rattle.path_calls.proofs.Changed.{kept_mid, leads, paid_on}
 use Rattle.path_calls.proofs.Led.{at_directory, led_keeps, rmdir_changes, rmdir_leads}
 use Rattle.path_calls.proofs.HeldBy.{told_held}
+use Rattle.store_objects.proofs.Keeping.{listed_in}
 use Rattle.path_calls.proofs.directories.rmdir.Goals as goal
+
+pub add_all_held-requires-clause-listed : goal.add_all_held-requires-clause-listed
+add_all_held-requires-clause-listed c = listed_in c.args.script.now c.args.objects.now (let some = c.requires.stands in some.1.kept)
 
 pub remove_dir-gone-requires-clause-stands : goal.remove_dir-gone-requires-clause-stands
 remove_dir-gone-requires-clause-stands c =
@@ -16,8 +20,8 @@ remove_dir-gone-requires-clause-stands c =
       some.1.tree.stands,
       at_directory c.args.script.now c.args.objects.now c.args.caller.now.place.pid c.directory_of-cwd.result c.requires.runs.proc c.requires.runs.found c.requires.runs.up (c.directory_of-cwd.ensures c.requires.runs.proc c.requires.runs.found) some.0 some.1,
       λ number answer told other.
-          let said : answer ≡ has_node c.held_nodes-held.result number = search rules in
-          said ∙ c.held_nodes-held.ensures number ∙ told_held c.args.script.now c.args.objects.now some.0 some.1 number other,
+          let said : answer ≡ has_node c.add_all_held.new.nodes number = search rules in
+          said ∙ c.add_all_held.ensures number ∙ told_held c.args.script.now c.args.objects.now some.0 some.1 number other,
     )
 
 pub go_on-requires-clause-kept : goal.go_on-requires-clause-kept

@@ -9,8 +9,12 @@ use Rattle.path_calls.proofs.Busy.{holds_no_socket}
 use Rattle.path_calls.proofs.Changed.{kept_mid, paid_on}
 use Rattle.path_calls.proofs.Freeing.{kept_gone, runs_gone, serves}
 use Rattle.path_calls.proofs.HeldBy.{told_held}
+use Rattle.store_objects.proofs.Keeping.{listed_in}
 use Rattle.path_calls.proofs.Led.{at_directory, freed_keeps, rename_changes, rename_leads}
 use Rattle.path_calls.proofs.names.rename.Goals as goal
+
+pub add_all_held-requires-clause-listed : goal.add_all_held-requires-clause-listed
+add_all_held-requires-clause-listed c = listed_in c.args.script.now c.args.objects.now (let some = c.requires.stands in some.1.kept)
 
 pub rename_name-renamed-requires-clause-stands : goal.rename_name-renamed-requires-clause-stands
 rename_name-renamed-requires-clause-stands c =
@@ -21,8 +25,8 @@ rename_name-renamed-requires-clause-stands c =
       at_directory c.args.script.now c.args.objects.now c.args.caller.now.place.pid c.directory_of-cwd.result c.requires.runs.proc c.requires.runs.found c.requires.runs.up (c.directory_of-cwd.ensures c.requires.runs.proc c.requires.runs.found) some.0 some.1,
       holds_no_socket some.0.plain some.1.tree.stands.is_tree some.1.works some.2.nodes,
       λ number answer told other.
-          let said : answer ≡ has_node c.held_nodes-held.result number = search rules in
-          said ∙ c.held_nodes-held.ensures number ∙ told_held c.args.script.now c.args.objects.now some.0 some.1 number other,
+          let said : answer ≡ has_node c.add_all_held.new.nodes number = search rules in
+          said ∙ c.add_all_held.ensures number ∙ told_held c.args.script.now c.args.objects.now some.0 some.1 number other,
     )
 
 pub name_freed-requires-clause-owners : goal.name_freed-requires-clause-owners
