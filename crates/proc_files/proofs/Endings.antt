@@ -294,4 +294,3 @@ rest_none h proc fd whole long three none least = elim (cases_lt fd 128) [
     without zero (None ∷ keys) none = refl
     without (suc i) (None ∷ keys) none = without i keys none
     without i (Some key ∷ keys) none = absurd (false≢true (sym none))
-
