@@ -6,12 +6,15 @@ ghost use Rattle.kheap_slabs.specs.Paid.{TakesNothing};
 ghost use Rattle.posix_defs.specs.Files.Descriptions.{may_write as plain_may_write};
 ghost use Rattle.posix_defs.specs.Files.State.{Files};
 ghost use Rattle.open_laws.specs.Placed.{Numbers};
-ghost use Rattle.open_laws.specs.Described.{CountedList, access_in, counting, after_share};
-ghost use Rattle.open_laws.specs.Open.{AreOpen};
+ghost use Rattle.open_laws.specs.Closing.{IsClosable, IsDroppable, Drops, TargetCloses, QueuesChange};
+ghost use Rattle.open_laws.specs.Described.{CountedList, access_in, counting, after_share, after_drop, node_in, node_left, descs_left};
+ghost use Rattle.open_laws.specs.Open.{AreOpen, files_dropped};
 ghost use Rattle.open_laws.specs.Owned.{HasItsOwners};
 ghost use Rattle.open_laws.specs.Sharing.{CanShare, after_shares, hand_with, share_all};
 
-use kheap_slabs::{Access, Desc, Descriptor, KHeap};
+use kheap_slabs::{Access, Desc, Descriptor, KHeap, Target};
+use pipe_ends::close_end;
+use usock_core::close_sock;
 
 /// One descriptor more names an open description.
 pub fn share_desc(heap: &mut KHeap, desc: u32)
@@ -47,6 +50,72 @@ pub fn share_descs(heap: &mut KHeap, places: &[Option<Descriptor>])
     for place in places {
         if let Some(descriptor) = place {
             share_desc(heap, descriptor.desc);
+        }
+    }
+}
+
+/// One descriptor fewer names an open description. With the last one it goes, and its end of a pipe or its socket is closed
+/// (POSIX close).
+///
+/// The answer is the node whose pin the caller then drops; None where the description stays or is open on no node.
+pub fn drop_desc(heap: &mut KHeap, desc: u32) -> Option<u32>
+    requires owned { OwnsItsObjects heap.old }
+    requires there { IsDroppable heap.old desc }
+    ensures node { (found : HeldDesc) → object heap.old.descs desc ≡ Some found → result ≡ node_left found }
+    ensures drops { (found : HeldDesc) → object heap.old.descs desc ≡ Some found → Drops heap.old heap.new desc found }
+    ensures opened { (numbers : Numbers) (list : CountedList) (files : Files) → AreOpen numbers heap.old list files
+        → AreOpen numbers heap.new (after_drop list (numbers.descs desc)) (files_dropped files list (numbers.descs desc)) }
+    ensures owners { (hand : List ℕ) → HasItsOwners heap.old (desc ∷ hand) → HasItsOwners heap.new hand }
+    ensures owned { OwnsItsObjects heap.new }
+    ensures kept { heap.new
+        ≡ record heap.old { descs = heap.new.descs; pipes = heap.new.pipes; chunks = heap.new.chunks; socks = heap.new.socks } }
+    ensures takes { TakesNothing heap.old heap.new }
+{
+    let found = *heap.get_desc(desc);
+    if found.count > 1 {
+        name_less(heap, desc, found);
+        return None;
+    }
+    let _gone = heap.free_desc(desc);
+    close_target(heap, found.access, found.target)
+}
+
+// One descriptor fewer names a description that another one names too.
+fn name_less(heap: &mut KHeap, key: u32, found: Desc)
+    requires there { object heap.old.descs key ≡ Some found }
+    requires more { 1 < found.count }
+    ensures left { heap.new ≡ record heap.old { descs = descs_left heap.old.descs key found } }
+    ensures takes { TakesNothing heap.old heap.new }
+{
+    heap.set_desc(
+        key,
+        Desc {
+            count: found.count - 1,
+            ..found
+        },
+    );
+}
+
+// Closes what a description was open on, which is gone: the end of a pipe, or a socket. The node that the caller closes.
+fn close_target(heap: &mut KHeap, access: Access, target: Target) -> Option<u32>
+    requires owned { OwnsItsObjects heap.old }
+    requires there { IsClosable heap.old access target }
+    ensures node { result ≡ node_in target }
+    ensures closes { TargetCloses heap.old heap.new access target }
+    ensures owned { OwnsItsObjects heap.new }
+    ensures descs { heap.new.descs ≡ heap.old.descs }
+    ensures kept { QueuesChange heap.old heap.new }
+    ensures takes { TakesNothing heap.old heap.new }
+{
+    match target {
+        Target::Inode(number) => Some(number),
+        Target::Pipe(key) => {
+            close_end(heap, key, may_write(access));
+            None
+        }
+        Target::Sock(key) => {
+            close_sock(heap, key);
+            None
         }
     }
 }

@@ -16,9 +16,8 @@ ghost use Rattle.proc_numbers.specs.Queues.{QueuesStand};
 ghost use Rattle.proc_numbers.specs.Having.{AreListed, ClosesNumber, HaveOpen, OpensNoNode, node_closed};
 ghost use Rattle.proc_numbers.specs.Naming.{TurnsNumber, named_at};
 
-use crate::dropping::drop_desc;
 use crate::finding::named_at;
-use desc_table::Descs;
+use desc_table::{Descs, drop_desc};
 use kheap_slabs::KHeap;
 use proc_table::{Place, ProcTable};
 

@@ -11,7 +11,6 @@ mod buffer;
 mod closing;
 mod controlling;
 mod describing;
-mod dropping;
 mod ends;
 mod finding;
 pub mod laws;

@@ -90,7 +90,10 @@ impl Found {
     pub fn is_writable(&self) -> bool
         ensures { result ≡ may_write (access_in self.now.desc.access) }
     {
-        may_write(self.desc.access)
+        match self.desc.access {
+            Access::Read => false,
+            Access::Write | Access::Both => true,
+        }
     }
 }
 
@@ -142,16 +145,6 @@ impl Named {
         } else {
             None
         }
-    }
-}
-
-// Whether what is opened so may be written.
-pub(crate) fn may_write(access: Access) -> bool
-    ensures { result ≡ may_write (access_in access) }
-{
-    match access {
-        Access::Read => false,
-        Access::Write | Access::Both => true,
     }
 }
 

@@ -12,7 +12,7 @@ use Rattle.open_laws.proofs.CloseLemmas.{described, closable_without, closes_wit
 use Rattle.open_laws.proofs.DescribedLemmas.{one_desc, counts_alike, node_more, node_last, left_last}
 use Rattle.open_laws.proofs.OwnerLemmas.{owners_dropped}
 use Rattle.open_laws.proofs.DropLemmas.{open_dropped, drops_more, drops_last}
-use Rattle.proc_numbers.proofs.dropping.drop_desc.Goals as goal
+use Rattle.desc_table.proofs.descriptions.drop_desc.Goals as goal
 
 -- ---- another descriptor names it
 

@@ -2,7 +2,7 @@ use Rattle.std.proofs.Common.{sym, subst}
 use Rattle.pipe_ends.specs.Standing.{HasEndAt}
 use Rattle.open_laws.specs.Closing.{EndCloses, IsClosable, TargetCloses}
 use Rattle.open_laws.proofs.CloseLemmas.{change_by_pipe, change_by_socket, descs_by_pipe, descs_by_socket, others_by_pipe, others_by_socket}
-use Rattle.proc_numbers.proofs.dropping.close_target.Goals as goal
+use Rattle.desc_table.proofs.descriptions.close_target.Goals as goal
 
 -- ---- the end of a pipe
 
