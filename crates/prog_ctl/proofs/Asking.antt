@@ -119,9 +119,9 @@ pub bound_other : (numbers : List ℤ) (texts : List (List ℕ)) (done : ℕ) �
 unfolding bound
 bound_other numbers texts done other = go (is_some (argument_fault (made kind.Fcntl numbers texts done)))
   where
-    go : (wrong : Bool) → cond wrong 0 (cond (is_number 0 (number_at numbers 1)) 256 0) ≡ 0
+    go : (wrong : Bool) → ◌≡◌ {A = ℕ} (cond wrong 0 (cond (is_number 0 (number_at numbers 1)) 256 0)) 0
     go true = refl
-    go false = ap (λ (b : Bool). cond b 256 0) other
+    go false = ap {B = ℕ} (λ (b : Bool). cond b 256 0) other
 
 -- so nothing is asked for at the end of a program, and where a loop goes round again
 pub asked_to_exit : asked_for (call.Exit (pos 0)) ≡ record { kind = kind.Exit; bound = 0 }
