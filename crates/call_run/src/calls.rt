@@ -35,12 +35,14 @@ use path_calls::{chdir, link, mkdir, rename, rmdir, stat, unlink};
 use posix_defs::Turned;
 use proc_files::{FileBuffer, MOST_MOVED};
 use proc_table::Place;
-use process_calls::{exit, fork, load, mmap, munmap, signal_process, store, wait, would_sleep};
+use process_calls::{
+    break_off, exit, fork, load, mmap, munmap, signal, signal_process, store, wait, would_sleep,
+};
 use prog_ctl::Awaited;
 use queue_calls::{
     Buffer, CAPACITY, accept, accept_would_block, dup, fcntl, listen, pipe, poll, poll_would_block,
     read as read_queue, read_would_block, shutdown, socket, socketpair, write as write_queue,
-    write_would_block,
+    write_breaks, write_would_block,
 };
 use std::alloc::Global;
 use store_objects::{Caller, Objects, Target, go_on, purse_for};
@@ -143,6 +145,9 @@ fn run_right(
         Call::Write { addr, n, done, .. } => match target {
             Target::File => write_file(script, objects, purse, file, caller, on, *addr, *n),
             Target::Queue => {
+                if write_breaks(objects, caller, on, *addr, *n, *done) {
+                    return break_off(objects, caller.place);
+                }
                 let queue = &mut buffers.queue;
                 write_queue(script, objects, purse, queue, caller, on, *addr, *n, *done)
             }
@@ -182,6 +187,10 @@ fn run_right(
         Call::Accept { .. } => accept(script, objects, purse, caller, on),
         Call::Shutdown { how, .. } => shutdown(script, objects, caller, on, *how),
         Call::Poll { timeout, entries } => poll(script, objects, caller, *timeout, entries),
+        Call::Signal {
+            signal: which,
+            disposition,
+        } => signal(script, objects, caller, *which, *disposition),
     }
 }
 

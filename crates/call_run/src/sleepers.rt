@@ -141,6 +141,7 @@ fn wakes_nobody(call: &Call) -> bool
             | Call::Socket
             | Call::Bind { .. }
             | Call::Poll { .. }
+            | Call::Signal { .. }
     )
 }
 

@@ -44,6 +44,14 @@ abbrev pub is_minus_one : ℤ → Bool
 is_minus_one (pos _) = false
 is_minus_one (negsuc n) = n == 0
 
+-- SIGPIPE or SIGTERM, the two signals that a process may ignore
+abbrev pub may_be_ignored : ℤ → Bool
+may_be_ignored signal = is_number 13 signal || is_number 15 signal
+
+-- `kill` sends these two and SIGKILL, and asks with 0
+abbrev pub is_sendable : ℤ → Bool
+is_sendable signal = is_number 0 signal || is_number 9 signal || may_be_ignored signal
+
 -- so many bytes from an address on lie in the address space
 abbrev pub lie_in_space : ℤ → ℕ → Bool
 lie_in_space (pos addr) n = nat_le (addr + n) space_size
@@ -107,7 +115,7 @@ argument_fault call.Fork = None
 argument_fault (call.Exec path) = path_fault path
 argument_fault (call.Exit _) = None
 argument_fault (call.Waitpid pid options) = invalid_unless ((is_minus_one pid || is_from 1 pid) && is_within 0 1 options)
-argument_fault (call.Kill pid signal) = invalid_unless (is_from 1 pid && (is_number 0 signal || is_number 9 signal))
+argument_fault (call.Kill pid signal) = invalid_unless (is_from 1 pid && is_sendable signal)
 argument_fault (call.Mmap length) = invalid_unless (is_from 1 length)
 argument_fault (call.Munmap addr length) = invalid_unless (is_from 1 length && is_page_range addr length)
 argument_fault (call.Store addr bytes) = range_fault addr (length bytes)
@@ -141,3 +149,4 @@ argument_fault (call.Connect _ path) = path_fault path
 argument_fault (call.Accept _) = None
 argument_fault (call.Shutdown _ how) = invalid_unless (is_within 0 2 how)
 argument_fault (call.Poll timeout _) = invalid_unless (is_number 0 timeout || is_minus_one timeout)
+argument_fault (call.Signal signal disposition) = invalid_unless (may_be_ignored signal && is_within 0 1 disposition)

@@ -12,6 +12,8 @@ ghost use Rattle.kabi_types.specs.Arguments.{
   lie_in_space,
   is_page_range,
   truncates_unwritten,
+  may_be_ignored,
+  is_sendable,
   count_of,
   invalid_unless,
   range_fault,
@@ -93,11 +95,18 @@ pub fn may_wait(pid: i64, options: i64) -> bool
     (pid == -1 || is_from(1, pid)) && is_within(0, 1, options)
 }
 
-/// Whether `kill` takes them: a pid, and signal 0 or 9.
+/// Whether `kill` takes them: a pid, and signal 0, SIGKILL, SIGPIPE or SIGTERM.
 fn may_kill(pid: i64, signal: i64) -> bool
-    ensures { result ≡ (is_from 1 pid && (is_number 0 signal || is_number 9 signal)) }
+    ensures { result ≡ (is_from 1 pid && is_sendable signal) }
 {
-    is_from(1, pid) && matches!(signal, 0 | 9)
+    is_from(1, pid) && matches!(signal, 0 | 9 | 13 | 15)
+}
+
+/// Whether `signal` takes them: SIGPIPE or SIGTERM, and SIG_DFL or SIG_IGN.
+fn may_dispose(signal: i64, disposition: i64) -> bool
+    ensures { result ≡ (may_be_ignored signal && is_within 0 1 disposition) }
+{
+    matches!(signal, 13 | 15) && is_within(0, 1, disposition)
 }
 
 /// Whether `fcntl` has the command, and command 0 a descriptor to begin at.
@@ -185,6 +194,10 @@ impl Call {
         match self {
             Call::Waitpid { pid, options } => invalid_unless(may_wait(*pid, *options)),
             Call::Kill { pid, signal } => invalid_unless(may_kill(*pid, *signal)),
+            Call::Signal {
+                signal,
+                disposition,
+            } => invalid_unless(may_dispose(*signal, *disposition)),
             Call::Mmap { length } => invalid_unless(is_from(1, *length)),
             Call::Munmap { addr, length } => {
                 invalid_unless(is_from(1, *length) && is_page_range(*addr, *length))

@@ -147,6 +147,10 @@ pub enum Call {
         timeout: i64,
         entries: PollList,
     },
+    Signal {
+        signal: i64,
+        disposition: i64,
+    },
 }
 
 /// Which call it is, without its operands.
@@ -193,11 +197,12 @@ pub enum CallKind {
     Accept,
     Shutdown,
     Poll,
+    Signal,
 }
 
 impl CallKind {
     /// Every call, in the order of `Call`.
-    pub const ALL: [CallKind; 41] = [
+    pub const ALL: [CallKind; 42] = [
         CallKind::Getpid,
         CallKind::Getppid,
         CallKind::SchedYield,
@@ -239,6 +244,7 @@ impl CallKind {
         CallKind::Accept,
         CallKind::Shutdown,
         CallKind::Poll,
+        CallKind::Signal,
     ];
 }
 
@@ -291,6 +297,7 @@ impl Call {
             Call::Accept { .. } => CallKind::Accept,
             Call::Shutdown { .. } => CallKind::Shutdown,
             Call::Poll { .. } => CallKind::Poll,
+            Call::Signal { .. } => CallKind::Signal,
         }
     }
 }

@@ -50,6 +50,7 @@ impl CallKind {
             CallKind::Accept => "accept",
             CallKind::Shutdown => "shutdown",
             CallKind::Poll => "poll",
+            CallKind::Signal => "signal",
         }
     }
 }

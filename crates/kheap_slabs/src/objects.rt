@@ -11,6 +11,10 @@ pub struct Proc {
     pub status: Option<u16>,
     /// The number of the node that is its working directory.
     pub cwd: u32,
+    /// Whether it ignores SIGPIPE: else a write that nobody can read ends it.
+    pub ignores_pipe: bool,
+    /// Whether it ignores SIGTERM.
+    pub ignores_term: bool,
     pub control: Control,
     /// The open descriptors of the first 32 numbers.
     pub descriptors: [Option<Descriptor>; 32],

@@ -22,6 +22,8 @@ fn proc_of(pid: u32) -> Proc {
         parent: 0,
         status: None,
         cwd: 1,
+        ignores_pipe: true,
+        ignores_term: true,
         control,
         descriptors: [None; 32],
         nodes: [None; 4],

@@ -14,7 +14,7 @@ pub use closing::close_end;
 pub use making::pipe_make;
 pub use polling::pipe_polled;
 pub use reading::{pipe_read, pipe_read_waits};
-pub use writing::{pipe_write, pipe_write_waits};
+pub use writing::{pipe_is_unread, pipe_write, pipe_write_waits};
 
 /// How many bytes a write may have to go whole or not at all (PIPE_BUF).
 const WHOLE: u32 = 512;

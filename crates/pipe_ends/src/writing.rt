@@ -1,4 +1,4 @@
-ghost use Rattle.std.specs.Prelude.{◌≡◌, ℕ, ◌+◌, ◌/◌, ◌<◌, ◌≤◌, Bool, Some, ◌++◌, length, min, IfSome, MatchOption};
+ghost use Rattle.std.specs.Prelude.{◌≡◌, ◌==◌, ℕ, ◌+◌, ◌/◌, ◌<◌, ◌≤◌, Bool, Some, ◌++◌, length, min, IfSome, MatchOption};
 ghost use Rattle.kheap_slabs.specs.Objects.{object};
 ghost use Rattle.kheap_slabs.specs.Owners.{OwnsItsObjects};
 ghost use Rattle.kheap_slabs.specs.Paid.{CanPay, IsPaid};
@@ -68,6 +68,14 @@ pub fn pipe_write_waits(heap: &KHeap, key: u32, nonblock: bool, n: u32, left: u3
 {
     let pipe = heap.get_pipe(key);
     pipe.readers > 0 && going(n, left, room_in(&pipe.queue)).is_none() && !nonblock
+}
+
+/// Whether nobody can read what is written to a pipe.
+pub fn pipe_is_unread(heap: &KHeap, key: u32) -> bool
+    requires { IsPipeAt heap.now key }
+    ensures { (pipe : PlainPipe) (at : ℕ) → StandsFor heap.now key pipe at → result ≡ (pipe.readers == 0) }
+{
+    heap.get_pipe(key).readers == 0
 }
 
 // How many of the bytes that are left of a write of n go into this room; None where none can go yet.

@@ -1,4 +1,3 @@
 pub mod TreeNodes
 pub mod ListedNodes
 pub mod PriceLemmas
-mod KillLemmas

@@ -1,5 +1,5 @@
 -- The bytes of a file under a write and a change of its size, and how much of a write there is room for.
-use Rattle.std.specs.Prelude.{ℕ, ◌+◌, ◌-◌, ◌*◌, ◌/◌, List, ◌++◌, min, length, take, drop, replicate, nat_lt, if◌then◌else◌}
+use Rattle.std.specs.Prelude.{ℕ, ◌+◌, ◌-◌, ◌*◌, ◌/◌, List, ◌++◌, min, length, take, drop, replicate}
 use Rattle.posix_defs.specs.DiskFormat.{block_size, direct_pointers, block_pointers, near_blocks, greatest_size}
 
 -- cut at a size, or with zeros behind it up to that size

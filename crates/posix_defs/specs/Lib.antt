@@ -23,6 +23,7 @@ pub mod Ending
 pub mod Family
 pub mod Forking
 pub mod Waiting
+pub mod Signals
 pub mod Killing
 pub mod MemoryCalls
 pub mod Files

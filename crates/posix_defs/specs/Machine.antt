@@ -14,6 +14,7 @@ use Rattle.posix_defs.specs.Ending.{die, exit_status}
 use Rattle.posix_defs.specs.Forking.{fork}
 use Rattle.posix_defs.specs.Waiting.{waitpid}
 use Rattle.posix_defs.specs.Killing.{kill}
+use Rattle.posix_defs.specs.Signals.{signal}
 use Rattle.posix_defs.specs.MemoryCalls.{mmap, munmap, store, load}
 use Rattle.posix_defs.specs.Calls.OnDescriptors.{close, dup, dup2, fcntl}
 use Rattle.posix_defs.specs.Calls.Reading.{read, pread, readdir}
@@ -68,6 +69,7 @@ answer_to script plain pid (call.Connect fd path) = connect script plain pid fd 
 answer_to script plain pid (call.Accept fd) = accept script plain pid fd
 answer_to script plain pid (call.Shutdown fd how) = shutdown script plain pid fd how
 answer_to script plain pid (call.Poll timeout entries) = poll script plain pid timeout entries
+answer_to script plain pid (call.Signal which disposition) = signal script plain pid which disposition
 
 -- a wrong operand is told before anything else is looked at
 abbrev pub unless_wrong : Script → Plain → ℕ → Option Errno → Answer → Answer

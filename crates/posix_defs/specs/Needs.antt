@@ -28,13 +28,15 @@ nodes_for pages = min 4 ((pages + 62) / 64 + 1)
 abbrev pub chunks_for : ℕ → ℕ
 chunks_for n = (min n 4096 + 511) / 512
 
--- what a call may use of the reserve, in bytes: those that close something or end a process may use all of it
+-- what a call may use of the reserve, in bytes: those that close something or end a process may use all of it, and so a write, which
+-- may end its caller
 abbrev pub slack : Call → ℕ
 slack (call.Close _) = reserve
 slack (call.Dup2 _ _) = reserve
 slack (call.Exec _) = reserve
 slack (call.Exit _) = reserve
 slack (call.Kill _ _) = reserve
+slack (call.Write _ _ _ _) = reserve
 slack _ = 0
 
 -- the pages that a call maps
@@ -148,6 +150,7 @@ objects_of (call.Connect _ _) = record walk_need { sock = 1 }
 objects_of (call.Accept _) = record leaf_need { desc = 1 }
 objects_of (call.Shutdown _ _) = no_need
 objects_of (call.Poll _ _) = no_need
+objects_of (call.Signal _ _) = no_need
 
 -- the objects that a call may make: none where an operand is wrong
 unfoldable pub need_of : Call → Need

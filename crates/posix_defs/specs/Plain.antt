@@ -8,7 +8,7 @@ use Rattle.kabi_types.specs.declared.scripts.Program.{Program}
 use Rattle.kabi_types.specs.declared.scripts.Script.{Script}
 use Rattle.posix_defs.specs.ByPid.{at_pid, with_pid}
 use Rattle.posix_defs.specs.Memory.{no_memory}
-use Rattle.posix_defs.specs.Process.{Table, Process, Alive}
+use Rattle.posix_defs.specs.Process.{Table, Process, Alive, ignores_both}
 use Rattle.posix_defs.specs.Control as program
 use Rattle.posix_defs.specs.Files.State.{Files, boot_files}
 pub use Rattle.posix_defs.specs.Tree.{root}
@@ -57,9 +57,9 @@ abbrev pub place_of : List ℕ → List Program → ℕ
 place_of name [] = 0
 place_of name (program ∷ programs) = if bytes_eq program.name name then 0 else place_of name programs + 1
 
--- the process that was not forked
+-- the process that was not forked: it ignores SIGPIPE and SIGTERM, and so do its children until they say otherwise
 abbrev pub first_process : Process
-first_process = record { parent = 0; directory = root; status = Alive; memory = no_memory }
+first_process = record { parent = 0; directory = root; status = Alive; memory = no_memory; ignores = ignores_both }
 
 -- one process, at the beginning of the program `init`
 abbrev pub boot_plain : Script → Plain

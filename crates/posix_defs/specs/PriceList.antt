@@ -47,3 +47,4 @@ price_of kind.Connect = Always 2688
 price_of kind.Accept = Always 320
 price_of kind.Shutdown = Always 0
 price_of kind.Poll = Always 0
+price_of kind.Signal = Always 0

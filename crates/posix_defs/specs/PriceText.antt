@@ -1,5 +1,5 @@
 -- The price list as it is printed.
-use Rattle.std.specs.Prelude.{ℕ, ◌==◌, if◌then◌else◌, List, [], ◌∷◌, ◌++◌, codes, decimal}
+use Rattle.std.specs.Prelude.{ℕ, ◌==◌, if◌then◌else◌, List, ◌++◌, codes, decimal}
 use Rattle.std.specs.List.{flat_map}
 use Rattle.kabi_types.specs.Call.{all_kinds}
 use Rattle.kabi_types.specs.Class.{all_classes, size}

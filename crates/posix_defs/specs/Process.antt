@@ -9,12 +9,18 @@ pub data Status : Type 0 where
   Alive : Status
   Ended : ℕ → Status
 
+-- whether a process ignores SIGPIPE, which comes of a write that nobody reads, and SIGTERM; one that it doesn't ignore ends it
+pub record Ignores : Type 0 where
+  pub broken_pipe : Bool
+  pub terminate : Bool
+
 -- a process of the table; its parent is 0 for the first one
 pub record Process : Type 0 where
   pub parent : ℕ
   pub directory : ℕ
   pub status : Status
   pub memory : Memory
+  pub ignores : Ignores
 
 -- the table: what is there of each process ever made, None once it was waited for
 abbrev pub Table : Type 0
@@ -87,6 +93,28 @@ working_in directory (Some process) = Some (record process { directory = directo
 -- the table, where a process works in another directory
 abbrev pub with_directory : Table → ℕ → ℕ → Table
 with_directory table pid directory = with_pid table pid (working_in directory (process_at table pid))
+
+-- both signals are ignored
+abbrev pub ignores_both : Ignores
+ignores_both = record { broken_pipe = true; terminate = true }
+
+-- what a process that is there ignores, else both
+abbrev pub ignores_in : Option Process → Ignores
+ignores_in None = ignores_both
+ignores_in (Some process) = process.ignores
+
+-- what a process ignores
+abbrev pub ignores_of : Table → ℕ → Ignores
+ignores_of table pid = ignores_in (process_at table pid)
+
+-- the process ignores these from now on, if it is there
+abbrev pub ignoring : Ignores → Option Process → Option Process
+ignoring ignores None = None
+ignoring ignores (Some process) = Some (record process { ignores = ignores })
+
+-- the table, where a process ignores these
+abbrev pub with_ignores : Table → ℕ → Ignores → Table
+with_ignores table pid ignores = with_pid table pid (ignoring ignores (process_at table pid))
 
 -- how many processes are there, alive or ended and not waited for
 abbrev pub how_many : Table → ℕ

@@ -149,10 +149,11 @@ descriptor_constants =
     (codes "SEEK_SET", 0) ∷ (codes "SEEK_CUR", 1) ∷ (codes "SEEK_END", 2) ∷ (codes "F_DUPFD", 0) ∷ (codes "F_GETFD", 1)
     ∷ (codes "F_SETFD", 2) ∷ (codes "F_GETFL", 3) ∷ (codes "F_SETFL", 4) ∷ (codes "FD_CLOEXEC", 1) ∷ []
 
--- the constants of `waitpid`, `kill`, `shutdown` and `poll`
+-- the constants of `waitpid`, `kill`, `signal`, `shutdown` and `poll`
 abbrev pub other_constants : List (List ℕ × ℕ)
 other_constants =
-    (codes "WNOHANG", 1) ∷ (codes "SIGKILL", 9) ∷ (codes "SHUT_RD", 0) ∷ (codes "SHUT_WR", 1) ∷ (codes "SHUT_RDWR", 2)
+    (codes "WNOHANG", 1) ∷ (codes "SIGKILL", 9) ∷ (codes "SIGPIPE", 13) ∷ (codes "SIGTERM", 15) ∷ (codes "SIG_DFL", 0)
+    ∷ (codes "SIG_IGN", 1) ∷ (codes "SHUT_RD", 0) ∷ (codes "SHUT_WR", 1) ∷ (codes "SHUT_RDWR", 2)
     ∷ (codes "POLLIN", 1) ∷ (codes "POLLOUT", 4) ∷ (codes "POLLERR", 8) ∷ (codes "POLLHUP", 16) ∷ (codes "POLLNVAL", 32) ∷ []
 
 -- the first number where there is one, else the second

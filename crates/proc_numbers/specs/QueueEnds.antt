@@ -1,5 +1,5 @@
 -- The ends of queues: an end of a pipe, and a socket. What is said of reading and writing one is said of both.
-use Rattle.std.specs.Prelude.{ℕ, ◌≡◌, [], Bool, true, List, Option, None, Some}
+use Rattle.std.specs.Prelude.{ℕ, ◌≡◌, ◌==◌, [], Bool, true, List, Option, None, Some}
 use Rattle.std.specs.List.{Contains}
 use Rattle.kheap_slabs.specs.declared.objects.Target.{Target}
 use Rattle.kheap_slabs.specs.declared.objects.Target.TheVariants as target
@@ -8,6 +8,7 @@ use Rattle.kheap_slabs.specs.Owners.{OwnsItsObjects}
 use Rattle.kheap_slabs.specs.Purse.{Purse}
 use Rattle.open_laws.specs.Owned.{socks_named}
 use Rattle.pipe_ends.specs.Standing.{IsPipeAt, LeavesOthers, StandsFor as PipeStandsFor, account}
+use Rattle.posix_defs.specs.Calls.Writing.{is_unread_in}
 use Rattle.posix_defs.specs.Pipe.{Moving, Pipe, after_read, after_write, pipe_read, pipe_write}
 use Rattle.posix_defs.specs.QueuePlace.{after_take}
 use Rattle.posix_defs.specs.Socket.{is_connected}
@@ -65,6 +66,11 @@ write_of (queue.Sock key) behind nonblock n left = sock_write behind key nonbloc
 abbrev pub is_linked : (on : QueueEnd) → Behind on → Bool
 is_linked (queue.Pipe key) behind = true
 is_linked (queue.Sock key) behind = is_connected (stage_at behind key)
+
+-- nobody can read what is put in
+abbrev pub is_unread_behind : (on : QueueEnd) → Behind on → Bool
+is_unread_behind (queue.Pipe key) behind = behind.0.readers == 0
+is_unread_behind (queue.Sock key) behind = is_unread_in behind (stage_at behind key)
 
 -- ---- what a read and a write leave
 

@@ -8,13 +8,13 @@ ghost use Rattle.kheap_slabs.specs.Paid.{CanPay, IsPaid, TakesNothing};
 ghost use Rattle.posix_defs.specs.Pipe.{capacity};
 ghost use Rattle.posix_defs.specs.Socket.{is_connected};
 ghost use Rattle.posix_defs.specs.Sockets.{Sockets, stage_at};
-ghost use Rattle.proc_numbers.specs.QueueEnds.{Behind, IsEndIn, LeavesBut, PutsIn, StandsBehind, TakesOut, end_of, is_linked, read_of, unread, write_of};
+ghost use Rattle.proc_numbers.specs.QueueEnds.{Behind, IsEndIn, LeavesBut, PutsIn, StandsBehind, TakesOut, end_of, is_linked, is_unread_behind, read_of, unread, write_of};
 ghost use Rattle.usock_core.specs.Standing.{IsSocketIn, StandsFor as SocketsStandFor};
 
 use chunk_queue::Moved;
 use kheap_slabs::{KHeap, Purse, SockState, Target};
-use pipe_ends::{pipe_read, pipe_read_waits, pipe_write, pipe_write_waits};
-use usock_core::{sock_read, sock_read_waits, sock_write, sock_write_waits};
+use pipe_ends::{pipe_is_unread, pipe_read, pipe_read_waits, pipe_write, pipe_write_waits};
+use usock_core::{sock_is_unread, sock_read, sock_read_waits, sock_write, sock_write_waits};
 
 /// An end of a queue of bytes, on which a description is open.
 #[derive(Clone, Copy)]
@@ -105,6 +105,18 @@ impl QueueEnd {
         match self {
             QueueEnd::Pipe(key) => pipe_write_waits(heap, key, nonblock, n, left),
             QueueEnd::Sock(key) => sock_write_waits(heap, key, nonblock, left),
+        }
+    }
+
+    /// Whether nobody can read what is put in: a pipe without a reader, or a socket that is connected and was shut for writing, or whose
+    /// peer takes nothing more.
+    pub(crate) fn is_unread(self, heap: &KHeap) -> bool
+        requires { IsEndIn heap.now self }
+        ensures { (behind : Behind self) → StandsBehind heap.now self behind → result ≡ is_unread_behind self behind }
+    {
+        match self {
+            QueueEnd::Pipe(key) => pipe_is_unread(heap, key),
+            QueueEnd::Sock(key) => sock_is_unread(heap, key),
         }
     }
 

@@ -39,4 +39,4 @@ pub use polling::{poll, poll_waits};
 pub use reading::{read, read_waits};
 pub use sharing::{dup_one, share_at};
 pub use shutting::{listen_number, shut_number};
-pub use writing::{write, write_waits};
+pub use writing::{write, write_breaks, write_waits};

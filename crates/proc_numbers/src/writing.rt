@@ -1,7 +1,7 @@
 //! `write` to a pipe and to a socket.
 
 ghost use Rattle.std.specs.Prelude.{◌≡◌, ℕ, ◌+◌, ◌-◌, ◌<◌, ◌≤◌, None};
-ghost use Rattle.kabi_types.specs.Arguments.{argument_fault, count_of};
+ghost use Rattle.kabi_types.specs.Arguments.{argument_fault, count_of, moved_fault};
 ghost use Rattle.kabi_types.specs.declared.calls.Call.{Call};
 ghost use Rattle.kabi_types.specs.declared.scripts.Script.{Script};
 ghost use Rattle.kheap_slabs.specs.Owners.{OwnsItsObjects};
@@ -12,7 +12,8 @@ ghost use Rattle.page_space.specs.Contents.{IsOwnedWith, StandsFor as IsMemory};
 ghost use Rattle.page_space.specs.Entries.{IsMappedRange};
 ghost use Rattle.open_laws.specs.Placed.{Numbers};
 ghost use Rattle.posix_defs.specs.Account.{Account};
-ghost use Rattle.posix_defs.specs.Calls.Writing.{write};
+ghost use Rattle.posix_defs.specs.Calls.Opened.{opened_at};
+ghost use Rattle.posix_defs.specs.Calls.Writing.{is_broken, write_ignoring};
 ghost use Rattle.posix_defs.specs.Machine.{blocks};
 ghost use Rattle.posix_defs.specs.Memory.{Memory, loaded};
 ghost use Rattle.posix_defs.specs.Needs.{chunks_for};
@@ -97,7 +98,7 @@ pub fn write(
     ensures leads { (script : Script) (numbers : Numbers) (plain : Plain) (account : Account)
         → StandsFor numbers heap.old procs.now plain account
         → Leads script numbers heap.new procs.now plain account place.pid (Call.Write on.now.fd addr n done)
-        (write script plain place.pid on.now.fd addr n done) result }
+        (write_ignoring script plain place.pid on.now.fd addr n done) result }
     ensures kept { IsKept heap.new procs.now }
     ensures beside { heap.new ≡ record heap.old {
       pipes = heap.new.pipes;
@@ -148,7 +149,7 @@ pub fn write_waits(
     requires right { argument_fault (Call.Write on.now.fd addr n done) ≡ None }
     ensures { (script : Script) (numbers : Numbers) (plain : Plain) (account : Account)
         → StandsFor numbers heap.now procs.now plain account
-        → result ≡ blocks (write script plain place.pid on.now.fd addr n done) }
+        → result ≡ blocks (write_ignoring script plain place.pid on.now.fd addr n done) }
 {
     let Some(found) = on.writable() else {
         return false;
@@ -162,6 +163,43 @@ pub fn write_waits(
     if !queue.put_waits(heap, found.desc.flags.nonblock, n, left) {
         return false;
     }
+    let start = start_of(addr, n);
+    let space = space_of(heap, procs, place);
+    if !space.mapped(heap, start, n) {
+        return false;
+    }
+    n != 0
+}
+
+/// Whether a `write` has nothing else to be told than that nobody reads it, whatever its number is open on; one of a file always has.
+/// Its bytes are there, and the number is open for writing.
+pub fn write_breaks(
+    heap: &KHeap,
+    procs: &ProcTable,
+    place: Place,
+    on: &Named,
+    addr: i64,
+    n: i64,
+) -> bool
+    requires kept { IsKept heap.now procs.now }
+    requires alive { IsAlive (processes heap.now procs.now) place.pid }
+    requires there { IsPlaced procs.now place }
+    requires opened { IsOpened heap.now procs.now place.pid on.now }
+    requires right { moved_fault 0 addr n ≡ None }
+    ensures { (numbers : Numbers) (plain : Plain) (account : Account) → StandsFor numbers heap.now procs.now plain account
+        → result ≡ is_broken plain place.pid addr n (opened_at plain.files place.pid on.now.fd) }
+{
+    let Some(found) = on.writable() else {
+        return false;
+    };
+    let Some(queue) = QueueEnd::of(found.desc.target) else {
+        return false;
+    };
+    // the queue mostly tells it, which is the cheaper question
+    if !queue.is_unread(heap) {
+        return false;
+    }
+    let n = n.cast_unsigned() as u32;
     let start = start_of(addr, n);
     let space = space_of(heap, procs, place);
     if !space.mapped(heap, start, n) {

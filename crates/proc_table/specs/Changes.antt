@@ -2,13 +2,15 @@
 use Rattle.std.specs.Prelude.{ℕ, ◌+◌, ◌==◌, ◌&&◌, ◌||◌, not, ℤ, Bool, true, false, nat_le, if◌then◌else◌, List, [], ◌∷◌, filter, map, Option, None, Some, is_some, Result, Ok, Err}
 use Rattle.std.specs.List.{filter_map, list_any}
 use Rattle.std.specs.Option.{option_map, option_or}
+use Rattle.kabi_types.specs.Arguments.{count_of}
 use Rattle.kabi_types.specs.declared.errnos.Errno.{Errno}
 use Rattle.kabi_types.specs.declared.errnos.Errno.TheVariants.{EAGAIN, EPERM, ESRCH}
 use Rattle.kheap_slabs.specs.declared.objects.Proc.{Proc}
 use Rattle.posix_defs.specs.Forking.{greatest_pid, most_processes}
 use Rattle.posix_defs.specs.Killing.{is_asking}
+use Rattle.posix_defs.specs.Signals.{is_ignored}
 use Rattle.posix_defs.specs.Waiting.{Exited, is_asked_for}
-use Rattle.proc_table.specs.Procs.{no_nodes, proc_of}
+use Rattle.proc_table.specs.Procs.{ignored_by, no_nodes, proc_of}
 use Rattle.proc_table.specs.declared.reaped.Reaped.{Reaped}
 use Rattle.proc_table.specs.declared.reaped.Reaped.TheVariants.{NoChild, Nobody, Took}
 
@@ -94,8 +96,12 @@ is_full_at there last = nat_le most_processes there || nat_le greatest_pid last
 abbrev pub forked_as : ℕ → ℕ → Result ℕ Errno
 forked_as there last = if is_full_at there last then Err EAGAIN else Ok (last + 1)
 
+-- a signal ends the process: it runs, and doesn't ignore it
+abbrev pub is_ended_by : ℤ → Proc → Bool
+is_ended_by signal proc = not (is_some proc.status) && not (is_ignored (ignored_by proc) (count_of signal))
+
 -- whether a signal ends the process, if it is there
 abbrev pub verdict : ℤ → Option Proc → Result Bool Errno
 verdict signal None = Err ESRCH
 verdict signal (Some proc) =
-    if is_asking signal then Ok false else (if proc.pid == 1 then Err EPERM else Ok (not (is_some proc.status)))
+    if is_asking signal then Ok false else (if proc.pid == 1 then Err EPERM else Ok (is_ended_by signal proc))

@@ -1,5 +1,5 @@
 -- What a change of the table leaves to all others.
-use Rattle.std.specs.Prelude.{ℕ, ◌≡◌, ◌+◌, ◌-◌, ◌<◌, List, [], ◌∷◌, ◌++◌, count_by, length, Option, None, Some}
+use Rattle.std.specs.Prelude.{ℕ, Bool, ◌≡◌, ◌+◌, ◌-◌, ◌<◌, List, [], ◌∷◌, ◌++◌, count_by, length, Option, None, Some}
 use Rattle.std.specs.List.{AllByRecursion, Contains}
 use Rattle.kabi_types.specs.declared.classes.Class.TheVariants as class
 use Rattle.kabi_types.specs.Counts.{with_count}
@@ -15,8 +15,10 @@ use Rattle.desc_table.specs.Copying.{no_leaves}
 use Rattle.open_laws.specs.Owned.{all_namings, names_desc}
 use Rattle.page_space.specs.Contents.{SpaceMoves, content_at}
 use Rattle.proc_table.specs.Changes.{child_proc}
-use Rattle.proc_table.specs.Procs.{numbers_in, proc_of, with_numbers}
+use Rattle.posix_defs.specs.Signals.{is_ignored, with_disposition}
+use Rattle.proc_table.specs.Procs.{ignored_by, numbers_in, proc_of, with_ignored, with_numbers}
 use Rattle.proc_table.specs.Table.{TableView, Holds, key_of, keys_of, processes, with_procs}
+use Rattle.proc_table.specs.declared.places.Place.{Place}
 
 -- The table has changed and holds again, and nothing but its Procs, nodes and pages is other than before. Whoever else owned
 -- a part of the heap still does, and every other space has in its pages what it had.
@@ -76,12 +78,19 @@ pub record SpaceTurns (old mid new : Heap) (kept : TableView) (pid key : ℕ) (p
   pub moves : SpaceMoves old mid proc.nodes now
   pub after : new ≡ record mid { procs = put mid.procs key (record proc { nodes = now }) }
 
--- A process goes on: its Proc has another control, or works in another directory.
+-- A process goes on: its Proc has another control, works in another directory, or ignores other signals.
 pub record ProcTurns (old new : Heap) (kept : TableView) (pid key : ℕ) (proc now : Proc) : Type 0 where
   pub found : key_of kept.listed pid ≡ Some key
   pub there : object old.procs key ≡ Some proc
-  pub same : now ≡ record proc { control = now.control; cwd = now.cwd }
+  pub same : now ≡ record proc { control = now.control; cwd = now.cwd; ignores_pipe = now.ignores_pipe; ignores_term = now.ignores_term }
   pub after : new ≡ record old { procs = put old.procs key now }
+
+-- A process ignores a signal now, or doesn't, and it is told whether it did before.
+pub record Disposes (old new : Heap) (kept : TableView) (place : Place) (signal : ℕ) (ignored before : Bool) : Type 0 where
+  pub proc : Proc
+  pub found : proc_of (processes old kept) place.pid ≡ Some proc
+  pub turns : ProcTurns old new kept place.pid place.key proc (with_ignored proc (with_disposition (ignored_by proc) signal ignored))
+  pub was : before ≡ is_ignored (ignored_by proc) signal
 
 -- A process has other numbers open: its Proc keeps other descriptors and names other Leaves, or others stand in these. All else of it
 -- is as it was, and the Leaves of all others are what they were.

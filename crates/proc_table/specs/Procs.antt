@@ -1,5 +1,5 @@
 -- Processes as they stand in the heap, by rising pid.
-use Rattle.std.specs.Prelude.{ℕ, ◌≡◌, ◌==◌, ℤ, pos, negsuc, if◌then◌else◌, List, [], ◌∷◌, map, replicate, Option, None, Some}
+use Rattle.std.specs.Prelude.{ℕ, ◌≡◌, ◌==◌, ℤ, pos, negsuc, if◌then◌else◌, List, [], ◌∷◌, map, replicate, Option, None, Some, true}
 use Rattle.std.specs.List.{AllByRecursion, range_with_len}
 use Rattle.kabi_types.specs.Arguments.{most_descriptors}
 use Rattle.kheap_slabs.specs.declared.objects.Descriptor.{Descriptor}
@@ -9,7 +9,7 @@ use Rattle.kheap_slabs.specs.Leaves.{no_row, numbers_by}
 use Rattle.desc_table.specs.Copying.{no_leaves}
 use Rattle.page_space.specs.Contents.{content_at}
 use Rattle.posix_defs.specs.Memory.{Memory}
-use Rattle.posix_defs.specs.Process.{Process, Status, Alive, Ended}
+use Rattle.posix_defs.specs.Process.{Ignores, Process, Status, Alive, Ended}
 use Rattle.posix_defs.specs.Plain.{at_start, root}
 use Rattle.kheap_slabs.specs.Spaces.{keys_in}
 
@@ -30,9 +30,23 @@ with_numbers proc now = record proc { descriptors = now.descriptors; leaves = no
 unfoldable pub memory_at : Heap → List (Option ℕ) → Memory
 memory_at h space = map (content_at h space) (range_with_len 0 256)
 
+-- what a process ignores
+abbrev pub ignored_by : Proc → Ignores
+ignored_by proc = record { broken_pipe = proc.ignores_pipe; terminate = proc.ignores_term }
+
+-- the process, where it ignores these
+abbrev pub with_ignored : Proc → Ignores → Proc
+with_ignored proc ignores = record proc { ignores_pipe = ignores.broken_pipe; ignores_term = ignores.terminate }
+
 -- the plain machine's process that one in the heap is
 abbrev pub process_of : Heap → Proc → Process
-process_of h proc = record { parent = proc.parent; directory = proc.cwd; status = status_of proc.status; memory = memory_at h proc.nodes }
+process_of h proc = record {
+  parent = proc.parent;
+  directory = proc.cwd;
+  status = status_of proc.status;
+  memory = memory_at h proc.nodes;
+  ignores = ignored_by proc;
+}
 
 -- the first of that pid
 abbrev pub proc_of : List Proc → ℕ → Option Proc
@@ -65,13 +79,15 @@ no_nodes = None ∷ None ∷ None ∷ None ∷ []
 abbrev pub no_descriptors : List (Option Descriptor)
 no_descriptors = replicate most_descriptors None
 
--- the process that was not forked, as it is at boot: at the beginning of a program, without memory
+-- the process that was not forked, as it is at boot: at the beginning of a program, without memory, and it ignores both signals
 abbrev pub first_proc : Proc
 first_proc = record {
   pid = 1;
   parent = 0;
   status = None;
   cwd = root;
+  ignores_pipe = true;
+  ignores_term = true;
   control = at_start 0;
   descriptors = no_row;
   nodes = no_nodes;

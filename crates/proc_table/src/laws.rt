@@ -24,7 +24,7 @@ ghost use Rattle.open_laws.specs.Sharing.{CanShare, share_all};
 ghost use Rattle.proc_table.specs.Changes.{after_wait, child_proc, ended, forked_as, is_other, reaped_of, replaced, with_nodes};
 ghost use Rattle.proc_table.specs.Moves.{HasCopies, IsForked, MemoryStays, NumbersTurn, ProcTurns, SpaceTurns, TableMoves, sharing};
 ghost use Rattle.proc_table.specs.Opening.{HaveOpen};
-ghost use Rattle.proc_table.specs.Procs.{HasClosed, NoneOpen, OpensNone, first_proc, memory_at, numbers_in, proc_of, process_of};
+ghost use Rattle.proc_table.specs.Procs.{HasClosed, NoneOpen, OpensNone, first_proc, ignored_by, memory_at, numbers_in, proc_of, process_of};
 ghost use Rattle.proc_table.specs.Standing.{IsTable, answered_fork, answered_wait, ends_from, ends_in, found_in};
 ghost use Rattle.proc_table.specs.Table.{Holds, TableView, key_of, processes, with_procs};
 ghost use Rattle.proc_table.specs.declared.reaped.Reaped.{Reaped};
@@ -70,7 +70,7 @@ pub fn a_space_comes_back()
         → AccountMoves old mid proc.nodes now has.number before after pid → HasAccount new kept after }
 {}
 
-/// A process's control or working directory may become another: the table holds, all others are as they were, and memory and
+/// A process's control, its working directory or what it ignores may become another: the table holds, all others are as they were, and memory and
 /// account are the same.
 pub fn a_process_goes_on()
     ensures procs { (old : Heap) (new : Heap) (kept : TableView) (pid : ℕ) (key : ℕ) (proc : Proc) (now : Proc)
@@ -79,7 +79,7 @@ pub fn a_process_goes_on()
     ensures moves { (old : Heap) (new : Heap) (kept : TableView) (pid : ℕ) (key : ℕ) (proc : Proc) (now : Proc)
         → Holds old kept → ProcTurns old new kept pid key proc now → TableMoves old kept new kept }
     ensures table { (old : Heap) (new : Heap) (kept : TableView) (pid : ℕ) (key : ℕ) (proc : Proc) (now : Proc) (table : Table)
-        → Holds old kept → ProcTurns old new kept pid key proc now → now.cwd ≡ proc.cwd
+        → Holds old kept → ProcTurns old new kept pid key proc now → now.cwd ≡ proc.cwd → ignored_by now ≡ ignored_by proc
         → IsTable old kept table → IsTable new kept table }
     ensures account { (old : Heap) (new : Heap) (kept : TableView) (pid : ℕ) (key : ℕ) (proc : Proc) (now : Proc) (frames : Frames)
         → Holds old kept → ProcTurns old new kept pid key proc now → HasAccount old kept frames → HasAccount new kept frames }

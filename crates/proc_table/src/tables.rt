@@ -1,6 +1,7 @@
 ghost use Rattle.std.specs.Prelude.{IfOk, IfSome, OnErr, OnOk, ◌≡◌, ◌+◌, ◌-◌, ◌==◌, ◌<◌, ◌≤◌, not, false, [], ◌∷◌, ◌++◌, filter, length, map, None, Some};
 ghost use Rattle.std.specs.List.{filter_map, list_any};
 ghost use Rattle.std.specs.Option.{option_copied, option_map};
+ghost use Rattle.kabi_types.specs.Arguments.{count_of};
 ghost use Rattle.kabi_types.specs.Class.{size};
 ghost use Rattle.kabi_types.specs.declared.classes.Class.TheVariants as class;
 ghost use Rattle.kabi_types.specs.declared.scripts.Script.{Script};
@@ -18,12 +19,12 @@ ghost use Rattle.posix_defs.specs.Memory.{Frames, after_clear, boot_frames};
 ghost use Rattle.proc_table.specs.Accounting.{HasAccount, forked_account};
 ghost use Rattle.proc_table.specs.Changes.{after_wait, cleared, ended, forked_as, child_proc, is_alone, is_full_at, is_other, is_wanted, left_behind, reaped_of, told_of, verdict};
 ghost use Rattle.open_laws.specs.Sharing.{CanShare, share_all};
-ghost use Rattle.proc_table.specs.Moves.{HasCopies, IsAdded, IsForked, MemoryStays, TableMoves, sharing};
+ghost use Rattle.proc_table.specs.Moves.{Disposes, HasCopies, IsAdded, IsForked, MemoryStays, TableMoves, sharing};
 ghost use Rattle.proc_table.specs.Procs.{HasClosed, HasEnded, IsAlive, first_proc, numbers_in, proc_of, target_of};
 ghost use Rattle.proc_table.specs.Standing.{IsTable, answered_by, cleared_in, ends_in, forked_in, found_in, waited_in};
 ghost use Rattle.proc_table.specs.Table.{AreBetween, AreStored, Holds, IsPlaced, key_of, key_of_target, no_table, objects_after, places_kept, processes};
 
-use crate::children::{INIT, is_wanted, judge, leave_one};
+use crate::children::{INIT, disposed, ignores, is_wanted, judge, leave_one};
 use crate::places::{MOST, Place, find, find_target, keep_others};
 use crate::reaped::Reaped;
 use arrayvec::ArrayVec;
@@ -72,6 +73,8 @@ impl ProcTable {
             parent: 0,
             status: None,
             cwd: ROOT,
+            ignores_pipe: true,
+            ignores_term: true,
             control: Control {
                 program: 0,
                 place: 0,
@@ -378,7 +381,24 @@ impl ProcTable {
         answer
     }
 
-    /// Whether a signal ends a process, for the caller of `kill`: so it is where a live one is sent another signal than 0.
+    /// Has a process ignore a signal from now on, or be ended by it, and tells whether it ignored it before. All else of it stays.
+    ///
+    /// <https://pubs.opengroup.org/onlinepubs/9699919799/functions/signal.html>
+    pub fn dispose(&self, heap: &mut KHeap, place: Place, signal: i64, ignored: bool) -> bool
+        requires stored { AreStored heap.old.procs self.now.listed }
+        requires there { IsPlaced self.now place }
+        ensures disposes { Disposes heap.old heap.new self.now place (count_of signal) ignored result }
+        ensures takes { TakesNothing heap.old heap.new }
+    {
+        let proc = self.at(heap, place);
+        let before = ignores(proc, signal);
+        let now = disposed(proc, signal, ignored);
+        heap.set_proc(place.key, now);
+        before
+    }
+
+    /// Whether a signal ends a process, for the caller of `kill`: so it is where a live one is sent another signal than 0 and doesn't
+    /// ignore it.
     ///
     /// ESRCH where no such process is there, alive or ended and not waited for; EPERM where it is the first, and the signal isn't 0.
     ///

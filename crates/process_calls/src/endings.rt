@@ -39,6 +39,9 @@ pub const INIT: u32 = 1;
 /// The signal that ends a process at once.
 pub const SIGKILL: u16 = 9;
 
+/// The signal that ends who writes what nobody reads.
+pub(crate) const SIGPIPE: u16 = 13;
+
 /// Of the processes that run and have a higher pid than this the lowest.
 fn live_behind(objects: &Objects, pid: u32) -> Option<u32>
     requires { Holds objects.now.heap objects.now.procs }

@@ -1,6 +1,6 @@
 //! The calls that end a process: `kill` and `exit`.
 
-ghost use Rattle.std.specs.Prelude.{◌≡◌, ◌≢◌, ◌+◌, ◌<◌, ◌≤◌, ℤ, None};
+ghost use Rattle.std.specs.Prelude.{◌≡◌, ◌≢◌, ◌+◌, ◌<◌, ◌≤◌, ℕ, ℤ, None};
 ghost use Rattle.kabi_types.specs.Arguments.{argument_fault, count_of};
 ghost use Rattle.kabi_types.specs.declared.calls.Call.{Call};
 ghost use Rattle.kabi_types.specs.declared.scripts.Script.{Script};
@@ -8,6 +8,7 @@ ghost use Rattle.kheap_slabs.specs.Heap.{live_bytes};
 ghost use Rattle.posix_defs.specs.Answer.{Ended};
 ghost use Rattle.posix_defs.specs.Ending.{die, exit_status};
 ghost use Rattle.posix_defs.specs.Killing.{kill, struck};
+ghost use Rattle.posix_defs.specs.Signals.{sigpipe};
 ghost use Rattle.posix_defs.specs.Sizes.{reserve};
 ghost use Rattle.posix_defs.specs.World.{World};
 ghost use Rattle.proc_table.specs.Procs.{IsAlive};
@@ -18,6 +19,7 @@ ghost use Rattle.store_objects.specs.Uses.{UsesAtMost};
 ghost use Rattle.store_objects.specs.Walking.{Serves};
 
 use crate::end;
+use crate::endings::SIGPIPE;
 use kabi_types::{Reply, Script};
 use posix_defs::Turned;
 use proc_table::Place;
@@ -108,6 +110,23 @@ pub fn exit(objects: &mut Objects, place: Place, status: i64) -> Turned
     let status = exit_status(status);
     end(objects, place, status);
     Turned::Ended(status)
+}
+
+/// Ends a process by its own `write`, which nobody reads: by SIGPIPE, which it doesn't ignore. What its closings ask for is taken of what
+/// is kept back for ends.
+#[inline(never)]
+pub fn break_off(objects: &mut Objects, place: Place) -> Turned
+    requires stands { (script : Script) × (world : World) × StandsFor script objects.old world × IsSound world.plain }
+    requires runs { IsAlive (procs_of objects.old) place.pid }
+    requires placed { IsPlaced objects.old.procs place }
+    requires room { live_bytes objects.old.heap + reserve ≤ objects.old.heap.heap }
+    ensures kept { (script : Script) → AreKept script objects.old → AreKept script objects.new }
+    ensures uses { UsesAtMost objects.old.heap objects.new.heap 0 reserve }
+    ensures does { (script : Script) (fd : ℤ) (addr : ℤ) (n : ℤ) (done : ℕ)
+        → Serves script objects.old place.pid (Call.Write fd addr n done) (λ plain. Ended sigpipe (die plain place.pid sigpipe)) result objects.new }
+{
+    end(objects, place, SIGPIPE);
+    Turned::Ended(SIGPIPE)
 }
 
 /// The wait status of a process that ends by itself: only the lowest eight bits of what it says are told.

@@ -1,5 +1,5 @@
 //! A turn of each call on processes and on their memory leads the objects of a store to what the call's definition says: `fork`,
-//! `waitpid`, `kill`, `exit`, `mmap`, `munmap`, `store` and `load`. What other calls read and write in a process's memory goes the
+//! `waitpid`, `kill`, `exit`, `signal`, `mmap`, `munmap`, `store` and `load`, and the end of who writes what nobody reads. What other calls read and write in a process's memory goes the
 //! same way.
 //!
 //! Processes end by their own call, by a signal, and with the first process. Who ends closes what it has open, leaves its children,
@@ -11,11 +11,13 @@ mod endings;
 mod ends;
 mod maps;
 mod moves;
+mod signals;
 mod spaces;
 
 pub use children::{fork, wait, would_sleep};
 pub use endings::{INIT, SIGKILL, end};
-pub use ends::{exit, signal_process};
+pub use ends::{break_off, exit, signal_process};
 pub use maps::{mmap, munmap};
 pub use moves::{load, store};
+pub use signals::signal;
 pub use spaces::{put, take};

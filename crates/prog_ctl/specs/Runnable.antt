@@ -96,6 +96,7 @@ TakesFiles kind.Exec = ⊥
 TakesFiles kind.Exit = ⊥
 TakesFiles kind.Waitpid = ⊥
 TakesFiles kind.Kill = ⊥
+TakesFiles kind.Signal = ⊥
 TakesFiles kind.Mmap = ⊥
 TakesFiles kind.Munmap = ⊥
 TakesFiles kind.Store = ⊥

@@ -326,6 +326,10 @@ pub(crate) fn made(control: &Control, kind: CallKind, operands: &[Operand], text
             pid: operand_at(control, operands, 0),
             signal: operand_at(control, operands, 1),
         },
+        CallKind::Signal => return Call::Signal {
+            signal: operand_at(control, operands, 0),
+            disposition: operand_at(control, operands, 1),
+        },
         CallKind::Mmap => return Call::Mmap {
             length: operand_at(control, operands, 0),
         },

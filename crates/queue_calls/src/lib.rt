@@ -26,4 +26,4 @@ pub use polling::{poll, poll_would_block};
 pub use proc_numbers::{Buffer, CAPACITY};
 pub use reading::{read, read_would_block};
 pub use shutting::{listen, shutdown};
-pub use writing::{write, write_would_block};
+pub use writing::{write, write_breaks, write_would_block};

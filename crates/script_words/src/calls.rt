@@ -54,6 +54,7 @@ pub fn shape_of(kind: CallKind) -> Shape
         | CallKind::Accept => Shape::Values(1),
         CallKind::Waitpid
         | CallKind::Kill
+        | CallKind::Signal
         | CallKind::Munmap
         | CallKind::Load
         | CallKind::Dup2

@@ -201,10 +201,14 @@ const DESCRIPTOR_CONSTANTS: &[(&str, u32)] = &[
     ("FD_CLOEXEC", 1),
 ];
 
-/// The constants of `waitpid`, `kill`, `shutdown` and `poll`.
+/// The constants of `waitpid`, `kill`, `signal`, `shutdown` and `poll`.
 const OTHER_CONSTANTS: &[(&str, u32)] = &[
     ("WNOHANG", 1),
     ("SIGKILL", 9),
+    ("SIGPIPE", 13),
+    ("SIGTERM", 15),
+    ("SIG_DFL", 0),
+    ("SIG_IGN", 1),
     ("SHUT_RD", 0),
     ("SHUT_WR", 1),
     ("SHUT_RDWR", 2),

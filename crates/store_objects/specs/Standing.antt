@@ -1,5 +1,5 @@
 -- Which worlds the objects of a store stand for, family by family, and what a turn of a call does to them.
-use Rattle.std.specs.Prelude.{ℕ, ◌≡◌, true, None, Some}
+use Rattle.std.specs.Prelude.{ℕ, Bool, ◌≡◌, true, None, Some}
 use Rattle.kabi_types.specs.declared.calls.Call.{Call}
 use Rattle.kabi_types.specs.declared.replies.Reply.{Reply}
 use Rattle.kabi_types.specs.declared.scripts.Script.{Script}
@@ -13,7 +13,8 @@ use Rattle.posix_defs.specs.Family.{IsFamily}
 use Rattle.posix_defs.specs.Memory.{Frames, Memory}
 use Rattle.posix_defs.specs.MemoryCalls.{remembered}
 use Rattle.posix_defs.specs.Plain.{Plain, answered, control_of, last_pid, with_table}
-use Rattle.posix_defs.specs.Process.{is_alive, with_directory}
+use Rattle.posix_defs.specs.Process.{ignores_of, is_alive, with_directory, with_ignores}
+use Rattle.posix_defs.specs.Signals.{with_disposition}
 use Rattle.posix_defs.specs.Tree.{is_directory}
 use Rattle.posix_defs.specs.Turn.{Tells, account_after}
 use Rattle.posix_defs.specs.ValidScript.{IsValid}
@@ -91,6 +92,11 @@ ended_in world pid status =
 -- a process works in another directory
 abbrev pub working_in : World → ℕ → ℕ → World
 working_in world pid directory = record world { plain = with_table world.plain (with_directory world.plain.table pid directory) }
+
+-- a process ignores a signal, or doesn't
+abbrev pub disposed_in : World → ℕ → ℕ → Bool → World
+disposed_in world pid signal ignored =
+    record world { plain = with_table world.plain (with_ignores world.plain.table pid (with_disposition (ignores_of world.plain.table pid) signal ignored)) }
 
 -- ---- a turn
 

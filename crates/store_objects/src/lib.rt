@@ -6,6 +6,7 @@
 
 mod boot;
 mod directories;
+mod disposing;
 mod evicting;
 pub mod file_laws;
 pub mod file_moves;
@@ -18,6 +19,7 @@ pub mod replies;
 
 pub use boot::booted;
 pub use directories::{directory_of, hold_directory, let_go, work_in};
+pub use disposing::dispose;
 pub use evicting::{evict, evictable};
 pub use going_on::{behind, go_on, go_on_anew};
 pub use objects::{Caller, Objects};

@@ -25,4 +25,4 @@ pub use making::{sock_make, sock_pair};
 pub use naming::{can_bind, listen, name_sock};
 pub use polling::sock_polled;
 pub use reading::{sock_read, sock_read_waits};
-pub use writing::{sock_write, sock_write_waits};
+pub use writing::{sock_is_unread, sock_write, sock_write_waits};

@@ -2,6 +2,7 @@ ghost use Rattle.std.specs.Prelude.{List, ◌≡◌, ℕ, ◌+◌, ◌/◌, ◌<
 ghost use Rattle.kheap_slabs.specs.Objects.{object, InUse};
 ghost use Rattle.kheap_slabs.specs.Owners.{OwnsItsObjects};
 ghost use Rattle.kheap_slabs.specs.Paid.{CanPay, IsPaid};
+ghost use Rattle.posix_defs.specs.Calls.Writing.{is_unread_in};
 ghost use Rattle.posix_defs.specs.Pipe.{capacity};
 ghost use Rattle.posix_defs.specs.QueuePlace.{chunks_of, after_put};
 ghost use Rattle.posix_defs.specs.Socket.{Socket, peer_of, is_shut_read};
@@ -67,6 +68,22 @@ pub fn sock_write_waits(heap: &KHeap, key: u32, nonblock: bool, left: u32) -> bo
         (SockState::Connected { shut_write, .. }, Some(peer)) => {
             !shut_write && peer_waits(heap.get_sock(peer), nonblock, left)
         }
+        _ => false,
+    }
+}
+
+/// Whether nobody can read what is written to a socket that is connected: it was shut for writing, or its peer has closed or was shut
+/// for reading.
+pub fn sock_is_unread(heap: &KHeap, key: u32) -> bool
+    requires { IsSocketIn heap.now key }
+    ensures { (sockets : Sockets) → StandsFor heap.now sockets → result ≡ is_unread_in sockets (stage_at sockets key) }
+{
+    let sock = heap.get_sock(key);
+    match (sock.state, sock.peer) {
+        (SockState::Connected { shut_write, .. }, Some(peer)) => {
+            shut_write || reads_no_more(heap.get_sock(peer))
+        }
+        (SockState::Connected { .. }, None) => true,
         _ => false,
     }
 }

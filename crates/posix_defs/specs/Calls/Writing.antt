@@ -1,23 +1,25 @@
 -- The calls that write: `write` and `pwrite`.
-use Rattle.std.specs.Prelude.{ℕ, ◌+◌, ◌-◌, ◌==◌, ℤ, pos, Bool, if◌then◌else◌, List, Some, Result, Ok, Err}
+use Rattle.std.specs.Prelude.{ℕ, ◌+◌, ◌-◌, ◌==◌, ◌&&◌, ◌||◌, ℤ, pos, Bool, false, not, if◌then◌else◌, List, Option, None, Some, Result, Ok, Err}
 use Rattle.kabi_types.specs.Arguments.{count_of}
 use Rattle.kabi_types.specs.declared.errnos.Errno.{Errno}
 use Rattle.kabi_types.specs.declared.errnos.Errno.TheVariants.{EISDIR, ENOTCONN, ESPIPE}
 use Rattle.kabi_types.specs.declared.replies.Reply.TheVariants.{Val}
 use Rattle.kabi_types.specs.declared.scripts.Script.{Script}
 use Rattle.posix_defs.specs.Pipe.{Moving, Moves, Blocks, Fails, pipe_write, after_write}
-use Rattle.posix_defs.specs.Socket.{is_connected}
-use Rattle.posix_defs.specs.Sockets.{stage_at, sock_write, after_write as socket_after_write}
+use Rattle.posix_defs.specs.Socket.{Stage, Idle, Listening, Connected, is_connected}
+use Rattle.posix_defs.specs.Sockets.{Sockets, stage_at, reads_no_more, sock_write, after_write as socket_after_write}
 use Rattle.posix_defs.specs.Tree.{Tree, size_at, is_directory}
 use Rattle.posix_defs.specs.TreeChanges.{write as tree_write}
 use Rattle.posix_defs.specs.Control.{after_part}
-use Rattle.posix_defs.specs.Memory.{loaded}
-use Rattle.posix_defs.specs.Process.{memory_of}
+use Rattle.posix_defs.specs.Memory.{is_mapped_range, loaded}
+use Rattle.posix_defs.specs.Process.{ignores_of, memory_of}
 use Rattle.posix_defs.specs.Plain.{Plain, control_of, with_control, with_files}
-use Rattle.posix_defs.specs.Answer.{Answer, Blocked, Part, failed, replied}
-use Rattle.posix_defs.specs.Files.Descriptions.{Target, OnNode, OnPipe, OnSocket, at_offset}
+use Rattle.posix_defs.specs.Answer.{Answer, Blocked, Ended, Part, failed, replied}
+use Rattle.posix_defs.specs.Ending.{die}
+use Rattle.posix_defs.specs.Signals.{sigpipe}
+use Rattle.posix_defs.specs.Files.Descriptions.{Target, OnNode, OnPipe, OnSocket, at_offset, may_write}
 use Rattle.posix_defs.specs.Files.State.{Files, with_pipe, pipe_at, with_sockets, with_tree, described_as}
-use Rattle.posix_defs.specs.Calls.Opened.{Opened, on_open, if_writable}
+use Rattle.posix_defs.specs.Calls.Opened.{Opened, on_open, opened_at, if_writable}
 use Rattle.posix_defs.specs.Calls.Reading.{of_bytes}
 
 -- ---- files
@@ -90,12 +92,42 @@ write_target script plain pid opened addr n done (OnSocket place) =
     (sock_write plain.files.sockets place opened.is.nonblock (n - done))
     else failed script plain pid ENOTCONN
 
--- n bytes of memory go to what a descriptor is open on, of which some were moved before (POSIX write)
-unfoldable pub write : Script → Plain → ℕ → ℤ → ℤ → ℤ → ℕ → Answer
-write script plain pid fd addr n done =
+-- n bytes of memory go to what a descriptor is open on, of which some were moved before: the whole of `write` to who ignores SIGPIPE
+unfoldable pub write_ignoring : Script → Plain → ℕ → ℤ → ℤ → ℤ → ℕ → Answer
+write_ignoring script plain pid fd addr n done =
     on_open script plain pid fd (λ opened.
     if_writable script plain pid opened
     (of_bytes script plain pid addr n (write_target script plain pid opened addr (count_of n) done opened.is.target)))
+
+-- one that is connected was shut for writing, or its peer takes nothing more
+abbrev pub is_unread_in : Sockets → Stage → Bool
+is_unread_in sockets Idle = false
+is_unread_in sockets (Listening waiting) = false
+is_unread_in sockets (Connected peer shut_read shut_write) = shut_write || reads_no_more sockets peer
+
+-- nobody can read what is put there: it is a pipe without a reader, or such a socket
+abbrev pub is_unread : Files → Target → Bool
+is_unread files (OnNode number) = false
+is_unread files (OnPipe place) = (pipe_at files place).readers == 0
+is_unread files (OnSocket place) = is_unread_in files.sockets (stage_at files.sockets place)
+
+-- a write of these bytes has nothing else to be told than that nobody reads them: they are there, and what is open may be written
+abbrev pub is_broken : Plain → ℕ → ℤ → ℤ → Option Opened → Bool
+is_broken plain pid addr n None = false
+is_broken plain pid addr n (Some opened) =
+    may_write opened.is.access && is_mapped_range (memory_of plain.table pid) (count_of addr) (count_of n) && not (count_of n == 0)
+    && is_unread plain.files opened.is.target
+
+-- a write ends its caller: nobody reads it, nothing of it was moved before, and its caller doesn't ignore SIGPIPE
+abbrev pub write_ends : Plain → ℕ → ℤ → ℤ → ℤ → ℕ → Bool
+write_ends plain pid fd addr n done =
+    not (ignores_of plain.table pid).broken_pipe && (done == 0) && is_broken plain pid addr n (opened_at plain.files pid fd)
+
+-- A write that nobody reads, as of a pipe without a reader, is answered what was moved of it; where that is nothing EPIPE to who
+-- ignores SIGPIPE, and any other it ends by that signal, the first process too (POSIX write).
+unfoldable pub write : Script → Plain → ℕ → ℤ → ℤ → ℤ → ℕ → Answer
+write script plain pid fd addr n done =
+    if write_ends plain pid fd addr n done then Ended sigpipe (die plain pid sigpipe) else write_ignoring script plain pid fd addr n done
 
 -- so many bytes were written at a place, and the offset stays
 abbrev pub wrote_at : Script → Plain → ℕ → Result (ℕ × Tree) Errno → Answer
