@@ -25,6 +25,7 @@ by_shape script plain pid which given (shape.fails errno other is) e = absurd (n
 by_shape script plain pid which given (shape.tells files said is_said is) e = absurd (not_done _ _ (sym is ∙ e))
 by_shape script plain pid which given (shape.puts files memory said is_said what is) e = absurd (not_done _ _ (sym is ∙ e))
 by_shape script plain pid which given (shape.moves path directory called led is) e = absurd (not_done _ _ (sym is ∙ e))
+by_shape script plain pid which given (shape.disposes signal disposition ignores before called is) e = absurd (not_done _ _ (sym is ∙ e))
 by_shape script plain pid which given (shape.parts files moved part is) e = absurd (not_part _ _ (sym is ∙ e))
 by_shape script plain pid which given (shape.starts place is) e = absurd (not_done _ _ (sym is ∙ e))
 by_shape script plain pid which given (shape.forks is) e = absurd (not_done _ _ (sym is ∙ e))

@@ -33,6 +33,7 @@ by_shape script plain pid which given (shape.fails errno other is) = subst (Fail
 by_shape script plain pid which given (shape.tells files said is_said is) = subst (FailsAlone script plain pid) (sym is) (told script plain _ pid said is_said)
 by_shape script plain pid which given (shape.puts files memory said is_said put is) = subst (FailsAlone script plain pid) (sym is) (told script plain _ pid said is_said)
 by_shape script plain pid which given (shape.moves path directory of entered is) = subst (FailsAlone script plain pid) (sym is) tt
+by_shape script plain pid which given (shape.disposes signal disposition ignores before of is) = subst (FailsAlone script plain pid) (sym is) tt
 by_shape script plain pid which given (shape.parts files moved part is) = subst (FailsAlone script plain pid) (sym is) tt
 by_shape script plain pid which given (shape.starts place is) = subst (FailsAlone script plain pid) (sym is) tt
 by_shape script plain pid which given (shape.forks is) = subst (FailsAlone script plain pid) (sym is) tt

@@ -2,7 +2,7 @@
 use Rattle.std.proofs.Common.{◌≢◌, ℕ, ◌==◌, ◌&&◌, ◌||◌, not, ℤ, Bool, true, false, cond, List, length, Option, None, Some}
 use Rattle.std.specs.List.{list_any}
 use Rattle.std.specs.Option.{option_or}
-use Rattle.kabi_types.specs.Arguments.{argument_fault, count_of, invalid_unless, is_from, is_minus_one, is_number, is_page_range, is_within, lie_in_space, may_be_descriptor, moved_fault, path_fault, paths_fault, placed_fault, range_fault, truncates_unwritten}
+use Rattle.kabi_types.specs.Arguments.{argument_fault, count_of, invalid_unless, is_from, is_minus_one, is_number, is_page_range, is_sendable, is_within, lie_in_space, may_be_descriptor, may_be_ignored, moved_fault, path_fault, paths_fault, placed_fault, range_fault, truncates_unwritten}
 use Rattle.kabi_types.specs.OpenFlags.{are_open_flags}
 use Rattle.kabi_types.specs.PathParts.{components, ends_in_dots, is_long}
 use Rattle.kabi_types.specs.declared.calls.Call.{Call}
@@ -50,7 +50,7 @@ placed_no_want addr n at =
 pub fault_no : (which : Call) → IsNoWantFault (argument_fault which)
 fault_no (call.Exec path) = path_no_want path
 fault_no (call.Waitpid pid options) = invalid_no_want ((is_minus_one pid || is_from 1 pid) && is_within 0 1 options)
-fault_no (call.Kill pid signal) = invalid_no_want (is_from 1 pid && (is_number 0 signal || is_number 9 signal))
+fault_no (call.Kill pid signal) = invalid_no_want (is_from 1 pid && is_sendable signal)
 fault_no (call.Mmap length) = invalid_no_want (is_from 1 length)
 fault_no (call.Munmap addr length) = invalid_no_want (is_from 1 length && is_page_range addr length)
 fault_no (call.Store addr bytes) = range_no_want addr (length bytes)
@@ -75,4 +75,5 @@ fault_no (call.Bind _ path) = path_no_want path
 fault_no (call.Connect _ path) = path_no_want path
 fault_no (call.Shutdown _ how) = invalid_no_want (is_within 0 2 how)
 fault_no (call.Poll timeout _) = invalid_no_want (is_number 0 timeout || is_minus_one timeout)
+fault_no (call.Signal signal disposition) = invalid_no_want (may_be_ignored signal && is_within 0 1 disposition)
 fault_no _ = tt

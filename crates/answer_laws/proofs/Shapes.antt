@@ -14,7 +14,7 @@ use Rattle.posix_defs.specs.Answer as answer
 use Rattle.posix_defs.specs.Answer.{Answer, failed, replied}
 use Rattle.posix_defs.specs.Ending.{die, exit_status}
 use Rattle.posix_defs.specs.Forking.{fork, is_full}
-use Rattle.posix_defs.specs.Killing.{is_asking, kill, sent_to, struck}
+use Rattle.posix_defs.specs.Killing.{is_asking, is_ended_by, kill, sent_to, struck}
 use Rattle.posix_defs.specs.Killing as killing
 use Rattle.posix_defs.specs.Machine.{answer_to, machine, unless_wrong}
 use Rattle.posix_defs.specs.Memory.{Memory, is_mapped_range, lowest_run}
@@ -25,6 +25,7 @@ use Rattle.posix_defs.specs.Pipe as pipes
 use Rattle.posix_defs.specs.Plain.{Plain, answered, with_files}
 use Rattle.posix_defs.specs.Process.{Process, directory_of, is_alive, is_alive_in, memory_of, process_at, runs}
 use Rattle.posix_defs.specs.Reaching.{is_reply}
+use Rattle.posix_defs.specs.Signals.{sigpipe}
 use Rattle.posix_defs.specs.Socket.{Accepting, is_connected}
 use Rattle.posix_defs.specs.Socket as socket
 use Rattle.posix_defs.specs.Sockets.{stage_at, socket_at, is_refused}
@@ -38,7 +39,7 @@ use Rattle.posix_defs.specs.Files.Whole.{is_queue}
 use Rattle.posix_defs.specs.Calls.Opened.{Opened, answer_on, if_readable, if_writable, on_open, opened_at}
 use Rattle.posix_defs.specs.Calls.OnDescriptors.{close, controlled, dup, dup2, duplicated, duplicated_to, fcntl}
 use Rattle.posix_defs.specs.Calls.Reading.{is_directory_target, list_target, of_bytes, pread, pread_target, read, read_from_pipe, read_from_socket, read_target, readdir}
-use Rattle.posix_defs.specs.Calls.Writing.{bytes_left, place_of_write, put_in_socket, pwrite, pwrite_target, stopped, write, write_queue, write_target, wrote, wrote_at}
+use Rattle.posix_defs.specs.Calls.Writing.{bytes_left, place_of_write, put_in_socket, pwrite, pwrite_target, stopped, write, write_ignoring, write_queue, write_target, wrote, wrote_at}
 use Rattle.posix_defs.specs.Calls.OnFiles.{fstat, ftruncate, greatest_offset, is_between_entries, lseek, open_at, open_file, opened_node_as, opening_of, origin, resized_to, seek_target, seek_to, truncate_target}
 use Rattle.posix_defs.specs.Calls.OnNames.{chdir, freed_in, is_busy, link, made_directory, mkdir, rename, retreed, rmdir, stat, told_of, unlink, works_from}
 use Rattle.posix_defs.specs.Calls.Starting.{exec, starts}
@@ -46,6 +47,7 @@ use Rattle.posix_defs.specs.Calls.OnPipes.{pipe, piped_under}
 use Rattle.posix_defs.specs.Calls.OnSockets.{accept, accept_at, accepted_under, bind, bind_at, bound_to, connect, connect_at, connected_by, connected_under, listen, listen_at, listener_under, on_socket, paired_under, resocketed, shutdown, shutdown_at, socket_target, socketed_under, socketpair, unless_fault}
 use Rattle.posix_defs.specs.Calls.OnSockets as on_sockets
 use Rattle.posix_defs.specs.Calls.Polling.{hits_of, poll, revents_of}
+use Rattle.posix_defs.proofs.SignalLemmas.{of_write}
 use Rattle.answer_laws.proofs.Exits.{exited_has_ended}
 use Rattle.answer_laws.proofs.Faults.{fault_no}
 use Rattle.answer_laws.specs.Shapes as shape
@@ -202,15 +204,19 @@ module _ (script : Script) (plain : Plain) (pid : ℕ) (asked : Call) where
       (queue_writes opened.is.nonblock n done (put_in_socket plain.files place (bytes_left plain pid addr n done)) _ may (λ k. part _ refl refl refl)
       (sock_write_no plain.files.sockets place opened.is.nonblock (n - done))) (fails errno.ENOTCONN (λ e. cc))
 
-  writes : (fd addr n : ℤ) (done : ℕ) → asked ≡ call.Write fd addr n done → Shaped script plain pid asked (write script plain pid fd addr n done)
-  unfolding write
-  writes fd addr n done called = go (opened_at plain.files pid fd) refl
+  writes_ignoring : (fd addr n : ℤ) (done : ℕ) → asked ≡ call.Write fd addr n done → Shaped script plain pid asked (write_ignoring script plain pid fd addr n done)
+  unfolding write_ignoring
+  writes_ignoring fd addr n done called = go (opened_at plain.files pid fd) refl
     where
       go : (o : Option Opened) → opened_at plain.files pid fd ≡ o → Shaped script plain pid asked (answer_on script plain pid (λ opened.
           if_writable script plain pid opened (of_bytes script plain pid addr n (write_target script plain pid opened addr (count_of n) done opened.is.target))) o)
       go None is = fails errno.EBADF (λ e. cc)
       go (Some opened) is = writable opened _ (bytes_shaped addr n _ (target_writes opened addr (count_of n) done opened.is.target (ap may_block called) (λ files queue descriptors descriptions.
           record { fd = fd; addr = addr; n = n; done = done; opened = opened; which = called; named = is; queue = queue; descriptors = descriptors; descriptions = descriptions })))
+
+  writes : (fd addr n : ℤ) (done : ℕ) → asked ≡ call.Write fd addr n done → Shaped script plain pid asked (write script plain pid fd addr n done)
+  writes fd addr n done called =
+      of_write script plain pid fd addr n done (Shaped script plain pid asked) (λ ends. shape.ends sigpipe refl) (λ goes. writes_ignoring fd addr n done called)
 
   pwrites : (fd addr n at : ℤ) → Shaped script plain pid asked (pwrite script plain pid fd addr n at)
   unfolding pwrite
@@ -444,6 +450,10 @@ module _ (script : Script) (plain : Plain) (pid : ℕ) (asked : Call) where
       none : Shaped script plain pid asked (replied script plain pid (reply.Val (pos 0)))
       none = says _ refl
 
+      first_holds : (a b : Bool) → (a && b) ≡ true → a ≡ true
+      first_holds true b e = refl
+      first_holds false b e = cc
+
       strikes : target ≢ 1 → is_alive plain.table target ≡ true → (own : Bool) → (target == pid) ≡ own
           → Shaped script plain pid asked (cond own (answer.Ended (count_of signal) (die plain pid (count_of signal))) (replied script (die plain target (count_of signal)) pid (reply.Val (pos 0))))
       strikes other alive true same = shape.ends (count_of signal) refl
@@ -452,15 +462,15 @@ module _ (script : Script) (plain : Plain) (pid : ℕ) (asked : Call) where
           differ : (a b : ℕ) → (a == b) ≡ false → a ≢ b
           differ a b apart same = elim (eqb_tells a b) [ inl alike ↦ (let f = alike.0 in cc) | inr two ↦ two.1 same ]
 
-      running : target ≢ 1 → (process : Process) → process_at plain.table target ≡ Some process → (b : Bool) → runs process.status ≡ b
+      running : target ≢ 1 → (process : Process) → process_at plain.table target ≡ Some process → (b : Bool) → is_ended_by (count_of signal) process ≡ b
           → Shaped script plain pid asked (cond b (struck script plain pid target (count_of signal)) (replied script plain pid (reply.Val (pos 0))))
-      running other process found true lives = strikes other (ap is_alive_in found ∙ lives) (target == pid) refl
-      running other process found false lives = none
+      running other process found true is = strikes other (ap is_alive_in found ∙ first_holds (runs process.status) _ is) (target == pid) refl
+      running other process found false is = none
 
       first : (process : Process) → process_at plain.table target ≡ Some process → (b : Bool) → (target == 1) ≡ b
           → Shaped script plain pid asked (cond b (failed script plain pid errno.EPERM) (killing.ends script plain pid target (count_of signal) process))
       first process found true same = fails errno.EPERM (λ e. cc)
-      first process found false apart = running other process found (runs process.status) refl
+      first process found false apart = running other process found (is_ended_by (count_of signal) process) refl
         where
           other : target ≢ 1
           other same = elim (eqb_tells target 1) [ inl alike ↦ (let f = alike.0 in cc) | inr two ↦ two.1 same ]
@@ -520,6 +530,7 @@ module _ (script : Script) (plain : Plain) (pid : ℕ) (asked : Call) where
   right (call.Accept fd) called = accepts fd (ap may_block called)
   right (call.Shutdown fd how) called = shuts fd how
   right (call.Poll timeout entries) called = polls timeout entries (ap may_block called)
+  right (call.Signal which disposition) called = shape.disposes which disposition _ _ called refl
 
 -- a wrong operand is told
 pub wrong : (script : Script) (plain : Plain) (pid : ℕ) (which : Call) (e : Errno) → argument_fault which ≡ Some e → Shaped script plain pid which (failed script plain pid e)

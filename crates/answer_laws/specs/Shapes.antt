@@ -11,7 +11,7 @@ use Rattle.kabi_types.specs.declared.scripts.Script.{Script}
 use Rattle.posix_defs.specs.Memory.{Memory, stored, with_pages, without_pages}
 use Rattle.posix_defs.specs.MemoryCalls.{remembered}
 use Rattle.posix_defs.specs.PathCalls.{enter_path, list_node, read_node}
-use Rattle.posix_defs.specs.Process.{directory_of, is_alive, memory_of, with_directory}
+use Rattle.posix_defs.specs.Process.{Ignores, directory_of, is_alive, memory_of, with_directory, with_ignores}
 use Rattle.posix_defs.specs.Plain.{Plain, last_pid, with_files, with_table}
 use Rattle.posix_defs.specs.Answer.{Answer, Blocked, Done, Ended, failed, replied}
 use Rattle.posix_defs.specs.Ending.{die}
@@ -78,6 +78,9 @@ pub data HasShape (script : Script) (plain : Plain) (pid : ℕ) (call : Call) (a
   moves : (path : List ℕ) (directory : ℕ) → call ≡ calls.Chdir path → enter_path plain.files.tree (directory_of plain.table pid) path ≡ Ok directory
       → answer ≡ replied script (with_table plain (with_directory plain.table pid directory)) pid (Val (pos 0))
       → HasShape script plain pid call answer
+  -- its caller ignores other signals than before
+  disposes : (signal disposition : ℤ) (ignores : Ignores) (before : ℕ) → call ≡ calls.Signal signal disposition
+      → answer ≡ replied script (with_table plain (with_ignores plain.table pid ignores)) pid (Val (pos before)) → HasShape script plain pid call answer
   -- a part of a write was done
   parts : (files : Files) (moved : ℕ) → IsPart plain pid call files → answer ≡ did_part (with_files plain files) pid moved → HasShape script plain pid call answer
   -- its caller starts a program

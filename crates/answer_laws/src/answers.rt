@@ -1,4 +1,4 @@
-//! Laws of what all forty-one calls are answered. Each is the contract of a function that does nothing.
+//! Laws of what all forty-two calls are answered. Each is the contract of a function that does nothing.
 
 ghost use Rattle.std.specs.Prelude.{◌≡◌, ◌≢◌, ℕ, true};
 ghost use Rattle.kabi_types.specs.declared.calls.Call.{Call};
@@ -12,9 +12,10 @@ ghost use Rattle.posix_defs.specs.Answer.{Blocked, Done};
 ghost use Rattle.posix_defs.specs.Machine.{machine};
 ghost use Rattle.answer_laws.specs.Shapes.{HasShape, may_block};
 
-/// Whatever a call is answered, it has one of eleven shapes: of processes nothing changes but its caller's control, memory or
-/// directory, but for a child that is made or reaped, for a program that is started, and for a process that ends. A directory
-/// changes by `chdir` alone, a part is done of a `write` alone, and another process is ended by `kill` alone.
+/// Whatever a call is answered, it has one of twelve shapes: of processes nothing changes but its caller's control, memory,
+/// directory or the signals that it ignores, but for a child that is made or reaped, for a program that is started, and for a
+/// process that ends. A directory changes by `chdir` alone, which signals are ignored by `signal` alone, a part is done of a
+/// `write` alone, and another process is ended by `kill` alone.
 pub fn every_answer_has_a_shape()
     ensures { (script : Script) (plain : Plain) (pid : ℕ) (call : Call) → HasShape script plain pid call (machine script plain pid call) }
 {}

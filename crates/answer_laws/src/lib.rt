@@ -1,4 +1,4 @@
-//! Laws of what the calls of the plain machine are answered: each answer has one of eleven shapes. Each is the contract of a
+//! Laws of what the calls of the plain machine are answered: each answer has one of twelve shapes. Each is the contract of a
 //! function that does nothing.
 #![tactic(auto)]
 

@@ -12,7 +12,7 @@ use Rattle.kabi_types.specs.declared.replies.Reply.{Reply}
 use Rattle.kabi_types.specs.declared.replies.Reply.TheVariants.{Fail, Val, Waited}
 use Rattle.kabi_types.specs.declared.scripts.Script.{Script}
 use Rattle.posix_defs.specs.ByPid.{with_pid}
-use Rattle.posix_defs.specs.Process.{Process, Table, with_directory, Alive, Ended, Status, process_at, is_alive, is_alive_in, runs}
+use Rattle.posix_defs.specs.Process.{Process, Table, with_directory, with_ignores, Alive, Ended, Status, process_at, is_alive, is_alive_in, runs}
 use Rattle.posix_defs.specs.Control.{after_part, restarted, settled}
 use Rattle.posix_defs.specs.Plain.{Plain, answered, call_of, control_of, first_process, with_control, with_files, with_table, last_pid}
 use Rattle.posix_defs.specs.Files.State.{Files}
@@ -32,7 +32,7 @@ use Rattle.kern_laws.proofs.LivingVictim.{victim_lives}
 use Rattle.answer_laws.specs.Shapes as shape
 use Rattle.answer_laws.specs.Shapes.{HasShape}
 use Rattle.answer_laws.proofs.Shapes.{machine_shape}
-use Rattle.kern_laws.proofs.Remembering.{moves_on, remembers_on}
+use Rattle.kern_laws.proofs.Remembering.{disposes_on, moves_on, remembers_on}
 use Rattle.kern_laws.proofs.TablePlaces.{was_made, same_in_front, in_longer, with_other, with_same, is_gone, each_changed}
 
 -- who is alive is there
@@ -413,6 +413,8 @@ by_shape script plain pid which given kept alive (shape.puts files memory reply 
     (files_lead plain (remembered (with_files plain files) pid memory) files (remembers_on (with_files plain files) pid memory (with_files_kept plain files kept))))
 by_shape script plain pid which given kept alive (shape.moves path directory of entered is) =
     subst (KeepsOn plain) (sym is) (replied_leads script plain (with_table plain (with_directory plain.table pid directory)) pid (Val (pos 0)) (moves_on plain pid directory kept))
+by_shape script plain pid which given kept alive (shape.disposes signal disposition ignores before of is) =
+    subst (KeepsOn plain) (sym is) (replied_leads script plain (with_table plain (with_ignores plain.table pid ignores)) pid (Val (pos before)) (disposes_on plain pid ignores kept))
 by_shape script plain pid which given kept alive (shape.parts files moved part is) =
     subst (KeepsOn plain) (sym is) (control_leads plain plain files pid (after_part (control_of (with_files plain files) pid) moved) (stays_put plain kept))
 by_shape script plain pid which given kept alive (shape.starts place is) =

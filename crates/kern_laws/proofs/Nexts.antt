@@ -9,7 +9,7 @@ use Rattle.kabi_types.specs.declared.replies.Reply.TheVariants.{Val, Waited, Fai
 use Rattle.kabi_types.specs.declared.scripts.Control.{Control}
 use Rattle.kabi_types.specs.declared.scripts.Script.{Script}
 use Rattle.posix_defs.specs.ByPid.{at_pid, with_pid}
-use Rattle.posix_defs.specs.Process.{Process, Table, Status, Alive, Ended, process_at, is_alive, is_alive_in, runs, with_directory, working_in}
+use Rattle.posix_defs.specs.Process.{Ignores, Process, Table, Status, Alive, Ended, ignoring, process_at, is_alive, is_alive_in, runs, with_directory, with_ignores, working_in}
 use Rattle.posix_defs.specs.Plain.{Plain, answered, control_of, last_pid, at_start, with_control, with_files, with_table}
 use Rattle.posix_defs.specs.Answer.{Answer, Blocked, Done, Part, failed, replied}
 use Rattle.posix_defs.specs.Answer as answer
@@ -26,7 +26,7 @@ use Rattle.answer_laws.specs.Shapes as shape
 use Rattle.answer_laws.specs.Shapes.{HasShape}
 use Rattle.answer_laws.proofs.Shapes.{machine_shape}
 use Rattle.kern_laws.proofs.Families.{still_alive}
-use Rattle.kern_laws.proofs.Remembering.{alive_still, alive_working, length-with_memory}
+use Rattle.kern_laws.proofs.Remembering.{alive_ignoring, alive_still, alive_working, length-with_memory}
 use Rattle.kern_laws.proofs.TablePlaces.{at_end, each_changed, in_longer, is_gone, same_in_front, was_made, with_other, with_same}
 
 -- The machine goes on behind a call of a process.
@@ -332,6 +332,18 @@ moved_next plain pid directory made = record {
   born = λ other past within. absurd (omega arith);
 }
 
+-- its caller ignores other signals
+disposed_next : (plain : Plain) (pid : ℕ) (ignores : Ignores) → length plain.table ≡ last_pid plain
+    → IsNext plain (with_table plain (with_ignores plain.table pid ignores)) pid
+disposed_next plain pid ignores made = record {
+  more = omega arith;
+  one = omega arith;
+  made = length-with_pid plain.table pid (ignoring ignores (process_at plain.table pid)) ∙ made;
+  controls = λ other apart within. refl;
+  revived = λ other within alive. sym (alive_ignoring plain.table pid other ignores) ∙ alive;
+  born = λ other past within. absurd (omega arith);
+}
+
 -- whatever has a shape goes so
 by_shape : (script : Script) (plain : Plain) (pid : ℕ) (which : Call) (given : Answer) → length plain.table ≡ last_pid plain → is_alive plain.table pid ≡ true
     → HasShape script plain pid which given → AnswerGoes plain pid given
@@ -345,6 +357,9 @@ by_shape script plain pid which given made alive (shape.puts files memory reply 
 by_shape script plain pid which given made alive (shape.moves path directory of entered is) =
     subst (AnswerGoes plain pid) (sym is) (replied_goes script plain (with_table plain (with_directory plain.table pid directory)) pid (Val (pos 0))
     (moved_next plain pid directory made) (alive_working plain.table pid pid directory ∙ alive))
+by_shape script plain pid which given made alive (shape.disposes signal disposition ignores before of is) =
+    subst (AnswerGoes plain pid) (sym is) (replied_goes script plain (with_table plain (with_ignores plain.table pid ignores)) pid (Val (pos before))
+    (disposed_next plain pid ignores made) (alive_ignoring plain.table pid pid ignores ∙ alive))
 by_shape script plain pid which given made alive (shape.parts files moved part is) =
     subst (AnswerGoes plain pid) (sym is) (
       controlled_next plain (with_files plain files) pid (after_part (control_of (with_files plain files) pid) moved)

@@ -1,10 +1,10 @@
--- Where a process has something else in memory, or works in another directory: who is there, whose child and how is as before.
+-- Where a process has something else in memory, works in another directory, or ignores other signals: who is there, whose child and how is as before.
 use Rattle.std.proofs.Common.{◌≡◌, ℕ, Option, None, Some, refl, ap, sym, ◌∙◌, length, inl, inr}
 use Rattle.posix_defs.specs.Family.{IsFamily, IsKept, LeadsOn}
 use Rattle.posix_defs.specs.Memory.{Memory}
 use Rattle.posix_defs.specs.MemoryCalls.{remembered}
 use Rattle.posix_defs.specs.Plain.{Plain, with_table}
-use Rattle.posix_defs.specs.Process.{Process, Table, process_at, is_alive, remembering, with_directory, with_memory, working_in}
+use Rattle.posix_defs.specs.Process.{Ignores, Process, Table, process_at, ignoring, is_alive, remembering, with_directory, with_ignores, with_memory, working_in}
 use Rattle.kern_laws.proofs.Kin.{KeepsKin, alive_kept, changed_family, changed_on, each, length-changed}
 
 -- what else than memory a process has
@@ -65,4 +65,19 @@ moves_on plain pid directory kept = record {
   family = changed_family (working_in directory) (working_kin directory) plain.table pid kept.family;
   counted = length-changed (working_in directory) (working_kin directory) plain.table pid ∙ kept.counted;
   goes_on = changed_on (working_in directory) (working_kin directory) plain.table pid;
+}
+
+-- ---- signals
+
+ignoring_kin : (ignores : Ignores) → KeepsKin (ignoring ignores)
+ignoring_kin ignores = record { none = refl; some = λ old. (record old { ignores = ignores }, refl, record { parent = refl; status = refl }) }
+
+pub alive_ignoring : (table : Table) (pid other : ℕ) (ignores : Ignores) → is_alive (with_ignores table pid ignores) other ≡ is_alive table other
+alive_ignoring table pid other ignores = alive_kept (ignoring ignores) (ignoring_kin ignores) table pid other
+
+pub disposes_on : (plain : Plain) (pid : ℕ) (ignores : Ignores) → IsKept plain → LeadsOn plain (with_table plain (with_ignores plain.table pid ignores))
+disposes_on plain pid ignores kept = record {
+  family = changed_family (ignoring ignores) (ignoring_kin ignores) plain.table pid kept.family;
+  counted = length-changed (ignoring ignores) (ignoring_kin ignores) plain.table pid ∙ kept.counted;
+  goes_on = changed_on (ignoring ignores) (ignoring_kin ignores) plain.table pid;
 }

@@ -125,6 +125,7 @@ part_costs script old next pid moved some within is = go (machine_shape script o
     go (shape.tells files reply said e) = absurd (done_no_part _ _ moved next (sym e ∙ is))
     go (shape.puts files memory reply said put e) = absurd (done_no_part _ _ moved next (sym e ∙ is))
     go (shape.moves path directory of entered e) = absurd (done_no_part _ _ moved next (sym e ∙ is))
+    go (shape.disposes signal disposition ignores before of e) = absurd (done_no_part _ _ moved next (sym e ∙ is))
     go (shape.parts files k part e) =
         further_on part.fd part.addr part.n part.done k files part.which (same_part k moved (with_control (with_files old files) pid (after_part (control_of old pid) k)) next (sym e ∙ is))
     go (shape.starts place e) = absurd (done_no_part _ _ moved next (sym e ∙ is))

@@ -2,13 +2,13 @@
 use Rattle.std.specs.Prelude.{ℕ, List, [], ◌∷◌, Option, None, Some}
 use Rattle.kabi_types.specs.declared.classes.Weight.{Weight}
 use Rattle.posix_defs.specs.Memory.{no_memory}
-use Rattle.posix_defs.specs.Process.{Table, Process, Status, Alive, Ended}
+use Rattle.posix_defs.specs.Process.{Table, Process, Status, Alive, Ended, ignores_both}
 use Rattle.posix_defs.specs.Plain.{Plain}
 use Rattle.posix_defs.specs.Files.State.{boot_files}
 
 -- a process with this parent, in this directory, without memory
 abbrev pub member : ℕ → ℕ → Status → Option Process
-member parent directory status = Some (record { parent = parent; directory = directory; status = status; memory = no_memory })
+member parent directory status = Some (record { parent = parent; directory = directory; status = status; memory = no_memory; ignores = ignores_both })
 
 -- process 2 has a child that runs, 3, and one that has ended, 4; process 5 is a child of process 3, and 6 was waited for
 abbrev pub family : Table

@@ -28,7 +28,7 @@ use Rattle.answer_laws.specs.Shapes.{HasShape}
 use Rattle.answer_laws.proofs.Shapes.{machine_shape}
 use Rattle.kern_laws.proofs.Families.{still_alive}
 use Rattle.kern_laws.proofs.Nexts.{reaped_keeps}
-use Rattle.kern_laws.proofs.Remembering.{alive_still, alive_working}
+use Rattle.kern_laws.proofs.Remembering.{alive_ignoring, alive_still, alive_working}
 use Rattle.kern_laws.proofs.Tasks.{each_with, found_fits}
 use Rattle.kern_tasks.specs.Calm.{is_kill, is_over, may_end}
 
@@ -46,6 +46,7 @@ by_shape script plain pid which given calm (shape.fails errno apart is) = subst 
 by_shape script plain pid which given calm (shape.tells files reply said is) = subst (Stays plain) (sym is) (λ other alive. alive)
 by_shape script plain pid which given calm (shape.puts files memory reply said put is) = subst (Stays plain) (sym is) (λ other alive. alive_still plain.table pid other memory ∙ alive)
 by_shape script plain pid which given calm (shape.moves path directory of entered is) = subst (Stays plain) (sym is) (λ other alive. alive_working plain.table pid other directory ∙ alive)
+by_shape script plain pid which given calm (shape.disposes signal disposition ignores before of is) = subst (Stays plain) (sym is) (λ other alive. alive_ignoring plain.table pid other ignores ∙ alive)
 by_shape script plain pid which given calm (shape.parts files moved part is) = subst (Stays plain) (sym is) (λ other alive. alive)
 by_shape script plain pid which given calm (shape.starts place is) = subst (Stays plain) (sym is) (λ other alive. alive_still plain.table pid other no_memory ∙ alive)
 by_shape script plain pid which given calm (shape.forks is) = subst (Stays plain) (sym is) (λ other alive. still_alive plain.table (child_of pid (process_at plain.table pid)) other alive)

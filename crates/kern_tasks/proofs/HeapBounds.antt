@@ -17,6 +17,7 @@ little_slack (call.Dup2 _ _) = lit≤ tt
 little_slack (call.Exec _) = lit≤ tt
 little_slack (call.Exit _) = lit≤ tt
 little_slack (call.Kill _ _) = lit≤ tt
+little_slack (call.Write _ _ _ _) = lit≤ tt
 little_slack _ = lit≤ tt
 
 -- between events, what is in use, the reserve, and what is reserved for calls

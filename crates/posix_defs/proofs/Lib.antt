@@ -1,3 +1,4 @@
 pub mod TreeNodes
 pub mod ListedNodes
 pub mod PriceLemmas
+pub mod SignalLemmas
