@@ -10,9 +10,9 @@ use Rattle.kheap_slabs.specs.Heap.{Heap}
 use Rattle.posix_defs.specs.ByPid.{with_pid}
 use Rattle.posix_defs.specs.Ending as ending
 use Rattle.posix_defs.specs.Memory.{Memory, no_memory}
-use Rattle.posix_defs.specs.Process.{Table, Process, how_many, is_there, process_at, remembering, with_memory}
+use Rattle.posix_defs.specs.Process.{Ignores, Table, Process, how_many, ignoring, is_there, process_at, remembering, with_ignores, with_memory}
 use Rattle.posix_defs.specs.Waiting.{Exited, any_from, exited_from, has_ended, is_asked_for, wait_status}
-use Rattle.proc_table.specs.Changes.{is_other, with_nodes, left_behind, left_child, is_wanted, exited, told_of, reaped_of, is_alone}
+use Rattle.proc_table.specs.Changes.{is_other, replaced, with_nodes, left_behind, left_child, is_wanted, exited, told_of, reaped_of, is_alone}
 use Rattle.proc_table.specs.Procs.{memory_at, process_of, proc_of, status_of}
 use Rattle.proc_table.specs.Standing.{AreFrom, nobody, gone, there, found_in, ends_alone}
 use Rattle.proc_table.proofs.OwnLemmas.{all_by, all_weaker}
@@ -213,6 +213,32 @@ left_one h pid status proc empty = by_pid (proc.pid == pid) refl
         ≡ option_map (process_of h) (cond b (Some (record proc { status = Some status })) (cond (proc.parent == pid) (left_child proc.status proc) (Some proc)))
     by_pid true own = ap (λ m. Some (record (process_of h (record proc { status = Some status })) { memory = m })) (sym (empty (eqb_is proc.pid pid own)))
     by_pid false own = by_parent (proc.parent == pid)
+
+-- one process ignores others now
+pub disposes_is : (old new : Heap) (table : Table) (procs : List Proc) (pid : ℕ) (was now : Proc) (ignores : Ignores) → AreFrom old 1 table procs → now.pid ≡ pid
+    → ((proc : Proc) → process_of new proc ≡ process_of old proc) → process_of new now ≡ record (process_of old was) { ignores = ignores }
+    → AllByRecursion (λ proc. proc.pid ≡ pid → proc ≡ was) procs → AreFrom new 1 (with_ignores table pid ignores) (map (replaced pid now) procs)
+disposes_is old new table procs pid was now ignores are own same becomes only =
+    subst (AreFrom new 1 (with_ignores table pid ignores)) (all_changed (replaced pid now) procs)
+    (subst (λ t. AreFrom new 1 t (filter_map (λ proc. Some (replaced pid now proc)) procs))
+    (each_is pid (ignoring ignores) (λ o. o) table ∙ ap (λ t. with_pid t pid (ignoring ignores (process_at table pid))) (map_same table))
+    (from_each are new (one_of pid (ignoring ignores) (λ o. o)) (λ proc. Some (replaced pid now proc)) (λ q. none (q == pid))
+    (all_weaker (λ proc. proc.pid ≡ pid → proc ≡ was) (Agrees old new (one_of pid (ignoring ignores) (λ o. o)) (λ proc. Some (replaced pid now proc))) procs
+    (λ proc it. one proc it (proc.pid == pid) refl) only)
+    (λ proc next is. ap (λ p. p.pid) (sym (some_same (Some next) (replaced pid now proc) next (sym is) refl)) ∙ pid_by proc (proc.pid == pid) refl)))
+  where
+    none : (b : Bool) → cond {A = Option Process} b (ignoring ignores None) None ≡ None
+    none true = refl
+    none false = refl
+
+    pid_by : (proc : Proc) (b : Bool) → (proc.pid == pid) ≡ b → (cond b now proc).pid ≡ proc.pid
+    pid_by proc true e = own ∙ sym (eqb_is proc.pid pid e)
+    pid_by proc false e = refl
+
+    one : (proc : Proc) → (proc.pid ≡ pid → proc ≡ was) → (b : Bool) → (proc.pid == pid) ≡ b
+        → cond b (Some (record (process_of old proc) { ignores = ignores })) (Some (process_of old proc)) ≡ Some (process_of new (cond b now proc))
+    one proc it true e = ap (λ p. Some (record (process_of old p) { ignores = ignores })) (it (eqb_is proc.pid pid e)) ∙ sym (ap Some becomes)
+    one proc it false e = sym (ap Some (same proc))
 
 pub left_pid : (pid status : ℕ) (proc now : Proc) → left_behind pid status proc ≡ Some now → now.pid ≡ proc.pid
 left_pid pid status proc now is = by_pid (proc.pid == pid) is

@@ -19,17 +19,17 @@ use Rattle.posix_defs.specs.Ending.{die_in, leaves}
 use Rattle.posix_defs.specs.Forking.{fork, greatest_pid, is_full, most_processes, with_child}
 use Rattle.posix_defs.specs.Memory.{Frames, Memory}
 use Rattle.posix_defs.specs.Plain.{Plain, last_pid}
-use Rattle.posix_defs.specs.Process.{Table, is_there, process_at, with_memory}
+use Rattle.posix_defs.specs.Process.{Ignores, Table, ignoring, is_there, process_at, with_ignores, with_memory}
 use Rattle.posix_defs.specs.Waiting.{Exited, any_from, exited_from, waited_for, waitpid}
 use Rattle.proc_table.specs.Accounting.{HasAccount, IsPlaced}
 use Rattle.proc_table.specs.Changes.{forked_as, is_full_at, is_other, reaped_as, replaced, with_nodes}
 use Rattle.proc_table.specs.Moves.{MemoryStays, ProcTurns, SpaceTurns, TableMoves}
-use Rattle.proc_table.specs.Procs.{IsLight, proc_of, process_of}
+use Rattle.proc_table.specs.Procs.{IsLight, ignored_by, proc_of, process_of}
 use Rattle.proc_table.specs.Standing.{AreFrom, IsTable, answered_fork, answered_wait, ends_in, found_in}
 use Rattle.proc_table.specs.Table.{AreStored, Holds, TableView, places_kept, processes, procs_at, with_procs}
 use Rattle.proc_table.specs.declared.places.Place.{Place}
 use Rattle.proc_table.proofs.AccountLemmas.{all_both, becomes_account, turned_account}
-use Rattle.proc_table.proofs.FamilyLemmas.{as_many, changed_table, length-with_memory, remembers_is, same_table}
+use Rattle.proc_table.proofs.FamilyLemmas.{as_many, changed_table, disposes_is, length-with_memory, length-with_pid, remembers_is, same_table}
 use Rattle.proc_table.proofs.HoldLemmas.{Becomes, becomes-moves, becomes-procs, content_kept, memory_kept}
 use Rattle.proc_table.proofs.MemoryLemmas.{memory_at-is, memory_at-same, others_same, process_of-same, processes_same}
 use Rattle.proc_table.proofs.OwnLemmas.{AreRising, all_weaker, rising_procs}
@@ -177,8 +177,23 @@ module _ (old new : Heap) (kept : TableView) (pid key : ℕ) (proc now : Proc) (
       (λ p only is. absurd (let none : Some (replaced pid now p) ≡ None = is in cc)) all_only
       (on-procs ∙ sym (all_changed (replaced pid now) (processes old kept))) refl (ap (λ (h : Heap). h.nodes) turns.after) (ap (λ (h : Heap). h.pages) turns.after) has
 
-  pub on-table : (table : Table) → now.cwd ≡ proc.cwd → IsTable old kept table → IsTable new kept table
-  on-table table stays is = record {
+  in_heap : (p : Proc) → process_of new p ≡ process_of old p
+  in_heap p = process_of-same old new p (λ page. content_kept old new p.nodes page (ap (λ (h : Heap). h.nodes) turns.after) (ap (λ (h : Heap). h.pages) turns.after))
+
+  -- what it is to the machine, where it works where it did
+  becomes : now.cwd ≡ proc.cwd → process_of new now ≡ record (process_of old proc) { ignores = ignored_by now }
+  becomes stays = in_heap now ∙ ap (process_of old) turns.same ∙ ap (λ (cwd : ℕ). record (process_of old proc) { directory = cwd; ignores = ignored_by now }) stays
+
+  pub on-disposed : (table : Table) → now.cwd ≡ proc.cwd → IsTable old kept table → IsTable new kept (with_ignores table pid (ignored_by now))
+  on-disposed table stays is = record {
+    present = subst (AreFrom new 1 (with_ignores table pid (ignored_by now))) (sym on-procs)
+        (disposes_is old new table (processes old kept) pid proc now (ignored_by now) is.present (pid_now ∙ has_pid) in_heap (becomes stays)
+        (all_weaker Only (λ p. p.pid ≡ pid → p ≡ proc) (processes old kept) (λ p only. only.1) all_only));
+    made = length-with_pid table pid (ignoring (ignored_by now) (process_at table pid)) ∙ is.made;
+  }
+
+  pub on-table : (table : Table) → now.cwd ≡ proc.cwd → ignored_by now ≡ ignored_by proc → IsTable old kept table → IsTable new kept table
+  on-table table stays ignores is = record {
     present = subst (AreFrom new 1 table) (sym on-procs)
         (changed_table is.present new (replaced pid now)
         (all_weaker Only (λ p. (process_of new (replaced pid now p) ≡ process_of old p) × ((replaced pid now p).pid ≡ p.pid)) (processes old kept)
@@ -186,12 +201,9 @@ module _ (old new : Heap) (kept : TableView) (pid key : ℕ) (proc now : Proc) (
     made = is.made;
   }
     where
-      in_heap : (p : Proc) → process_of new p ≡ process_of old p
-      in_heap p = process_of-same old new p (λ page. content_kept old new p.nodes page (ap (λ (h : Heap). h.nodes) turns.after) (ap (λ (h : Heap). h.pages) turns.after))
-
       process_by : (p : Proc) → Only p → (b : Bool) → (p.pid == pid) ≡ b → process_of new (cond b now p) ≡ process_of old p
       process_by p only true own =
-          in_heap now ∙ ap (process_of old) turns.same ∙ ap (λ (cwd : ℕ). process_of old (record proc { cwd = cwd })) stays ∙ ap (process_of old) (sym (only.1 (eqb_is p.pid pid own)))
+          becomes stays ∙ ap (λ (it : Ignores). record (process_of old proc) { ignores = it }) ignores ∙ ap (process_of old) (sym (only.1 (eqb_is p.pid pid own)))
       process_by p only false own = in_heap p
 
 -- The heap changes elsewhere.

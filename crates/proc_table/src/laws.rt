@@ -17,7 +17,7 @@ ghost use Rattle.posix_defs.specs.Files.State.{Files, boot_files, with_heir};
 ghost use Rattle.posix_defs.specs.Forking.{fork};
 ghost use Rattle.posix_defs.specs.Memory.{Frames, Memory};
 ghost use Rattle.posix_defs.specs.Plain.{Plain, last_pid};
-ghost use Rattle.posix_defs.specs.Process.{Table, is_there, process_at, with_memory};
+ghost use Rattle.posix_defs.specs.Process.{Table, is_there, process_at, with_ignores, with_memory};
 ghost use Rattle.posix_defs.specs.Waiting.{waitpid};
 ghost use Rattle.proc_table.specs.Accounting.{HasAccount};
 ghost use Rattle.open_laws.specs.Sharing.{CanShare, share_all};
@@ -70,8 +70,8 @@ pub fn a_space_comes_back()
         → AccountMoves old mid proc.nodes now has.number before after pid → HasAccount new kept after }
 {}
 
-/// A process's control, its working directory or what it ignores may become another: the table holds, all others are as they were, and memory and
-/// account are the same.
+/// A process's control, its working directory or what it ignores may become another: the table holds, all others are as they were, and
+/// memory and account are the same.
 pub fn a_process_goes_on()
     ensures procs { (old : Heap) (new : Heap) (kept : TableView) (pid : ℕ) (key : ℕ) (proc : Proc) (now : Proc)
         → Holds old kept → ProcTurns old new kept pid key proc now
@@ -81,6 +81,9 @@ pub fn a_process_goes_on()
     ensures table { (old : Heap) (new : Heap) (kept : TableView) (pid : ℕ) (key : ℕ) (proc : Proc) (now : Proc) (table : Table)
         → Holds old kept → ProcTurns old new kept pid key proc now → now.cwd ≡ proc.cwd → ignored_by now ≡ ignored_by proc
         → IsTable old kept table → IsTable new kept table }
+    ensures disposed { (old : Heap) (new : Heap) (kept : TableView) (pid : ℕ) (key : ℕ) (proc : Proc) (now : Proc) (table : Table)
+        → Holds old kept → ProcTurns old new kept pid key proc now → now.cwd ≡ proc.cwd
+        → IsTable old kept table → IsTable new kept (with_ignores table pid (ignored_by now)) }
     ensures account { (old : Heap) (new : Heap) (kept : TableView) (pid : ℕ) (key : ℕ) (proc : Proc) (now : Proc) (frames : Frames)
         → Holds old kept → ProcTurns old new kept pid key proc now → HasAccount old kept frames → HasAccount new kept frames }
 {}

@@ -389,7 +389,7 @@ module _ (script : Script) (old mid moved pinned : Objects) (pid child directory
       let family = kept_by script old world (with_child script plain pid) pid call.Fork (Val (pos child)) stands alive answers in
       let on : IsTable moved.heap moved.procs (with_child script plain pid).table =
       subst (λ k. IsTable moved.heap k (with_child script plain pid).table) (sym turned.same)
-      (on-table mid.heap moved.heap mid.procs child turned.key turned.proc further mid_kept.holds turned.turns (with_child script plain pid).table refl table) in
+      (on-table mid.heap moved.heap mid.procs child turned.key turned.proc further mid_kept.holds turned.turns (with_child script plain pid).table refl refl table) in
       let is = pinned_table moved pinned only (with_child script plain pid).table on in
       let files = pinned_files moved pinned only (with_heir plain.files pid) (forked_world script world pid).account
       (files_moved mid moved (with_heir plain.files pid) (with_heir plain.files pid) (forked_world script world pid).account (forked_world script world pid).account

@@ -335,7 +335,7 @@ module _ (heap disk : ℕ) (control : Control) (rooted : Heap) (fs : TreeView) (
     first = first;
     last = ap (λ t. t.last) turned.same ∙ last;
     table = subst (λ k. IsTable new.heap k (Some first_process ∷ [])) (sym turned.same)
-        (on-table mid.heap new.heap mid.procs 1 turned.key turned.proc now made.holds turned.turns (Some first_process ∷ []) refl table);
+        (on-table mid.heap new.heap mid.procs 1 turned.key turned.proc now made.holds turned.turns (Some first_process ∷ []) refl refl table);
     account = subst (λ k. HasAccount new.heap k boot_frames) (sym turned.same)
         (on-account mid.heap new.heap mid.procs 1 turned.key turned.proc now made.holds turned.turns boot_frames (account no_pages));
   }

@@ -184,7 +184,7 @@ goes_to script old new world pid then control stands moves at rests leads = reco
   kept = kept_moved script old new pid control stands.kept moves at rests;
   processes = record {
     table = subst (λ k. IsTable new.heap k world.plain.table) (sym moves.same)
-        (on-table old.heap new.heap old.procs pid moves.key moves.proc now stands.kept.holds moves.turns world.plain.table refl stands.processes.table);
+        (on-table old.heap new.heap old.procs pid moves.key moves.proc now stands.kept.holds moves.turns world.plain.table refl refl stands.processes.table);
     last = ap (λ k. k.last) moves.same ∙ stands.processes.last ∙ sym (length-with world.plain.controls pid then);
     controls = controls;
   };
