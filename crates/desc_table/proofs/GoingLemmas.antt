@@ -7,7 +7,7 @@ use Rattle.open_laws.specs.Owned.{HasItsOwners, all_namings, desc_count, desc_co
 use Rattle.open_laws.proofs.GoingLemmas.{droppable}
 use Rattle.open_laws.proofs.OwnerLemmas.{owners_dropped, owners_shared}
 use Rattle.open_laws.proofs.ShareLemmas.{owners_all}
-use Rattle.desc_table.specs.Going.{AreAlike, Goes, begins, closes, dups, forks, times}
+use Rattle.desc_table.specs.Going.{AreAlike, Goes, begins, closes, dups, forks}
 
 -- the order of what is in hand says nothing
 pub owners_alike : (h : Heap) (hand others : List ℕ) → AreAlike hand others → HasItsOwners h hand → HasItsOwners h others
