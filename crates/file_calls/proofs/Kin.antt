@@ -10,7 +10,7 @@ use Rattle.kern_laws.proofs.Remembering.{remembers_family}
 use Rattle.posix_defs.specs.Answer.{Answer, replied}
 use Rattle.posix_defs.specs.Calls.Opened.{Opened, answer_on, if_readable, if_writable, opened_at}
 use Rattle.posix_defs.specs.Calls.Reading.{is_directory_target, list_target, of_bytes, pread, pread_target, put, read, read_from_pipe, read_from_socket, read_target, readdir, unless_directory}
-use Rattle.posix_defs.specs.Calls.Writing.{bytes_left, did_part, place_of_write, put_in_pipe, put_in_socket, pwrite, pwrite_target, write, write_queue, write_target, wrote, wrote_at}
+use Rattle.posix_defs.specs.Calls.Writing.{bytes_left, did_part, place_of_write, put_in_pipe, put_in_socket, pwrite, pwrite_target, write_ignoring, write_queue, write_target, wrote, wrote_at}
 use Rattle.posix_defs.specs.Files.Descriptions.{Target, OnNode, OnPipe, OnSocket, at_offset, may_read, may_write}
 use Rattle.posix_defs.specs.Files.State.{Files, described_as, pipe_at, with_pipe, with_sockets, with_tree}
 use Rattle.posix_defs.specs.Memory.{Memory, is_mapped_range, stored}
@@ -151,8 +151,8 @@ module _ (script : Script) (plain : Plain) (pid : ℕ) where
       (to_queue opened.is.nonblock n done (put_in_socket plain.files place (bytes_left plain pid addr n done)) (sock_write plain.files.sockets place opened.is.nonblock (n - done)))
       (tells (Fail ENOTCONN))
 
-  pub write_kin : (fd addr n : ℤ) (done : ℕ) → Left (write script plain pid fd addr n done)
-  unfolding write
+  pub write_kin : (fd addr n : ℤ) (done : ℕ) → Left (write_ignoring script plain pid fd addr n done)
+  unfolding write_ignoring
   write_kin fd addr n done = by_opened (opened_at plain.files pid fd)
     where
       by_opened : (o : Option Opened)

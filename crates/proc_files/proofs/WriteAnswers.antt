@@ -12,7 +12,7 @@ use Rattle.posix_defs.specs.Answer.{Answer, failed, replied}
 use Rattle.posix_defs.specs.Calls.OnFiles.{ftruncate, resized_to, truncate_target}
 use Rattle.posix_defs.specs.Calls.Opened.{Opened, answer_on, if_writable, opened_at}
 use Rattle.posix_defs.specs.Calls.Reading.{of_bytes}
-use Rattle.posix_defs.specs.Calls.Writing.{bytes_left, pwrite, pwrite_target, write, write_file, write_target, wrote_at}
+use Rattle.posix_defs.specs.Calls.Writing.{bytes_left, pwrite, pwrite_target, write_ignoring, write_file, write_target, wrote_at}
 use Rattle.posix_defs.specs.Files.Descriptions.{may_write}
 use Rattle.posix_defs.specs.Plain.{Plain}
 use Rattle.posix_defs.specs.Tree.{is_directory}
@@ -29,8 +29,8 @@ module _ (script : Script) (numbers : Numbers) (plain : Plain) (pid : ℕ) (fd a
   abbrev of_write : Opened → Answer
   of_write opened = of_bytes script plain pid addr n (write_target script plain pid opened addr (count_of n) 0 opened.is.target)
 
-  pub write_closed : opened_at plain.files pid fd ≡ None → write script plain pid fd addr n 0 ≡ failed script plain pid EBADF
-  unfolding write
+  pub write_closed : opened_at plain.files pid fd ≡ None → write_ignoring script plain pid fd addr n 0 ≡ failed script plain pid EBADF
+  unfolding write_ignoring
   write_closed none = isnt_open script numbers plain pid fd of_write (λ opened. if_writable script plain pid opened (of_write opened)) none
 
   abbrev of_pwrite : ℤ → Opened → Answer
@@ -41,13 +41,13 @@ module _ (script : Script) (numbers : Numbers) (plain : Plain) (pid : ℕ) (fd a
   pwrite_closed at none = isnt_open script numbers plain pid fd (of_pwrite at) (λ opened. if_writable script plain pid opened (of_pwrite at opened)) none
 
   module _ (it : Found) (found : opened_at plain.files pid fd ≡ Some (opened_in numbers it)) where
-    pub write_denied : may_write (access_in it.desc.access) ≡ false → write script plain pid fd addr n 0 ≡ failed script plain pid EBADF
-    unfolding write
+    pub write_denied : may_write (access_in it.desc.access) ≡ false → write_ignoring script plain pid fd addr n 0 ≡ failed script plain pid EBADF
+    unfolding write_ignoring
     write_denied denied = may_be_written script numbers plain pid fd of_write it found false denied
 
     write_is : may_write (access_in it.desc.access) ≡ true
-        → write script plain pid fd addr n 0 ≡ of_bytes script plain pid addr n (write_target script plain pid (opened_in numbers it) addr (count_of n) 0 (target_in numbers it.desc.target))
-    unfolding write
+        → write_ignoring script plain pid fd addr n 0 ≡ of_bytes script plain pid addr n (write_target script plain pid (opened_in numbers it) addr (count_of n) 0 (target_in numbers it.desc.target))
+    unfolding write_ignoring
     write_is may = may_be_written script numbers plain pid fd of_write it found true may
 
     pub pwrite_denied : (at : ℤ) → may_write (access_in it.desc.access) ≡ false → pwrite script plain pid fd addr n at ≡ failed script plain pid EBADF
@@ -71,19 +71,19 @@ module _ (script : Script) (numbers : Numbers) (plain : Plain) (pid : ℕ) (fd a
       writes = write_file script plain pid (opened_in numbers it) node (bytes_left plain pid addr (count_of n) 0)
 
       write_so : (mapped none : Bool) → may_write (access_in it.desc.access) ≡ true → mapped_so ≡ mapped → (count_of n == 0) ≡ none
-          → write script plain pid fd addr n 0 ≡ by_tests script plain pid EISDIR writes false mapped none
+          → write_ignoring script plain pid fd addr n 0 ≡ by_tests script plain pid EISDIR writes false mapped none
       write_so mapped none may q r =
           write_is may ∙ ap (λ what. of_bytes script plain pid addr n (write_target script plain pid (opened_in numbers it) addr (count_of n) 0 (target_in numbers what))) on
           ∙ three (by_tests script plain pid EISDIR writes) false mapped_so (count_of n == 0) false mapped none refl q r
 
-      pub write_unmapped : may_write (access_in it.desc.access) ≡ true → mapped_so ≡ false → write script plain pid fd addr n 0 ≡ failed script plain pid EFAULT
+      pub write_unmapped : may_write (access_in it.desc.access) ≡ true → mapped_so ≡ false → write_ignoring script plain pid fd addr n 0 ≡ failed script plain pid EFAULT
       write_unmapped may unmapped = write_so false (count_of n == 0) may unmapped refl
 
-      pub write_nothing : may_write (access_in it.desc.access) ≡ true → mapped_so ≡ true → count_of n ≡ 0 → write script plain pid fd addr n 0 ≡ replied script plain pid (Val (pos 0))
+      pub write_nothing : may_write (access_in it.desc.access) ≡ true → mapped_so ≡ true → count_of n ≡ 0 → write_ignoring script plain pid fd addr n 0 ≡ replied script plain pid (Val (pos 0))
       write_nothing may mapped none = write_so true true may mapped (eq-eqb (count_of n) 0 none)
 
       pub write_goes : may_write (access_in it.desc.access) ≡ true → mapped_so ≡ true → count_of n ≢ 0
-          → write script plain pid fd addr n 0 ≡ write_file script plain pid (opened_in numbers it) node (bytes_left plain pid addr (count_of n) 0)
+          → write_ignoring script plain pid fd addr n 0 ≡ write_file script plain pid (opened_in numbers it) node (bytes_left plain pid addr (count_of n) 0)
       write_goes may mapped some = write_so true false may mapped (ne_eqb (count_of n) 0 some)
 
       module _ (at : ℤ) where

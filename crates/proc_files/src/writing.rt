@@ -12,7 +12,7 @@ ghost use Rattle.page_space.specs.Contents.{IsOwnedWith, StandsFor as IsMemory};
 ghost use Rattle.page_space.specs.Entries.{IsMappedRange};
 ghost use Rattle.open_laws.specs.Placed.{Numbers};
 ghost use Rattle.posix_defs.specs.Account.{Account};
-ghost use Rattle.posix_defs.specs.Calls.Writing.{pwrite, write};
+ghost use Rattle.posix_defs.specs.Calls.Writing.{pwrite, write_ignoring};
 ghost use Rattle.posix_defs.specs.Memory.{Memory, loaded};
 ghost use Rattle.posix_defs.specs.Plain.{Plain};
 ghost use Rattle.posix_defs.specs.Tree.{Tree, size_at};
@@ -62,7 +62,7 @@ pub fn write_file(
         → StandsFor numbers heap.old procs.now plain account
         → HoldFiles numbers others heap.old procs.now tree.old plain.files
         → LeadsHolding script numbers others heap.new procs.now tree.new plain account place.pid (Call.Write on.now.fd addr n 0)
-        (write script plain place.pid on.now.fd addr n 0) (value_of result) }
+        (write_ignoring script plain place.pid on.now.fd addr n 0) (value_of result) }
     ensures kept { IsKept heap.new procs.now }
     ensures beside { heap.new ≡ record heap.old {
       descs = heap.new.descs;

@@ -48,3 +48,4 @@ pub mod StillUsed
 pub mod EndLemmas
 pub mod ReadCall
 pub mod WriteCall
+pub mod Breaking

@@ -1,5 +1,5 @@
 -- What a write to a socket leads to.
-use Rattle.std.proofs.Common.{◌≡◌, ◌⊎◌, ℕ, ◌+◌, ◌-◌, ◌<◌, ◌≤◌, ◌==◌, ◌++◌, Bool, true, false, cond, min, leb, ℤ, pos, List, [], take, length, Option, None, Some, IsSome, refl, ap, sym, subst, ◌∙◌, arith, ne_eqb, inl, inr}
+use Rattle.std.proofs.Common.{◌≡◌, ◌⊎◌, ℕ, ◌+◌, ◌-◌, ◌<◌, ◌≤◌, ◌==◌, ◌||◌, ◌++◌, Bool, true, false, cond, min, leb, ℤ, pos, List, [], take, length, Option, None, Some, IsSome, refl, ap, sym, subst, ◌∙◌, arith, ne_eqb, inl, inr}
 use Rattle.std.specs.Option.{option_map}
 use Rattle.std.proofs.lemmas.Bool.{cases_eq}
 use Rattle.std.proofs.lemmas.Bool.Decides.{leb_tells}
@@ -19,7 +19,7 @@ use Rattle.open_laws.proofs.SocketLemmas.{placed_at, placed_stage}
 use Rattle.open_laws.specs.Placed.{Numbers}
 use Rattle.posix_defs.specs.Account.{Account, account_on}
 use Rattle.posix_defs.specs.Answer.{Blocked, failed, replied}
-use Rattle.posix_defs.specs.Calls.Writing.{did_part, put_in_queue, put_in_socket, stopped, write, write_queue}
+use Rattle.posix_defs.specs.Calls.Writing.{did_part, is_unread_in, put_in_queue, put_in_socket, stopped, write_queue}
 use Rattle.posix_defs.specs.Files.State.{with_sockets}
 use Rattle.posix_defs.specs.Memory.{Memory, byte_at, loaded}
 use Rattle.posix_defs.specs.Pipe.{Moving, Moves, Blocks, Fails, not_now}
@@ -27,7 +27,7 @@ use Rattle.posix_defs.specs.Plain.{Plain, with_files}
 use Rattle.posix_defs.specs.QueuePlace.{QueuePlace}
 use Rattle.posix_defs.specs.Socket.{Connected, Idle, Listening, Socket, Stage, is_connected, is_shut_read, peer_of}
 use Rattle.posix_defs.specs.SocketLinks.{AreLinked}
-use Rattle.posix_defs.specs.Sockets.{Sockets, after_write, free_at, sent_to, sock_at, sock_write, socket_at, stage_at, write_in_stage, write_to, write_within}
+use Rattle.posix_defs.specs.Sockets.{Sockets, after_write, free_at, reads_no_more, sent_to, sock_at, sock_write, socket_at, stage_at, write_in_stage, write_to, write_within}
 use Rattle.posix_defs.specs.Turn.{account_after}
 use Rattle.posix_defs.specs.declared.turner.Turned.{Turned}
 use Rattle.posix_defs.specs.declared.turner.Turned.TheVariants as turned
@@ -99,6 +99,21 @@ module _ (number : ℕ → ℕ) (keyed sockets : Sockets) (key : ℕ) (linked : 
       by_stage Idle is = refl
       by_stage (Listening waiting) is = refl
       by_stage (Connected peer shut_read shut_write) is = ap (cond shut_write (Fails EPIPE)) (takes peer (ap peer_of is))
+
+  -- whether anybody reads what is written is the same
+  pub unread_told : is_unread_in sockets (stage_at sockets (number key)) ≡ is_unread_in keyed (stage_at keyed key)
+  unread_told = ap (is_unread_in sockets) (placed_stage number keyed sockets key are used) ∙ by_stage (stage_at keyed key) refl
+    where
+      by_peer : (peer : Option ℕ) → peer_of (stage_at keyed key) ≡ peer → reads_no_more sockets (option_map number peer) ≡ reads_no_more keyed peer
+      by_peer None is = refl
+      by_peer (Some peer) is =
+          ap (λ (s : Socket). is_shut_read s.stage) (placed_at number keyed sockets peer are (peer_there keyed key peer linked is))
+          ∙ is_shut_read-by number (stage_at keyed peer)
+
+      by_stage : (stage : Stage) → stage_at keyed key ≡ stage → is_unread_in sockets (stage_by number stage) ≡ is_unread_in keyed stage
+      by_stage Idle is = refl
+      by_stage (Listening waiting) is = refl
+      by_stage (Connected peer shut_read shut_write) is = ap (λ b. shut_write || b) (by_peer peer (ap peer_of is))
 
   -- who is there after it was there before
   pub write_there : (bytes : List ℕ) (k other : ℕ) → IsSome (sock_at (after_write keyed key bytes k) other) → IsSome (sock_at keyed other)

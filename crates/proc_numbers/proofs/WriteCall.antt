@@ -18,7 +18,7 @@ use Rattle.posix_defs.specs.Account.{Account}
 use Rattle.posix_defs.specs.Answer.{Answer, failed, replied}
 use Rattle.posix_defs.specs.Calls.Opened.{Opened, answer_on, if_writable, on_open}
 use Rattle.posix_defs.specs.Calls.Reading.{of_bytes}
-use Rattle.posix_defs.specs.Calls.Writing.{bytes_left, did_part, place_of_write, put_in_pipe, put_in_socket, write, write_queue, write_target, wrote}
+use Rattle.posix_defs.specs.Calls.Writing.{bytes_left, did_part, place_of_write, put_in_pipe, put_in_socket, write_ignoring, write_queue, write_target, wrote}
 use Rattle.posix_defs.specs.Files.State.{Files, pipe_at}
 use Rattle.posix_defs.specs.Machine.{blocks}
 use Rattle.posix_defs.specs.Memory.{is_mapped_range, loaded}
@@ -71,8 +71,8 @@ module _ (script : Script) (numbers : Numbers) (plain : Plain) (pid : ℕ) (fd a
   abbrev pub asked : Answer
   asked = on_open script plain pid fd (λ opened. if_writable script plain pid opened (of_opened opened))
 
-  pub write_asks : write script plain pid fd addr n done ≡ asked
-  unfolding write
+  pub write_asks : write_ignoring script plain pid fd addr n done ≡ asked
+  unfolding write_ignoring
   write_asks = refl
 
   -- the call, where the number is looked up as this one
@@ -123,7 +123,7 @@ module _ (script : Script) (numbers : Numbers) (plain : Plain) (pid : ℕ) (fd a
         subst (λ which. on_target (target.Sock key) ≡ of_bytes script plain pid addr n (of_end which (count_of n) (count_of addr))) (same_end (queue.Sock key) on e) refl
 
     by_range : (b : Bool) → is_mapped_range (memory_of plain.table pid) start v ≡ b
-        → write script plain pid fd addr n done ≡ cond b (cond (v == 0) (replied script plain pid (Val (pos 0))) (of_end on v (count_of addr))) (failed script plain pid EFAULT)
+        → write_ignoring script plain pid fd addr n done ≡ cond b (cond (v == 0) (replied script plain pid (Val (pos 0))) (of_end on v (count_of addr))) (failed script plain pid EFAULT)
     unfolding on_target
     by_range b tells =
         write_asks ∙ opens
@@ -132,17 +132,17 @@ module _ (script : Script) (numbers : Numbers) (plain : Plain) (pid : ℕ) (fd a
         (ap (is_mapped_range (memory_of plain.table pid) (count_of addr)) (sym v_is) ∙ sym (mapped_at (memory_of plain.table pid) start (count_of addr) v begins) ∙ tells)
         ∙ ap (λ m. cond b (cond (m == 0) (replied script plain pid (Val (pos 0))) (of_end on m (count_of addr))) (failed script plain pid EFAULT)) (sym v_is)
 
-    pub write_unmapped : is_mapped_range (memory_of plain.table pid) start v ≡ false → write script plain pid fd addr n done ≡ failed script plain pid EFAULT
+    pub write_unmapped : is_mapped_range (memory_of plain.table pid) start v ≡ false → write_ignoring script plain pid fd addr n done ≡ failed script plain pid EFAULT
     write_unmapped tells = by_range false tells
 
-    pub write_nothing : is_mapped_range (memory_of plain.table pid) start v ≡ true → v ≡ 0 → write script plain pid fd addr n done ≡ replied script plain pid (Val (pos 0))
+    pub write_nothing : is_mapped_range (memory_of plain.table pid) start v ≡ true → v ≡ 0 → write_ignoring script plain pid fd addr n done ≡ replied script plain pid (Val (pos 0))
     write_nothing tells none = by_range true tells ∙ ap (λ b. cond b (replied script plain pid (Val (pos 0))) (of_end on v (count_of addr))) (eq-eqb v 0 none)
 
     positive : (m : ℕ) → m ≢ 0 → 0 < m
     positive zero some = absurd (some refl)
     positive (suc m) some = omega arith
 
-    write_goes : is_mapped_range (memory_of plain.table pid) start v ≡ true → v ≢ 0 → write script plain pid fd addr n done ≡ of_end on v start
+    write_goes : is_mapped_range (memory_of plain.table pid) start v ≡ true → v ≢ 0 → write_ignoring script plain pid fd addr n done ≡ of_end on v start
     write_goes tells some =
         by_range true tells ∙ ap (λ b. cond b (replied script plain pid (Val (pos 0))) (of_end on v (count_of addr))) (ne_eqb v 0 some)
         ∙ ap (of_end on v) (sym (begins (positive v some)))
@@ -166,7 +166,7 @@ module _ (script : Script) (numbers : Numbers) (plain : Plain) (pid : ℕ) (fd a
       by_linked b is = ap (λ t. cond t (of_linked on v start) (failed script plain pid ENOTCONN)) is
 
       pub write_unlinked : is_mapped_range (memory_of plain.table pid) start v ≡ true → v ≢ 0 → (b : Bool) → ((behind : Behind on) → StandsBehind h on behind → b ≡ is_linked on behind) → b ≡ false
-          → write script plain pid fd addr n done ≡ failed script plain pid ENOTCONN
+          → write_ignoring script plain pid fd addr n done ≡ failed script plain pid ENOTCONN
       write_unlinked tells some b told is = write_goes tells some ∙ by_linked false (sym (linked_so on is_open b told) ∙ is)
 
       -- and what it tells of waiting
@@ -202,12 +202,12 @@ module _ (script : Script) (numbers : Numbers) (plain : Plain) (pid : ℕ) (fd a
 
       -- whether it would sleep
       pub write_sleeps : is_mapped_range (memory_of plain.table pid) start v ≡ true → v ≢ 0 → (b : Bool)
-          → ((behind : Behind on) → StandsBehind h on behind → b ≡ would_wait (write_of on behind nonblock v (v - done))) → b ≡ blocks (write script plain pid fd addr n done)
+          → ((behind : Behind on) → StandsBehind h on behind → b ≡ would_wait (write_of on behind nonblock v (v - done))) → b ≡ blocks (write_ignoring script plain pid fd addr n done)
       write_sleeps tells some b waits = waits_so on is_open b waits ∙ sym (ap blocks (write_goes tells some) ∙ end_blocks start)
 
       -- who needn't wait for the queue doesn't sleep, whatever is mapped
       pub write_flows : (b : Bool) → ((behind : Behind on) → StandsBehind h on behind → b ≡ would_wait (write_of on behind nonblock v (v - done))) → b ≡ false
-          → false ≡ blocks (write script plain pid fd addr n done)
+          → false ≡ blocks (write_ignoring script plain pid fd addr n done)
       write_flows b waits flows =
           sym (ap blocks (by_range (is_mapped_range (memory_of plain.table pid) start v) refl)
           ∙ calm script plain pid (is_mapped_range (memory_of plain.table pid) start v) (v == 0) (of_end on v (count_of addr)) (end_blocks (count_of addr) ∙ sym (waits_so on is_open b waits) ∙ flows))
@@ -219,7 +219,7 @@ module _ (script : Script) (numbers : Numbers) (plain : Plain) (pid : ℕ) (fd a
           → ((behind : Behind on) → StandsBehind h on behind
           → PutsIn h new on behind (loaded (memory_of plain.table pid) (start + done) (v - done)) (moved_in (write_of on behind nonblock v (v - done))))
           → ((behind : Behind on) → StandsBehind h on behind → UnlessMoves (write_of on behind nonblock v (v - done)) (new ≡ h))
-          → Leads script numbers new kept plain account pid (call.Write fd addr n done) (write script plain pid fd addr n done) told
+          → Leads script numbers new kept plain account pid (call.Write fd addr n done) (write_ignoring script plain pid fd addr n done) told
       unfolding moving_at put_at of_linked
       write_leads tells some b linked is_linked new is leaves told so puts refused =
           subst (λ answer. Leads script numbers new kept plain account pid (call.Write fd addr n done) answer told)
@@ -255,7 +255,7 @@ module _ (script : Script) (numbers : Numbers) (plain : Plain) (pid : ℕ) (fd a
 
   -- What it names is a node: that never blocks.
   module _ (found : Found) (none : end_of found.desc.target ≡ None) (opens : asked ≡ answer_on script plain pid of_opened (Some (opened_in numbers found))) where
-    pub node_flows : false ≡ blocks (write script plain pid fd addr n done)
+    pub node_flows : false ≡ blocks (write_ignoring script plain pid fd addr n done)
     node_flows = sym (ap blocks (write_asks ∙ opens) ∙ by_target found.desc.target none)
       where
         neither : (b : Bool) (one two : Answer) → blocks one ≡ false → blocks two ≡ false → blocks (cond b one two) ≡ false

@@ -186,7 +186,8 @@ pub fn write_breaks(
     requires there { IsPlaced procs.now place }
     requires opened { IsOpened heap.now procs.now place.pid on.now }
     requires right { moved_fault 0 addr n ≡ None }
-    ensures { (numbers : Numbers) (plain : Plain) (account : Account) → StandsFor numbers heap.now procs.now plain account
+    ensures { (script : Script) (numbers : Numbers) (plain : Plain) (account : Account)
+        → StandsFor numbers heap.now procs.now plain account
         → result ≡ is_broken plain place.pid addr n (opened_at plain.files place.pid on.now.fd) }
 {
     let Some(found) = on.writable() else {

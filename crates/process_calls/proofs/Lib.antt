@@ -20,3 +20,4 @@ pub mod RightNumbers
 pub mod Starts
 pub mod MemoryMoves
 pub mod WithRanges
+pub mod Signalling

@@ -3,7 +3,7 @@ use Rattle.std.proofs.Common.{◌≡◌, ◌≢◌, ℕ, ◌+◌, ◌<◌, ◌�
 use Rattle.std.proofs.lemmas.Bool.Decides.{nat_tests}
 use Rattle.std.specs.Int.{cast_unsigned}
 use Rattle.std.specs.Option.{option_and_then, option_map_or}
-use Rattle.kabi_types.specs.Arguments.{argument_fault, count_of, invalid_unless, is_from, is_number}
+use Rattle.kabi_types.specs.Arguments.{argument_fault, count_of, invalid_unless, is_from, is_sendable}
 use Rattle.kabi_types.specs.PathParts.{components}
 use Rattle.kabi_types.specs.declared.calls.Call.{Call}
 use Rattle.kabi_types.specs.declared.calls.Call.TheVariants as call
@@ -27,8 +27,9 @@ use Rattle.posix_defs.specs.Reaching.{IsLeft, ends_node, knows as knows_from, kn
 use Rattle.posix_defs.specs.World.{Kept, World}
 use Rattle.posix_defs.specs.declared.turner.Turned.{Turned}
 use Rattle.posix_defs.specs.declared.turner.Turned.TheVariants as turned
-use Rattle.proc_table.specs.Changes.{verdict}
-use Rattle.proc_table.specs.Procs.{IsAlive, proc_of, target_of}
+use Rattle.posix_defs.specs.Signals.{is_ignored}
+use Rattle.proc_table.specs.Changes.{is_ended_by, verdict}
+use Rattle.proc_table.specs.Procs.{IsAlive, ignored_by, proc_of, target_of}
 use Rattle.proc_table.specs.Standing.{IsTable, answered_by, pid_of}
 use Rattle.proc_table.proofs.FamilyLemmas.{proc_has_pid}
 use Rattle.proc_table.proofs.PlaceLemmas.{eqb_other, eqb_same}
@@ -165,22 +166,26 @@ pub record IsStruck (procs : List Proc) (target : ℤ) : Type 0 where
   pub alive : IsAlive procs (pid_of target)
   pub other : pid_of target ≢ 1
 
-runs_if : (told : Option ℕ) → true ≡ not (is_some told) → told ≡ None
-runs_if None e = refl
-runs_if (Some status) e = cc
-
 ok_same : (b : Bool) → ◌≡◌ {A = Result Bool Errno} (Ok true) (Ok b) → true ≡ b
 ok_same true e = refl
 ok_same false e = cc
 
+-- who is ended by a signal runs
+runs_then : (told : Option ℕ) (b : Bool) → true ≡ (not (is_some told) && b) → told ≡ None
+runs_then None b e = refl
+runs_then (Some status) b e = cc
+
 runs_by : (signal : ℤ) (proc : Proc) → Ok true ≡ verdict signal (Some proc) → (proc.status ≡ None) × (proc.pid ≢ 1)
 runs_by signal proc is = by_asking (is_asking signal) is
   where
-    by_first : (b : Bool) → (proc.pid == 1) ≡ b → Ok true ≡ cond b (Err EPERM) (Ok (not (is_some proc.status))) → (proc.status ≡ None) × (proc.pid ≢ 1)
+    by_first : (b : Bool) → (proc.pid == 1) ≡ b → Ok true ≡ cond b (Err EPERM) (Ok (is_ended_by signal proc)) → (proc.status ≡ None) × (proc.pid ≢ 1)
     by_first true first e = cc
-    by_first false first e = (runs_if proc.status (ok_same (not (is_some proc.status)) e), λ same. (let yes = eqb_same proc.pid 1 same in cc))
+    by_first false first e = (
+      runs_then proc.status (not (is_ignored (ignored_by proc) (count_of signal))) (ok_same (is_ended_by signal proc) e),
+      λ same. (let yes = eqb_same proc.pid 1 same in cc),
+    )
 
-    by_asking : (b : Bool) → Ok true ≡ cond b (Ok false) (cond (proc.pid == 1) (Err EPERM) (Ok (not (is_some proc.status)))) → (proc.status ≡ None) × (proc.pid ≢ 1)
+    by_asking : (b : Bool) → Ok true ≡ cond b (Ok false) (cond (proc.pid == 1) (Err EPERM) (Ok (is_ended_by signal proc))) → (proc.status ≡ None) × (proc.pid ≢ 1)
     by_asking true e = cc
     by_asking false e = by_first (proc.pid == 1) refl e
 
@@ -228,7 +233,7 @@ second false b e = cc
 -- a signal that a kill may send is a wait status
 pub few_signals : (target signal : ℤ) → argument_fault (call.Kill target signal) ≡ None → count_of signal < 65536
 few_signals target (negsuc n) right = omega arith
-few_signals target (pos n) right = below n (second (is_from 1 target) (is_number 0 (pos n) || is_number 9 (pos n)) (valid (is_from 1 target && (is_number 0 (pos n) || is_number 9 (pos n))) right))
+few_signals target (pos n) right = below n (second (is_from 1 target) (is_sendable (pos n)) (valid (is_from 1 target && is_sendable (pos n)) right))
   where
-    below : (n : ℕ) → (is_number 0 (pos n) || is_number 9 (pos n)) ≡ true → n < 65536
+    below : (n : ℕ) → is_sendable (pos n) ≡ true → n < 65536
     below n e = grind (arith, nat_tests)

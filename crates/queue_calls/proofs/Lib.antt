@@ -12,3 +12,4 @@ pub mod StayingSockets
 pub mod NamingSockets
 pub mod Taking
 pub mod Waiting
+pub mod Breaking

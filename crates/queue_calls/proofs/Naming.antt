@@ -11,7 +11,7 @@ use Rattle.open_laws.specs.Placed.{Numbers}
 use Rattle.posix_defs.specs.Account.{Account}
 use Rattle.posix_defs.specs.Answer.{Answer}
 use Rattle.posix_defs.specs.Calls.Reading.{read}
-use Rattle.posix_defs.specs.Calls.Writing.{write}
+use Rattle.posix_defs.specs.Calls.Writing.{write_ignoring}
 use Rattle.posix_defs.specs.Plain.{Plain}
 use Rattle.posix_defs.specs.World.{World}
 use Rattle.posix_defs.specs.declared.turner.Turned.{Turned}
@@ -76,8 +76,8 @@ names_read script old heap pid fd addr n told leads some off =
 -- and of a write
 pub names_written : (script : Script) (old : Objects) (heap : Heap) (pid : ℕ) (fd addr n : ℤ) (done : ℕ) (told : Turned)
     → ((numbers : Numbers) (plain : Plain) (account : Account) → QueuesStandFor numbers old.heap old.procs plain account
-    → Leads script numbers heap old.procs plain account pid (call.Write fd addr n done) (write script plain pid fd addr n done) told)
+    → Leads script numbers heap old.procs plain account pid (call.Write fd addr n done) (write_ignoring script plain pid fd addr n done) told)
     → (world : World) × StandsFor script old world → IsOffNodes old.heap old.procs pid fd → (key : ℕ) → name_of heap.socks key ≡ name_of old.heap.socks key
 names_written script old heap pid fd addr n done told leads some off =
-    names_led script old heap pid (call.Write fd addr n done) (λ moved. done + moved ≤ count_of n) (λ plain. write script plain pid fd addr n done) told leads some
+    names_led script old heap pid (call.Write fd addr n done) (λ moved. done + moved ≤ count_of n) (λ plain. write_ignoring script plain pid fd addr n done) told leads some
     (write_leaves (λ moved. done + moved ≤ count_of n) script some.0.plain pid fd (off_world script old some.0 pid fd some.1 off) addr n done (λ moved less. less))

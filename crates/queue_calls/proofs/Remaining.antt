@@ -13,7 +13,7 @@ use Rattle.posix_defs.specs.Answer.{Answer, Blocked, Done, Ended, Part, replied}
 use Rattle.posix_defs.specs.Calls.Opened.{Opened, answer_on, if_readable, if_writable, opened_at}
 use Rattle.posix_defs.specs.Calls.Polling.{hits_of, poll, revents_of}
 use Rattle.posix_defs.specs.Calls.Reading.{is_directory_target, of_bytes, put, read, read_from_pipe, read_from_socket, read_target, unless_directory}
-use Rattle.posix_defs.specs.Calls.Writing.{bytes_left, did_part, put_in_pipe, put_in_socket, write, write_queue, write_target}
+use Rattle.posix_defs.specs.Calls.Writing.{bytes_left, did_part, put_in_pipe, put_in_socket, write_ignoring, write_queue, write_target}
 use Rattle.posix_defs.specs.Family.{IsFamily}
 use Rattle.posix_defs.specs.Files.Descriptions.{Target, OnNode, OnPipe, OnSocket, may_read, may_write}
 use Rattle.posix_defs.specs.Files.State.{Files, node_of, pipe_at, with_pipe, with_sockets}
@@ -245,8 +245,8 @@ module _ (Parts : ℕ → Type 0) (script : Script) (plain : Plain) (pid : ℕ) 
     to_socket place n done nonblock bytes parts Blocks is = tt
     to_socket place n done nonblock bytes parts (Fails errno) is = choose (done == 0) _ _ (tells (Fail errno)) (tells (Val (pos done)))
 
-    pub write_leaves : (addr n : ℤ) (done : ℕ) → ((moved : ℕ) → done + moved ≤ count_of n → Parts moved) → Left (write script plain pid fd addr n done)
-    unfolding write
+    pub write_leaves : (addr n : ℤ) (done : ℕ) → ((moved : ℕ) → done + moved ≤ count_of n → Parts moved) → Left (write_ignoring script plain pid fd addr n done)
+    unfolding write_ignoring
     write_leaves addr n done parts = by_opened (opened_at plain.files pid fd) refl
       where
         by_opened : (o : Option Opened) → opened_at plain.files pid fd ≡ o

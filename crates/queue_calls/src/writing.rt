@@ -90,7 +90,10 @@ pub fn write_breaks(
     ensures { (script : Script) (world : World) → StandsFor script objects.now world
         → result ≡ write_ends world.plain caller.now.place.pid on.now.fd addr n done }
 {
-    if caller.ignores_pipe || done != 0 {
+    if caller.ignores_pipe {
+        return false;
+    }
+    if done > 0 {
         return false;
     }
     breaks(&objects.heap, &objects.procs, caller.place, on, addr, n)

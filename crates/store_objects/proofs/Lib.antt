@@ -29,7 +29,7 @@ pub mod Opening
 pub mod Paying
 pub mod Replies
 pub mod Callers
-pub mod Disposing
+pub mod Dispositions
 pub mod WithoutOne
 pub mod Moving
 pub mod Booting

@@ -8,7 +8,7 @@ use Rattle.kabi_types.specs.declared.replies.Reply.{Reply}
 use Rattle.kheap_laws.proofs.PaidLemmas.{IsPaid-nothing, IsPaid-trans}
 use Rattle.kheap_slabs.specs.Heap.{Heap, IsWellFormed}
 use Rattle.memfs_ops.specs.FileTree.{TreeView}
-use Rattle.posix_defs.specs.Calls.Writing.{write}
+use Rattle.posix_defs.specs.Calls.Writing.{write_ignoring}
 use Rattle.posix_defs.specs.World.{World}
 use Rattle.proc_files.specs.Answering.{StaysOffNodes}
 use Rattle.proc_numbers.specs.Answering.{value_of}
@@ -24,8 +24,8 @@ use Rattle.file_calls.proofs.writing.write.Goals as goal
 moved : (script : Script) (old : Objects) (heap : Heap) (fs : TreeView) (pid : ℕ) (fd addr n as_addr as_n : ℤ) (count : Result ℕ Errno) (said : Reply) → as_addr ≡ addr → as_n ≡ n
     → said ≡ value_of count → heap ≡ record old.heap { descs = heap.descs; vnodes = heap.vnodes; names = heap.names; blocks = heap.blocks; high = heap.high } → (world : World) × StandsFor script old world × IsSound world.plain
     → IsWellFormed old.heap → IsKept heap old.procs → argument_fault (call.Write fd addr n 0) ≡ None → StaysOffNodes old.heap old.procs pid fd old.tree fs
-    → Leads script old heap fs pid (call.Write fd as_addr as_n 0) (λ plain. write script plain pid fd as_addr as_n 0) (value_of count)
-    → HasMoved script old heap fs pid (call.Write fd addr n 0) fd (λ plain. write script plain pid fd addr n 0) said
+    → Leads script old heap fs pid (call.Write fd as_addr as_n 0) (λ plain. write_ignoring script plain pid fd as_addr as_n 0) (value_of count)
+    → HasMoved script old heap fs pid (call.Write fd addr n 0) fd (λ plain. write_ignoring script plain pid fd addr n 0) said
 moved script old heap fs pid fd addr n as_addr as_n count said same_addr same_n tells beside world well is right stays leads = record {
   world = world;
   well = well;
@@ -33,8 +33,8 @@ moved script old heap fs pid fd addr n as_addr as_n count said same_addr same_n 
   is = is;
   names = record { right = right; paths = refl; numbers = refl; leaves = refl; walks = refl };
   stays = stays;
-  leads = of_two (λ addr1 n1. Leads script old heap fs pid (call.Write fd addr1 n1 0) (λ plain. write script plain pid fd addr1 n1 0) said)
-      as_addr as_n addr n same_addr same_n (subst (Leads script old heap fs pid (call.Write fd as_addr as_n 0) (λ plain. write script plain pid fd as_addr as_n 0)) (sym tells) leads);
+  leads = of_two (λ addr1 n1. Leads script old heap fs pid (call.Write fd addr1 n1 0) (λ plain. write_ignoring script plain pid fd addr1 n1 0) said)
+      as_addr as_n addr n same_addr same_n (subst (Leads script old heap fs pid (call.Write fd as_addr as_n 0) (λ plain. write_ignoring script plain pid fd as_addr as_n 0)) (sym tells) leads);
 }
 
 pub write_file-moved-requires-clause-kept : goal.write_file-moved-requires-clause-kept
@@ -48,14 +48,14 @@ write_file-moved-requires-clause-hold c = holds_some c.args.script.now c.args.ob
 
 pub go_on-requires-clause-kept : goal.go_on-requires-clause-kept
 go_on-requires-clause-kept c =
-    kept_moved c.args.script.now c.args.objects.now c.write_file-moved.new.heap c.write_file-moved.new.tree c.args.caller.now.place.pid (call.Write c.args.on.now.fd c.args.addr c.args.n 0) c.args.on.now.fd (λ plain. write c.args.script.now plain c.args.caller.now.place.pid c.args.on.now.fd c.args.addr c.args.n 0) c.value.result
+    kept_moved c.args.script.now c.args.objects.now c.write_file-moved.new.heap c.write_file-moved.new.tree c.args.caller.now.place.pid (call.Write c.args.on.now.fd c.args.addr c.args.n 0) c.args.on.now.fd (λ plain. write_ignoring c.args.script.now plain c.args.caller.now.place.pid c.args.on.now.fd c.args.addr c.args.n 0) c.value.result
     (moved c.args.script.now c.args.objects.now c.write_file-moved.new.heap c.write_file-moved.new.tree c.args.caller.now.place.pid c.args.on.now.fd c.args.addr c.args.n _ _ c.write_file-moved.result c.value.result
     (to_z-of_z w64 c.args.addr c.ranges.addr) (to_z-of_z w64 c.args.n c.ranges.n) c.value.ensures c.write_file-moved.ensures.beside c.requires.stands
     c.heap_is_well_formed.ensures c.write_file-moved.ensures.kept c.requires.right c.write_file-moved.ensures.stays (c.write_file-moved.ensures.leads c.args.script.now))
 
 pub go_on-requires-clause-runs : goal.go_on-requires-clause-runs
 go_on-requires-clause-runs c =
-    runs_moved c.args.script.now c.args.objects.now c.write_file-moved.new.heap c.write_file-moved.new.tree c.args.caller.now.place.pid (call.Write c.args.on.now.fd c.args.addr c.args.n 0) c.args.on.now.fd (λ plain. write c.args.script.now plain c.args.caller.now.place.pid c.args.on.now.fd c.args.addr c.args.n 0) c.value.result
+    runs_moved c.args.script.now c.args.objects.now c.write_file-moved.new.heap c.write_file-moved.new.tree c.args.caller.now.place.pid (call.Write c.args.on.now.fd c.args.addr c.args.n 0) c.args.on.now.fd (λ plain. write_ignoring c.args.script.now plain c.args.caller.now.place.pid c.args.on.now.fd c.args.addr c.args.n 0) c.value.result
     (moved c.args.script.now c.args.objects.now c.write_file-moved.new.heap c.write_file-moved.new.tree c.args.caller.now.place.pid c.args.on.now.fd c.args.addr c.args.n _ _ c.write_file-moved.result c.value.result
     (to_z-of_z w64 c.args.addr c.ranges.addr) (to_z-of_z w64 c.args.n c.ranges.n) c.value.ensures c.write_file-moved.ensures.beside c.requires.stands
     c.heap_is_well_formed.ensures c.write_file-moved.ensures.kept c.requires.right c.write_file-moved.ensures.stays (c.write_file-moved.ensures.leads c.args.script.now))
@@ -68,7 +68,7 @@ returns-clause-paid c =
 
 pub returns-clause-does : goal.returns-clause-does
 returns-clause-does c =
-    serves_moved c.args.script.now c.args.objects.now c.write_file-moved.new.heap c.write_file-moved.new.tree c.args.caller.now.place.pid (call.Write c.args.on.now.fd c.args.addr c.args.n 0) c.args.on.now.fd (λ plain. write c.args.script.now plain c.args.caller.now.place.pid c.args.on.now.fd c.args.addr c.args.n 0) c.value.result
+    serves_moved c.args.script.now c.args.objects.now c.write_file-moved.new.heap c.write_file-moved.new.tree c.args.caller.now.place.pid (call.Write c.args.on.now.fd c.args.addr c.args.n 0) c.args.on.now.fd (λ plain. write_ignoring c.args.script.now plain c.args.caller.now.place.pid c.args.on.now.fd c.args.addr c.args.n 0) c.value.result
     (moved c.args.script.now c.args.objects.now c.write_file-moved.new.heap c.write_file-moved.new.tree c.args.caller.now.place.pid c.args.on.now.fd c.args.addr c.args.n _ _ c.write_file-moved.result c.value.result
     (to_z-of_z w64 c.args.addr c.ranges.addr) (to_z-of_z w64 c.args.n c.ranges.n) c.value.ensures c.write_file-moved.ensures.beside c.requires.stands
     c.heap_is_well_formed.ensures c.write_file-moved.ensures.kept c.requires.right c.write_file-moved.ensures.stays (c.write_file-moved.ensures.leads c.args.script.now))

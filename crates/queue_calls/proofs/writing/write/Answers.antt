@@ -7,7 +7,7 @@ use Rattle.kabi_types.specs.declared.scripts.Script.{Script}
 use Rattle.kheap_slabs.specs.Heap.{Heap}
 use Rattle.open_laws.specs.Placed.{Numbers}
 use Rattle.posix_defs.specs.Account.{Account}
-use Rattle.posix_defs.specs.Calls.Writing.{write}
+use Rattle.posix_defs.specs.Calls.Writing.{write_ignoring}
 use Rattle.posix_defs.specs.Plain.{Plain}
 use Rattle.posix_defs.specs.declared.turner.Turned.{Turned}
 use Rattle.posix_defs.specs.declared.turner.Turned.TheVariants as turned
@@ -57,11 +57,11 @@ do_part-requires-clause-fits c =
     let plain = some.0.plain in
     let pid = c.args.caller.now.place.pid in
     let within : ℕ → Type 0 = λ moved. c.args.done + moved ≤ count_of c.args.n in
-    let led = of_three (λ fd addr n. Leads script some.1.files.numbers c.write-told.new.heap old.procs plain some.0.account pid (call.Write fd addr n c.args.done) (write script plain pid fd addr n c.args.done) c.write-told.result)
+    let led = of_three (λ fd addr n. Leads script some.1.files.numbers c.write-told.new.heap old.procs plain some.0.account pid (call.Write fd addr n c.args.done) (write_ignoring script plain pid fd addr n c.args.done) c.write-told.result)
     _ _ _ c.args.on.now.fd c.args.addr c.args.n refl (to_z-of_z w64 c.args.addr c.ranges.addr) (to_z-of_z w64 c.args.n c.ranges.n)
     (c.write-told.ensures.leads script some.1.files.numbers plain some.0.account (queues_stand script old some.0 some.1)) in
-    let told : IsTold script plain pid (write script plain pid c.args.on.now.fd c.args.addr c.args.n c.args.done) (turned.Part c.in-Part.moved) led.next =
-    subst (λ t. IsTold script plain pid (write script plain pid c.args.on.now.fd c.args.addr c.args.n c.args.done) t led.next) c.in-Part.is led.told_so in
+    let told : IsTold script plain pid (write_ignoring script plain pid c.args.on.now.fd c.args.addr c.args.n c.args.done) (turned.Part c.in-Part.moved) led.next =
+    subst (λ t. IsTold script plain pid (write_ignoring script plain pid c.args.on.now.fd c.args.addr c.args.n c.args.done) t led.next) c.in-Part.is led.told_so in
     let more : c.args.done + c.in-Part.moved ≤ count_of c.args.n =
     part_told script plain pid within _ c.in-Part.moved led.next told
     (write_leaves within script plain pid c.args.on.now.fd (off_world script old some.0 pid c.args.on.now.fd some.1 c.requires.off) c.args.addr c.args.n c.args.done (λ moved less. less)) in
@@ -109,14 +109,14 @@ leads : (script : Script) (old new : Objects) (heap : Heap) (pid : ℕ) (fd addr
     → (kept : IsKept heap old.procs) → (beside : heap ≡ record old.heap { pipes = heap.pipes; chunks = heap.chunks; socks = heap.socks; high = heap.high })
     → ((key : ℕ) → name_of heap.socks key ≡ name_of old.heap.socks key) → IsOffNodes old.heap old.procs pid fd
     → ((numbers : Numbers) (plain : Plain) (account : Account) → QueuesStandFor numbers old.heap old.procs plain account
-    → Leads script numbers heap old.procs plain account pid (call.Write as_fd as_addr as_n done) (write script plain pid as_fd as_addr as_n done) told)
+    → Leads script numbers heap old.procs plain account pid (call.Write as_fd as_addr as_n done) (write_ignoring script plain pid as_fd as_addr as_n done) told)
     → Follows script (record { heap = heap; procs = old.procs; tree = old.tree; names = old.names }) pid (λ moved. done + moved ≤ count_of n) told new
-    → Performs script old pid (call.Write fd addr n done) (λ plain. write script plain pid fd addr n done) told new
+    → Performs script old pid (call.Write fd addr n done) (λ plain. write_ignoring script plain pid fd addr n done) told new
 leads script old new heap pid fd addr n as_fd as_addr as_n done told first second third kept beside names off each follows =
     performs script old heap kept (leaves_more old.heap heap beside) names pid (call.Write fd addr n done) (λ moved. done + moved ≤ count_of n) new
-    (λ plain. write script plain pid fd addr n done) told
+    (λ plain. write_ignoring script plain pid fd addr n done) told
     (λ numbers plain account stands.
-    of_three (λ x y z. Leads script numbers heap old.procs plain account pid (call.Write x y z done) (write script plain pid x y z done) told) as_fd as_addr as_n fd addr n
+    of_three (λ x y z. Leads script numbers heap old.procs plain account pid (call.Write x y z done) (write_ignoring script plain pid x y z done) told) as_fd as_addr as_n fd addr n
     first second third (each numbers plain account stands))
     (λ world stands. write_leaves (λ moved. done + moved ≤ count_of n) script world.plain pid fd (off_world script old world pid fd stands off) addr n done (λ moved less. less))
     follows
@@ -130,7 +130,7 @@ returns-in-Part-clause-does c =
     let names = names_written c.args.script.now c.args.objects.now c.write-told.new.heap c.args.caller.now.place.pid _ _ _ c.args.done c.write-told.result
     (c.write-told.ensures.leads c.args.script.now) c.requires.stands
     c.requires.off in
-    subst (λ t. Performs script old pid (call.Write c.args.on.now.fd c.args.addr c.args.n c.args.done) (λ plain. write script plain pid c.args.on.now.fd c.args.addr c.args.n c.args.done) t new)
+    subst (λ t. Performs script old pid (call.Write c.args.on.now.fd c.args.addr c.args.n c.args.done) (λ plain. write_ignoring script plain pid c.args.on.now.fd c.args.addr c.args.n c.args.done) t new)
     (c.in-Part.is ∙ sym c.do_part.ensures.told)
     (leads script old new c.write-told.new.heap pid c.args.on.now.fd c.args.addr c.args.n _ _ _ c.args.done c.write-told.result
     refl (to_z-of_z w64 c.args.addr c.ranges.addr) (to_z-of_z w64 c.args.n c.ranges.n) c.write-told.ensures.kept c.write-told.ensures.beside names c.requires.off
@@ -147,7 +147,7 @@ returns-in_default-clause-does c =
     let names = names_written c.args.script.now c.args.objects.now c.write-told.new.heap c.args.caller.now.place.pid _ _ _ c.args.done c.write-told.result
     (c.write-told.ensures.leads c.args.script.now) c.requires.stands
     c.requires.off in
-    subst (λ t. Performs script old pid (call.Write c.args.on.now.fd c.args.addr c.args.n c.args.done) (λ plain. write script plain pid c.args.on.now.fd c.args.addr c.args.n c.args.done) t new)
+    subst (λ t. Performs script old pid (call.Write c.args.on.now.fd c.args.addr c.args.n c.args.done) (λ plain. write_ignoring script plain pid c.args.on.now.fd c.args.addr c.args.n c.args.done) t new)
     (sym c.go_on_done.ensures.told)
     (leads script old new c.write-told.new.heap pid c.args.on.now.fd c.args.addr c.args.n _ _ _ c.args.done c.write-told.result
     refl (to_z-of_z w64 c.args.addr c.ranges.addr) (to_z-of_z w64 c.args.n c.ranges.n) c.write-told.ensures.kept c.write-told.ensures.beside names c.requires.off

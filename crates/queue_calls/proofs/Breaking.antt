@@ -1,0 +1,37 @@
+-- Whether a write ends its caller, by what it ignores, what was moved before, and who reads.
+use Rattle.std.proofs.Common.{◌≡◌, ℕ, ◌==◌, ◌&&◌, ℤ, not, Bool, true, false, refl, ap, sym, ◌∙◌}
+use Rattle.kabi_types.specs.declared.scripts.Script.{Script}
+use Rattle.posix_defs.specs.Calls.Opened.{opened_at}
+use Rattle.posix_defs.specs.Calls.Writing.{is_broken, write_ends}
+use Rattle.posix_defs.specs.Process.{Ignores, ignores_of}
+use Rattle.posix_defs.specs.World.{World}
+use Rattle.store_objects.specs.declared.objects.Caller.{Caller}
+use Rattle.store_objects.specs.declared.objects.Objects.{Objects}
+use Rattle.store_objects.specs.Objects.{IsCaller}
+use Rattle.store_objects.specs.Standing.{StandsFor}
+use Rattle.store_objects.proofs.Dispositions.{ignores_are}
+
+module _ (script : Script) (objects : Objects) (world : World) (pid : ℕ) (caller : Caller) (is : IsCaller objects pid caller) (stands : StandsFor script objects world)
+    (fd addr n : ℤ) (done : ℕ) where
+  ignored : (ignores_of world.plain.table pid).broken_pipe ≡ caller.ignores_pipe
+  ignored = ap (λ (ignores : Ignores). ignores.broken_pipe) (ignores_are script objects world.plain pid is.proc stands.processes is.found) ∙ sym is.ignores
+
+  broken : Bool
+  broken = is_broken world.plain pid addr n (opened_at world.plain.files pid fd)
+
+  ends_by : (ignores none : Bool) → caller.ignores_pipe ≡ ignores → (done == 0) ≡ none → write_ends world.plain pid fd addr n done ≡ (not ignores && none && broken)
+  unfolding broken
+  ends_by ignores none e f =
+      ap (λ b. not b && (done == 0) && is_broken world.plain pid addr n (opened_at world.plain.files pid fd)) (ignored ∙ e)
+      ∙ ap (λ b. not ignores && b && is_broken world.plain pid addr n (opened_at world.plain.files pid fd)) f
+
+  pub who_ignores : caller.ignores_pipe ≡ true → false ≡ write_ends world.plain pid fd addr n done
+  who_ignores e = sym (ends_by true (done == 0) e refl)
+
+  pub who_moved : caller.ignores_pipe ≡ false → (done == 0) ≡ false → false ≡ write_ends world.plain pid fd addr n done
+  who_moved e f = sym (ends_by false false e f)
+
+  pub who_breaks : (told : Bool) → caller.ignores_pipe ≡ false → (done == 0) ≡ true → told ≡ is_broken world.plain pid addr n (opened_at world.plain.files pid fd)
+      → told ≡ write_ends world.plain pid fd addr n done
+  unfolding broken
+  who_breaks told e f tells = tells ∙ sym (ends_by false true e f)

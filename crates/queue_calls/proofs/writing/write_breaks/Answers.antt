@@ -1,0 +1,9 @@
+use Rattle.std.proofs.Common.{◌≡◌, ◌∙◌, sym, w64}
+use Rattle.std.proofs.lemmas.Int.{to_z-of_z}
+use Rattle.queue_calls.proofs.Breaking.{who_breaks, who_ignores, who_moved}
+use Rattle.queue_calls.proofs.Queueing.{is_kept, queues_stand}
+use Rattle.queue_calls.proofs.writing.write_breaks.Goals as goal
+
+pub returns-then-ignores_pipe : goal.returns-then-ignores_pipe
+returns-then-ignores_pipe c = λ script world stands.
+    who_ignores script c.args.objects.now world c.args.caller.now.place.pid c.args.caller.now c.requires.caller stands c.args.on.now.fd c.args.addr c.args.n c.args.done c.if-ignores_pipe.true
