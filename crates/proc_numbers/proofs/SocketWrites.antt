@@ -19,7 +19,7 @@ use Rattle.open_laws.proofs.SocketLemmas.{placed_at, placed_stage}
 use Rattle.open_laws.specs.Placed.{Numbers}
 use Rattle.posix_defs.specs.Account.{Account, account_on}
 use Rattle.posix_defs.specs.Answer.{Blocked, failed, replied}
-use Rattle.posix_defs.specs.Calls.Writing.{did_part, put_in_queue, put_in_socket, stopped, write, write_queue}
+use Rattle.posix_defs.specs.Calls.Writing.{did_part, put_in_queue, put_in_socket, stopped, write_queue}
 use Rattle.posix_defs.specs.Files.State.{with_sockets}
 use Rattle.posix_defs.specs.Memory.{Memory, byte_at, loaded}
 use Rattle.posix_defs.specs.Pipe.{Moving, Moves, Blocks, Fails, not_now}
@@ -29,7 +29,6 @@ use Rattle.posix_defs.specs.Socket.{Connected, Idle, Listening, Socket, Stage, i
 use Rattle.posix_defs.specs.SocketLinks.{AreLinked}
 use Rattle.posix_defs.specs.Sockets.{Sockets, after_write, free_at, sent_to, sock_at, sock_write, socket_at, stage_at, write_in_stage, write_to, write_within}
 use Rattle.posix_defs.specs.Turn.{account_after}
-use Rattle.posix_defs.specs.declared.turner.Turned.{Turned}
 use Rattle.posix_defs.specs.declared.turner.Turned.TheVariants as turned
 use Rattle.socket_laws.proofs.SocketLaws.{peer_there}
 use Rattle.socket_laws.proofs.SocketTable.{sock_at-with_other, there_within}
