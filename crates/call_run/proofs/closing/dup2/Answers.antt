@@ -1,4 +1,4 @@
-use Rattle.std.proofs.Common.{◌≡◌, None, arith, of_z, refl, subst, sym, to_z, w64}
+use Rattle.std.proofs.Common.{◌≡◌, None, arith, refl, subst, sym, w64}
 use Rattle.std.proofs.lemmas.Int.{to_z-of_z}
 use Rattle.kabi_types.specs.declared.calls.Call.TheVariants as call
 use Rattle.posix_defs.specs.Calls.OnDescriptors.{dup2}

@@ -73,7 +73,7 @@ returns-in-1-clause-changes c = changes_nothing c.args.heap.now c.args.procs.now
 
 pub mark_one-requires-clause-names : goal.mark_one-requires-clause-names
 mark_one-requires-clause-names c =
-    is_held_at c.args.heap.now c.args.procs.now c.args.place.pid c.args.on.now c.requires.opened c.in-Some.found c.in-Some.is ∙ ap Some (sym c.descriptor.ensures)
+    is_held_at c.args.heap.now c.args.procs.now c.args.place.pid c.args.on.now c.requires.opened c.in-Some.found c.in-Some.is ∙ ap Some (sym c.descriptor-held.ensures)
 
 pub returns-in-2-clause-answers : goal.returns-in-2-clause-answers
 returns-in-2-clause-answers c = λ numbers script plain have.
