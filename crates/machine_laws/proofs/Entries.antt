@@ -25,7 +25,7 @@ use Rattle.answer_laws.specs.Shapes.{HasShape}
 use Rattle.answer_laws.proofs.Shapes.{machine_shape}
 use Rattle.kern_laws.specs.Sleeping.{is_of}
 use Rattle.kern_laws.proofs.Families.{alive_there, follows_on, reached_kept}
-use Rattle.kern_laws.proofs.Remembering.{alive_still, alive_working}
+use Rattle.kern_laws.proofs.Remembering.{alive_ignoring, alive_still, alive_working}
 use Rattle.kern_laws.proofs.TablePlaces.{same_in_front, was_made}
 use Rattle.machine_laws.specs.FileSteps.{LeadsTo}
 use Rattle.machine_laws.specs.Reached.{IsReached}
@@ -112,6 +112,7 @@ module _ (script : Script) (plain : Plain) (pid who : ℕ) (made : who ≤ lengt
   answers_dead call given (shape.tells files said is_said is) = subst Dead (sym is) dead
   answers_dead call given (shape.puts files memory said is_said put is) = subst Dead (sym is) (alive_still plain.table pid who memory ∙ dead)
   answers_dead call given (shape.moves path directory called led is) = subst Dead (sym is) (alive_working plain.table pid who directory ∙ dead)
+  answers_dead call given (shape.disposes signal disposition ignores before called is) = subst Dead (sym is) (alive_ignoring plain.table pid who ignores ∙ dead)
   answers_dead call given (shape.parts files moved part is) = subst Dead (sym is) dead
   answers_dead call given (shape.starts place is) = subst Dead (sym is) (alive_still plain.table pid who no_memory ∙ dead)
   answers_dead call given (shape.forks is) = subst Dead (sym is) (ap is_alive_in (same_in_front plain.table (child_of pid (process_at plain.table pid)) who made) ∙ dead)

@@ -1,4 +1,5 @@
 mod Between
+pub mod Signalled
 pub mod Stepping
 pub mod Leading
 pub mod Fading
