@@ -50,6 +50,7 @@ left_alone pid who old new parts described = record {
   own = record {
     memory = (let process = parts.process in process.memory);
     directory = (let process = parts.process in process.directory);
+    ignores = (let process = parts.process in process.ignores);
     control = parts.control;
     numbers = (let files = parts.files in files.numbers);
     names = names_still pid who old.files new.files parts.files described;

@@ -39,12 +39,13 @@ use Rattle.machine_laws.proofs.Tables.{die_dead, reaped_dead, true_false}
 -- ---- an entry
 
 own_same : (who : ℕ) (plain : Plain) → KeepsOwn who plain plain
-own_same who plain = record { memory = refl; directory = refl; control = refl; numbers = refl; names = λ fd was is. (was, is, record { place = refl; target = refl; access = refl }) }
+own_same who plain = record { memory = refl; directory = refl; ignores = refl; control = refl; numbers = refl; names = λ fd was is. (was, is, record { place = refl; target = refl; access = refl }) }
 
 own_on : (who : ℕ) (old between new : Plain) → KeepsOwn who old between → KeepsOwn who between new → KeepsOwn who old new
 own_on who old between new one two = record {
   memory = two.memory ∙ one.memory;
   directory = two.directory ∙ one.directory;
+  ignores = two.ignores ∙ one.ignores;
   control = two.control ∙ one.control;
   numbers = two.numbers ∙ one.numbers;
   names = λ fd was is. let first = one.names fd was is in let second = two.names fd first.0 first.1 in (

@@ -48,3 +48,4 @@ pub mod Quiet
 pub mod Framing
 pub mod MemoryMoves
 pub mod FrameAnswers
+pub mod Ignoring

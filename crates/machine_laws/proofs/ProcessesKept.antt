@@ -32,7 +32,7 @@ table_on tree after table directories kept who process is = let before = kept wh
     record { memory = before.memory; directory = λ alive. directories process.directory (before.directory alive) (works table who process is alive) }
 
 -- who is there after one item has changed was there before, or is that one
-at_with : (table : Table) (pid : ℕ) (there : Option Process) (who : ℕ) (process : Process) → process_at (with_pid table pid there) who ≡ Some process → (there ≡ Some process) ⊎ (process_at table who ≡ Some process)
+pub at_with : (table : Table) (pid : ℕ) (there : Option Process) (who : ℕ) (process : Process) → process_at (with_pid table pid there) who ≡ Some process → (there ≡ Some process) ⊎ (process_at table who ≡ Some process)
 at_with table pid there who process is = elim (eqb_tells who pid) [
   | inr apart ↦ inr (sym (with_other table pid who there apart.1) ∙ is)
   | inl alike ↦ let made_it = was_made (with_pid table pid there) who process is in
