@@ -46,7 +46,7 @@ wakes_nobody call.Pipe = true
 wakes_nobody call.Socket = true
 wakes_nobody (call.Bind fd path) = true
 wakes_nobody (call.Poll timeout entries) = true
-wakes_nobody (call.Signal signal disposition) = true
+wakes_nobody (call.Signal which disposition) = true
 wakes_nobody _ = false
 
 -- what a call that failed was told

@@ -5,6 +5,7 @@ ghost use Rattle.kabi_types.specs.declared.calls.Call.{Call};
 ghost use Rattle.kabi_types.specs.declared.scripts.Script.{Script};
 ghost use Rattle.machine_laws.specs.Reached.{IsReached};
 ghost use Rattle.posix_defs.specs.declared.turner.Turned.{Turned};
+ghost use Rattle.posix_defs.specs.declared.turner.Turned.TheVariants.{Ended};
 ghost use Rattle.posix_defs.specs.Plain.{Plain};
 ghost use Rattle.posix_defs.specs.Process.{is_alive};
 ghost use Rattle.posix_defs.specs.Turn.{TurnsTo};
@@ -27,18 +28,18 @@ pub fn a_turn_leaves_others_themselves()
         → StaysItself script who old.plain new.plain }
 {}
 
-/// A turn that moves bytes wakes only those who wait for what its number is open on: whose next call has nothing to do with that would
-/// block exactly where it would have before.
+/// A turn that moves bytes, and so doesn't end its process, wakes only those who wait for what its number is open on: whose next call has
+/// nothing to do with that would block exactly where it would have before.
 pub fn a_turn_that_moves_bytes_wakes_who_waits_there()
     ensures { (script : Script) (old new : World) (pid who : ℕ) (fd : ℤ) (call : Call) (told : Turned) → IsReached script old.plain
-        → TurnsTo script old pid call told new → moves_through call ≡ Some fd → who ≢ pid → is_alive old.plain.table who ≡ true
+        → TurnsTo script old pid call told new → moves_through call ≡ Some fd → ((status : ℕ) → told ≢ Ended status) → who ≢ pid → is_alive old.plain.table who ≡ true
         → is_apart script old.plain who pid fd ≡ true → StaysAsItWas script who old.plain new.plain }
 {}
 
-/// A turn that moves bytes leaves its process's own numbers open on what they were open on.
+/// A turn that moves bytes and doesn't end its process leaves that one's numbers open on what they were open on.
 pub fn a_turn_that_moves_bytes_leaves_its_numbers()
     ensures { (script : Script) (old new : World) (pid : ℕ) (fd number : ℤ) (call : Call) (told : Turned) → IsReached script old.plain
-        → TurnsTo script old pid call told new → moves_through call ≡ Some number
+        → TurnsTo script old pid call told new → moves_through call ≡ Some number → ((status : ℕ) → told ≢ Ended status)
         → target_at new.plain.files pid fd ≡ target_at old.plain.files pid fd }
 {}
 
