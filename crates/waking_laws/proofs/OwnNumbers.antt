@@ -221,6 +221,7 @@ module _ (script : Script) (plain : Plain) (pid : ℕ) (made : pid ≤ length pl
   right (call.Rename old new) e f = renames old new
   right (call.Bind fd path) e f = binds fd path
   right (call.Poll timeout entries) e f = polls timeout entries
+  right (call.Signal which disposition) e f = refl
   right _ e f = cc
 
   pub leaves_numbers : (which : Call) → wakes_nobody which ≡ true → gives_number which ≡ false → Leaves (machine script plain pid which)

@@ -62,6 +62,10 @@ passes_by which (turned.Done (reply.Fail errno)) = true
 passes_by which (turned.Done told) = wakes_nobody which
 passes_by which _ = false
 
+-- the call didn't end its caller
+abbrev pub Lasts : Turned → Type 0
+Lasts told = (status : ℕ) → told ≡ turned.Ended status → ⊥
+
 -- of these the calls that give their caller a number
 abbrev pub gives_number : Call → Bool
 gives_number (call.OpenFile path flags) = true

@@ -9,7 +9,7 @@ ghost use Rattle.posix_defs.specs.Plain.{Plain};
 ghost use Rattle.posix_defs.specs.Process.{is_alive};
 ghost use Rattle.posix_defs.specs.Turn.{TurnsTo};
 ghost use Rattle.posix_defs.specs.World.{World};
-ghost use Rattle.waking_laws.specs.Waking.{StaysAsItWas, StaysItself, gives_number, is_apart, moves_through, passes_by, target_at};
+ghost use Rattle.waking_laws.specs.Waking.{Lasts, StaysAsItWas, StaysItself, gives_number, is_apart, moves_through, passes_by, target_at};
 
 /// Behind a turn that did nothing, that failed, or whose call changes nothing that others wait for, each other process that lived
 /// before it lives, and its next call would block exactly where it would have before.
@@ -27,18 +27,18 @@ pub fn a_turn_leaves_others_themselves()
         → StaysItself script who old.plain new.plain }
 {}
 
-/// A turn that moves bytes wakes only those who wait for what its number is open on: whose next call has nothing to do with that would
-/// block exactly where it would have before.
+/// A turn that moves bytes, and doesn't end its process, wakes only those who wait for what its number is open on: whose next call has
+/// nothing to do with that would block exactly where it would have before.
 pub fn a_turn_that_moves_bytes_wakes_who_waits_there()
     ensures { (script : Script) (old new : World) (pid who : ℕ) (fd : ℤ) (call : Call) (told : Turned) → IsReached script old.plain
-        → TurnsTo script old pid call told new → moves_through call ≡ Some fd → who ≢ pid → is_alive old.plain.table who ≡ true
+        → TurnsTo script old pid call told new → moves_through call ≡ Some fd → Lasts told → who ≢ pid → is_alive old.plain.table who ≡ true
         → is_apart script old.plain who pid fd ≡ true → StaysAsItWas script who old.plain new.plain }
 {}
 
-/// A turn that moves bytes leaves its process's own numbers open on what they were open on.
+/// A turn that moves bytes, and doesn't end its process, leaves its own numbers open on what they were open on.
 pub fn a_turn_that_moves_bytes_leaves_its_numbers()
     ensures { (script : Script) (old new : World) (pid : ℕ) (fd number : ℤ) (call : Call) (told : Turned) → IsReached script old.plain
-        → TurnsTo script old pid call told new → moves_through call ≡ Some number
+        → TurnsTo script old pid call told new → moves_through call ≡ Some number → Lasts told
         → target_at new.plain.files pid fd ≡ target_at old.plain.files pid fd }
 {}
 
