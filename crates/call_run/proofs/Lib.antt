@@ -24,3 +24,4 @@ pub mod Meeting
 pub mod Resting
 pub mod BytesCached
 pub mod SettledBlocks
+pub mod Breaking

@@ -252,16 +252,16 @@ module _ (script : Script) (old new : World) (pid : ℕ) (fd : ℤ) (which : Cal
     (turns : TurnsTo script old pid which told new) (moves : moves_through which ≡ Some fd) (lasts : (status : ℕ) → told ≡ turned.Ended status → ⊥)
     (mover : is_alive old.plain.table pid ≡ true) where
   other_lives : (who : ℕ) → who ≢ pid → is_alive old.plain.table who ≡ true → is_alive new.plain.table who ≡ true
-  other_lives who apart alive = moved_lives script old new pid who fd which told turns moves apart alive
+  other_lives who apart alive = moved_lives script old new pid who fd which told turns moves lasts apart alive
 
   other_itself : (who : ℕ) → who ≢ pid → is_alive old.plain.table who ≡ true → StaysItself script who old.plain new.plain
   other_itself who apart alive = stays_itself script old new pid who which told reached turns apart alive (other_lives who apart alive)
 
   other_apart : (who : ℕ) → who ≢ pid → is_alive old.plain.table who ≡ true → is_apart script old.plain who pid fd ≡ true → StaysAsItWas script who old.plain new.plain
-  other_apart who apart alive is = moved_apart script old new pid who fd which told reached turns moves apart alive is
+  other_apart who apart alive is = moved_apart script old new pid who fd which told reached turns moves lasts apart alive is
 
   own_target : (number : ℤ) → target_at new.plain.files pid number ≡ target_at old.plain.files pid number
-  own_target number = own_kept script old new pid number fd which told reached turns moves
+  own_target number = own_kept script old new pid number fd which told reached turns moves lasts
 
   pub mover_still : is_alive new.plain.table pid ≡ true
   mover_still = mover_lives script old new pid which told reached turns lasts mover
@@ -739,7 +739,7 @@ module _ (script : Script) (objects : Objects) (old new : World) (pid : ℕ) (wh
       sleepers_live =
           let so = moves_so which told fd stirs in
           each_map (λ sleeper. IsTrulyTold script old.plain sleeper × (sleeper.pid ≢ pid)) (λ sleeper. is_alive new.plain.table sleeper.pid ≡ true) sleepers
-          (λ sleeper it. moved_lives script old new pid sleeper.pid fd which told behind.turns so.0 it.1 it.0.alive)
+          (λ sleeper it. moved_lives script old new pid sleeper.pid fd which told behind.turns so.0 so.1 it.1 it.0.alive)
           (each_and (IsTrulyTold script old.plain) (λ sleeper. sleeper.pid ≢ pid) sleepers behind.minded.each (each_other sleepers pid up))
 
       pub touched_passed : (place : ℕ) → IsPassed (channel_at channels place) pid fd → AreMinded script new.plain sleepers channels

@@ -15,3 +15,4 @@ pub mod Needed
 pub mod Calling
 pub mod CallingNames
 pub mod BytesCached
+pub mod Unbroken

@@ -133,10 +133,10 @@ module _ (script : Script) (old new : Objects) (pid signal : ℕ) (ignored : Boo
     works = works_on world.plain next.plain refl works stands.works;
   }
     where
-      abbrev those : Ignores
+      those : Ignores
       those = with_disposition (ignores_of world.plain.table pid) signal ignored
 
-      abbrev next : World
+      next : World
       next = disposed_in world pid signal ignored
 
       works : directories_of next.plain.table ≡ directories_of world.plain.table

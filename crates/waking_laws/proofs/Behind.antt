@@ -30,8 +30,8 @@ use Rattle.posix_defs.specs.Turn.{Tells, TurnsTo, TurnsWhere}
 use Rattle.posix_defs.specs.World.{World}
 use Rattle.posix_defs.specs.declared.turner.Turned.{Turned}
 use Rattle.posix_defs.specs.declared.turner.Turned.TheVariants as turned
-use Rattle.waking_laws.specs.Waking.{StaysAsItWas, StaysItself, awaited, gives_number, is_apart, meet, moves_through, passes_by, target_at, wakes_nobody}
-use Rattle.waking_laws.proofs.Moving.{IsMoved, GoesMoved, moves_answer}
+use Rattle.waking_laws.specs.Waking.{Lasts, StaysAsItWas, StaysItself, awaited, gives_number, is_apart, meet, moves_through, passes_by, target_at, wakes_nobody}
+use Rattle.waking_laws.proofs.Moving.{IsMoved, LastsTo, moves_answer}
 use Rattle.waking_laws.proofs.OwnNumbers.{leaves_numbers}
 use Rattle.waking_laws.proofs.Passing.{nothing_changed}
 use Rattle.waking_laws.proofs.QuietCalls.{IsQuiet, quiet_answer}
@@ -138,31 +138,31 @@ module _ (script : Script) (old : Plain) (pid who : ℕ) (reached : IsReached sc
       }
 
   moved_by : (given : Answer) (told : Turned) (new : Plain) → Tells given old told new → LeadsTo (λ next. is_alive next.table who ≡ true → IsLeftAlone pid who old next) given
-      → GoesMoved (target_at old.files pid fd) pid who old given → ((status : ℕ) → told ≢ turned.Ended status) → is_apart script old who pid fd ≡ true → StaysAsItWas script who old new
-  moved_by Blocked told new tells alone moved lasts other = nothing_changed script who old new tells.1
-  moved_by (Done said next) told new tells alone moved lasts other = subst (StaysAsItWas script who old) (sym tells.1) (moved_so next alone moved other)
-  moved_by (Part count next) told new tells alone moved lasts other = subst (StaysAsItWas script who old) (sym tells.1) (moved_so next alone moved other)
-  moved_by (Ended status next) told new tells alone moved lasts other = absurd (lasts status tells.0)
+      → Lasts told → LastsTo (IsMoved (target_at old.files pid fd) pid who old) given → is_apart script old who pid fd ≡ true → StaysAsItWas script who old new
+  moved_by Blocked told new tells alone lasts moved other = nothing_changed script who old new tells.1
+  moved_by (Done said next) told new tells alone lasts moved other = subst (StaysAsItWas script who old) (sym tells.1) (moved_so next alone moved other)
+  moved_by (Part count next) told new tells alone lasts moved other = subst (StaysAsItWas script who old) (sym tells.1) (moved_so next alone moved other)
+  moved_by (Ended status next) told new tells alone lasts moved other = absurd (lasts status tells.0)
 
 pub moved_apart : (script : Script) (old new : World) (pid who : ℕ) (fd : ℤ) (which : Call) (told : Turned) → IsReached script old.plain
-    → TurnsTo script old pid which told new → moves_through which ≡ Some fd → ((status : ℕ) → told ≢ turned.Ended status) → who ≢ pid → is_alive old.plain.table who ≡ true
+    → TurnsTo script old pid which told new → moves_through which ≡ Some fd → Lasts told → who ≢ pid → is_alive old.plain.table who ≡ true
     → is_apart script old.plain who pid fd ≡ true → StaysAsItWas script who old.plain new.plain
 moved_apart script old new pid who fd which told reached turns moves lasts apart alive other = go (is_alive old.plain.table pid) refl turns
   where
     go : (lives : Bool) → is_alive old.plain.table pid ≡ lives → TurnsWhere lives script old pid which told new → StaysAsItWas script who old.plain new.plain
     go true is answers = moved_by script old.plain pid who reached is apart alive fd (machine script old.plain pid which) told new.plain answers.answer
-        (answers_leave_alone script old.plain reached pid who which is apart alive) (moves_answer script old.plain pid who apart which fd moves) lasts other
+        (answers_leave_alone script old.plain reached pid who which is apart alive) lasts (moves_answer script old.plain pid who apart which fd moves) other
     go false is over = nothing_changed script who old.plain new.plain (ap (λ (world : World). world.plain) over.1)
 
 -- who is alive stays so behind a turn that moves bytes
 pub moved_lives : (script : Script) (old new : World) (pid who : ℕ) (fd : ℤ) (which : Call) (told : Turned) → TurnsTo script old pid which told new
-    → moves_through which ≡ Some fd → ((status : ℕ) → told ≢ turned.Ended status) → who ≢ pid → is_alive old.plain.table who ≡ true → is_alive new.plain.table who ≡ true
+    → moves_through which ≡ Some fd → Lasts told → who ≢ pid → is_alive old.plain.table who ≡ true → is_alive new.plain.table who ≡ true
 moved_lives script old new pid who fd which told turns moves lasts apart alive = go (is_alive old.plain.table pid) refl turns
   where
     target : Option Target
     target = target_at old.plain.files pid fd
 
-    by : (given : Answer) → Tells given old.plain told new.plain → GoesMoved target pid who old.plain given → is_alive new.plain.table who ≡ true
+    by : (given : Answer) → Tells given old.plain told new.plain → LastsTo (IsMoved target pid who old.plain) given → is_alive new.plain.table who ≡ true
     by Blocked tells moved = ap (λ (plain : Plain). is_alive plain.table who) tells.1 ∙ alive
     by (Done said next) tells moved = ap (λ (plain : Plain). is_alive plain.table who) tells.1 ∙ ap is_alive_in (let kin = moved.kin in kin.itself) ∙ alive
     by (Part count next) tells moved = ap (λ (plain : Plain). is_alive plain.table who) tells.1 ∙ ap is_alive_in (let kin = moved.kin in kin.itself) ∙ alive
@@ -182,23 +182,22 @@ none_is_zero script plain pid alive same = dead (subst (λ n. is_alive plain.tab
     dead e = cc
 
 own_by : (old : Plain) (pid : ℕ) (target : Option Target) (given : Answer) (told : Turned) (new : Plain) → AreDescribed old.files → Tells given old told new
-    → GoesMoved target pid 0 old given → ((status : ℕ) → told ≢ turned.Ended status) → (fd : ℤ) → target_at new.files pid fd ≡ target_at old.files pid fd
-own_by old pid target Blocked told new described tells moved lasts fd = ap (λ (plain : Plain). target_at plain.files pid fd) tells.1
-own_by old pid target (Done said next) told new described tells moved lasts fd =
+    → Lasts told → LastsTo (IsMoved target pid 0 old) given → (fd : ℤ) → target_at new.files pid fd ≡ target_at old.files pid fd
+own_by old pid target Blocked told new described tells lasts moved fd = ap (λ (plain : Plain). target_at plain.files pid fd) tells.1
+own_by old pid target (Done said next) told new described tells lasts moved fd =
     ap (λ (plain : Plain). target_at plain.files pid fd) tells.1 ∙ same_targets pid old.files next.files moved.numbers moved.described described fd
-own_by old pid target (Part count next) told new described tells moved lasts fd =
+own_by old pid target (Part count next) told new described tells lasts moved fd =
     ap (λ (plain : Plain). target_at plain.files pid fd) tells.1 ∙ same_targets pid old.files next.files moved.numbers moved.described described fd
-own_by old pid target (Ended status next) told new described tells moved lasts fd = absurd (lasts status tells.0)
+own_by old pid target (Ended status next) told new described tells lasts moved fd = absurd (lasts status tells.0)
 
 pub own_kept : (script : Script) (old new : World) (pid : ℕ) (fd number : ℤ) (which : Call) (told : Turned) → IsReached script old.plain
-    → TurnsTo script old pid which told new → moves_through which ≡ Some number → ((status : ℕ) → told ≢ turned.Ended status)
-    → target_at new.plain.files pid fd ≡ target_at old.plain.files pid fd
+    → TurnsTo script old pid which told new → moves_through which ≡ Some number → Lasts told → target_at new.plain.files pid fd ≡ target_at old.plain.files pid fd
 own_kept script old new pid fd number which told reached turns moves lasts = go (is_alive old.plain.table pid) refl turns
   where
     go : (lives : Bool) → is_alive old.plain.table pid ≡ lives → TurnsWhere lives script old pid which told new → target_at new.plain.files pid fd ≡ target_at old.plain.files pid fd
     go true is answers =
-        own_by old.plain pid (target_at old.plain.files pid number) (machine script old.plain pid which) told new.plain (reached_keeps reached).1 answers.answer
-        (moves_answer script old.plain pid 0 (none_is_zero script old.plain pid is) which number moves) lasts fd
+        own_by old.plain pid (target_at old.plain.files pid number) (machine script old.plain pid which) told new.plain (reached_keeps reached).1 answers.answer lasts
+        (moves_answer script old.plain pid 0 (none_is_zero script old.plain pid is) which number moves) fd
     go false is over = ap (λ (world : World). target_at world.plain.files pid fd) over.1
 
 module _ (script : Script) (old : Plain) (pid : ℕ) (reached : IsReached script old) (lives : is_alive old.table pid ≡ true) where

@@ -9,13 +9,14 @@ use Rattle.kabi_types.specs.declared.calls.Call.{Call}
 use Rattle.kabi_types.specs.declared.calls.Call.TheVariants as call
 use Rattle.kabi_types.specs.declared.errnos.Errno.{Errno}
 use Rattle.kabi_types.specs.declared.scripts.Script.{Script}
+use Rattle.machine_laws.specs.FileSteps.{LeadsTo}
 use Rattle.machine_laws.proofs.Places.{naming}
 use Rattle.kabi_types.specs.declared.replies.Reply.TheVariants.{Val}
+use Rattle.posix_defs.proofs.SignalLemmas.{of_write}
 use Rattle.posix_defs.specs.Answer.{Answer, Blocked, Done, Ended, Part, replied}
 use Rattle.posix_defs.specs.Calls.Opened.{Opened, answer_on, on_open, opened_at}
 use Rattle.posix_defs.specs.Calls.Reading.{is_directory_target, of_bytes, read, read_from_pipe, read_from_socket, read_target}
 use Rattle.posix_defs.specs.Calls.Writing.{bytes_left, did_part, place_of_write, put_in_pipe, put_in_queue, put_in_socket, stopped, write, write_ignoring, write_queue, write_target, wrote}
-use Rattle.posix_defs.proofs.SignalLemmas.{of_write}
 use Rattle.posix_defs.specs.Files.Descriptions.{Target, OnNode, OnPipe, OnSocket, at_offset, may_read, may_write}
 use Rattle.posix_defs.specs.Files.State.{Files, described_as, descriptors_of, pipe_at, with_pipe, with_sockets, with_tree}
 use Rattle.posix_defs.specs.Machine.{answer_to, machine, unless_wrong}
@@ -42,12 +43,18 @@ pub record IsMoved (target : Option Target) (pid who : ℕ) (old new : Plain) : 
   pub sockets : (place : ℕ) → meet target (Some (OnSocket place)) ≡ false → SameSockets old.files.sockets new.files.sockets
   pub kin : SameKin who old.table new.table
 
--- so it is behind an answer that doesn't end its caller
-abbrev pub GoesMoved : Option Target → ℕ → ℕ → Plain → Answer → Type 0
-GoesMoved target pid who old Blocked = Unit {0}
-GoesMoved target pid who old (Done reply next) = IsMoved target pid who old next
-GoesMoved target pid who old (Part count next) = IsMoved target pid who old next
-GoesMoved target pid who old (Ended status next) = Unit {0}
+-- an answer that doesn't end its caller leads to what has this
+abbrev pub LastsTo : (Plain → Type 0) → Answer → Type 0
+LastsTo P Blocked = Unit {0}
+LastsTo P (Done said next) = P next
+LastsTo P (Part moved next) = P next
+LastsTo P (Ended status next) = Unit {0}
+
+lasting : (P : Plain → Type 0) (given : Answer) → LeadsTo P given → LastsTo P given
+lasting P Blocked led = tt
+lasting P (Done said next) led = led
+lasting P (Part moved next) led = led
+lasting P (Ended status next) led = tt
 
 -- the description of each place is there still
 all_there : (files : Files) → KeepsDescribed files files
@@ -66,7 +73,7 @@ other_pipe files at place pipe apart = elim (eqb_tells at place) [
 module _ (script : Script) (plain : Plain) (pid who : ℕ) (apart : who ≢ pid) where
   -- what is asked of an answer of what such a target is open on
   abbrev Moved : Option Target → Answer → Type 0
-  Moved target given = GoesMoved target pid who plain given
+  Moved target given = LeadsTo (IsMoved target pid who plain) given
 
   family : SameKin who plain.table plain.table
   family = same_table who plain.table
@@ -193,9 +200,9 @@ module _ (script : Script) (plain : Plain) (pid who : ℕ) (apart : who ≢ pid)
   queue_moves target nonblock n done next Blocks each = tt
   queue_moves target nonblock n done next (Fails errno) each = either target (done == 0) _ _ (nothing target _ refl refl) (nothing target _ refl refl)
 
-  ignoring_moves : (fd addr n : ℤ) (done : ℕ) → Moved (target_at plain.files pid fd) (write_ignoring script plain pid fd addr n done)
+  write_moves : (fd addr n : ℤ) (done : ℕ) → Moved (target_at plain.files pid fd) (write_ignoring script plain pid fd addr n done)
   unfolding write_ignoring
-  ignoring_moves fd addr n done = opened_moves fd _ (λ opened is.
+  write_moves fd addr n done = opened_moves fd _ (λ opened is.
       either (Some opened.is.target) (may_write opened.is.access) _ _ (of_some_bytes (Some opened.is.target) addr n _ (go opened is opened.is.target))
       (nothing (Some opened.is.target) _ refl refl))
     where
@@ -222,24 +229,32 @@ module _ (script : Script) (plain : Plain) (pid who : ℕ) (apart : who ≢ pid)
           (sock_write plain.files.sockets place opened.is.nonblock (count_of n - done)) (λ k. some_sockets place _ _ refl family))
           (nothing (Some (OnSocket place)) _ refl refl)
 
-  write_moves : (fd addr n : ℤ) (done : ℕ) → Moved (target_at plain.files pid fd) (write script plain pid fd addr n done)
-  write_moves fd addr n done = of_write script plain pid fd addr n done (Moved (target_at plain.files pid fd)) (λ ends. tt) (λ goes. ignoring_moves fd addr n done)
-
   -- ---- both
 
+  -- what is asked of one that may end its caller
+  abbrev Lasts : Option Target → Answer → Type 0
+  Lasts target given = LastsTo (IsMoved target pid who plain) given
+
+  read_lasts : (fd addr n : ℤ) → Lasts (target_at plain.files pid fd) (read script plain pid fd addr n)
+  read_lasts fd addr n = lasting (IsMoved (target_at plain.files pid fd) pid who plain) _ (read_moves fd addr n)
+
+  write_lasts : (fd addr n : ℤ) (done : ℕ) → Lasts (target_at plain.files pid fd) (write script plain pid fd addr n done)
+  write_lasts fd addr n done = of_write script plain pid fd addr n done (Lasts (target_at plain.files pid fd)) (λ ends. tt)
+      (λ goes. lasting (IsMoved (target_at plain.files pid fd) pid who plain) _ (write_moves fd addr n done))
+
   -- a call whose operands are wrong moves nothing
-  right_or_wrong : (target : Option Target) (fault : Option Errno) (given : Answer) → Moved target given → Moved target (unless_wrong script plain pid fault given)
+  right_or_wrong : (target : Option Target) (fault : Option Errno) (given : Answer) → Lasts target given → Lasts target (unless_wrong script plain pid fault given)
   right_or_wrong target None given moved = moved
   right_or_wrong target (Some errno) given moved = nothing target _ refl refl
 
   number_of : {fd other : ℤ} → Some fd ≡ Some other → fd ≡ other
   number_of e = cc
 
-  pub moves_answer : (which : Call) (fd : ℤ) → moves_through which ≡ Some fd → Moved (target_at plain.files pid fd) (machine script plain pid which)
+  pub moves_answer : (which : Call) (fd : ℤ) → moves_through which ≡ Some fd → Lasts (target_at plain.files pid fd) (machine script plain pid which)
   moves_answer (call.Read number addr n) fd e =
-      subst (λ it. Moved (target_at plain.files pid it) (machine script plain pid (call.Read number addr n))) (number_of e)
-      (right_or_wrong (target_at plain.files pid number) (argument_fault (call.Read number addr n)) _ (read_moves number addr n))
+      subst (λ it. Lasts (target_at plain.files pid it) (machine script plain pid (call.Read number addr n))) (number_of e)
+      (right_or_wrong (target_at plain.files pid number) (argument_fault (call.Read number addr n)) _ (read_lasts number addr n))
   moves_answer (call.Write number addr n done) fd e =
-      subst (λ it. Moved (target_at plain.files pid it) (machine script plain pid (call.Write number addr n done))) (number_of e)
-      (right_or_wrong (target_at plain.files pid number) (argument_fault (call.Write number addr n done)) _ (write_moves number addr n done))
+      subst (λ it. Lasts (target_at plain.files pid it) (machine script plain pid (call.Write number addr n done))) (number_of e)
+      (right_or_wrong (target_at plain.files pid number) (argument_fault (call.Write number addr n done)) _ (write_lasts number addr n done))
   moves_answer _ fd e = cc

@@ -32,7 +32,8 @@ use Rattle.posix_defs.specs.Needs.{pages_in, pages_touched}
 use Rattle.posix_defs.specs.PathCalls.{bind_path, enter_path, link_path, list_node, read_node, mkdir_path, open_path, rename_path, rmdir_path, stat_path, unlink_path}
 use Rattle.posix_defs.specs.Pipe.{new_pipe}
 use Rattle.posix_defs.specs.Plain.{Plain, answered, with_files, with_table}
-use Rattle.posix_defs.specs.Process.{Ignores, Process, directory_of, ignoring, memory_of, process_at, remembering, with_memory, working_in}
+use Rattle.posix_defs.specs.Process.{Ignores, Process, directory_of, ignores_of, ignoring, memory_of, process_at, remembering, with_memory, working_in}
+use Rattle.posix_defs.specs.Signals.{sig_ign, signal, with_disposition}
 use Rattle.posix_defs.specs.Socket.{bind_fault}
 use Rattle.posix_defs.specs.Sockets.{socket_at, with_name, with_new}
 use Rattle.posix_defs.specs.Tree.{Tree, is_directory}
@@ -50,13 +51,13 @@ pub remembers_alike : (memory : Memory) (there : Option Process) → AlikeThere 
 remembers_alike memory None = tt
 remembers_alike memory (Some process) = (refl, refl)
 
-ignores_alike : (ignores : Ignores) (there : Option Process) → AlikeThere there (ignoring ignores there)
-ignores_alike ignores None = tt
-ignores_alike ignores (Some process) = (refl, refl)
-
 works_alike : (directory : ℕ) (there : Option Process) → AlikeThere there (working_in directory there)
 works_alike directory None = tt
 works_alike directory (Some process) = (refl, refl)
+
+ignores_alike : (ignores : Ignores) (there : Option Process) → AlikeThere there (ignoring ignores there)
+ignores_alike ignores None = tt
+ignores_alike ignores (Some process) = (refl, refl)
 
 pub same_files : (files : Files) → KeepsQueues files files
 same_files files = keeps files files refl refl (same_sockets files.sockets)
@@ -120,6 +121,14 @@ module _ (script : Script) (plain : Plain) (pid who : ℕ) (apart : who ≢ pid)
         kin = same_after who pid plain.table (working_in number (process_at plain.table pid)) apart (works_alike number (process_at plain.table pid));
       }
       go (Err e) = record { files = still; kin = family }
+
+  disposes : (which disposition : ℤ) → Quiet (signal script plain pid which disposition)
+  disposes which disposition =
+      let ignores = with_disposition (ignores_of plain.table pid) (count_of which) (sig_ign disposition) in
+      record {
+        files = same_files plain.files;
+        kin = same_after who pid plain.table (ignoring ignores (process_at plain.table pid)) apart (ignores_alike ignores (process_at plain.table pid));
+      }
 
   -- ---- descriptors and descriptions
 
@@ -342,10 +351,7 @@ module _ (script : Script) (plain : Plain) (pid who : ℕ) (apart : who ≢ pid)
   right call.Socket e = sockets
   right (call.Bind fd path) e = binds fd path
   right (call.Poll timeout entries) e = polls timeout entries
-  right (call.Signal which disposition) e = record {
-    files = still;
-    kin = same_after who pid plain.table (ignoring _ (process_at plain.table pid)) apart (ignores_alike _ (process_at plain.table pid));
-  }
+  right (call.Signal which disposition) e = disposes which disposition
   right _ e = cc
 
   pub quiet_answer : (which : Call) → wakes_nobody which ≡ true → Quiet (machine script plain pid which)

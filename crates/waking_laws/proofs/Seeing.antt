@@ -13,6 +13,7 @@ use Rattle.kabi_types.specs.declared.short_lists.PollEntry.{PollEntry}
 use Rattle.kabi_types.specs.declared.scripts.Script.{Script}
 use Rattle.answer_laws.specs.Shapes.{may_block}
 use Rattle.answer_laws.proofs.Blocking.{blocked_may}
+use Rattle.posix_defs.proofs.SignalLemmas.{write_blocks}
 use Rattle.posix_defs.specs.Answer.{Answer, Blocked, failed, replied}
 use Rattle.posix_defs.specs.Control as program
 use Rattle.posix_defs.specs.Calls.OnSockets.{accept, accept_at, accepted_under, socket_target}
@@ -20,7 +21,6 @@ use Rattle.posix_defs.specs.Calls.Opened.{Opened, answer_on, opened_at}
 use Rattle.posix_defs.specs.Calls.Polling.{hits_of, poll, polled, polled_at, polled_node, polled_opened, polled_target, revents_of}
 use Rattle.posix_defs.specs.Calls.Reading.{is_directory_target, of_bytes, read, read_from_pipe, read_from_socket, read_target, unless_directory}
 use Rattle.posix_defs.specs.Calls.Writing.{bytes_left, did_part, put_in_socket, put_in_pipe, write, write_ignoring, write_queue, write_target, wrote}
-use Rattle.posix_defs.proofs.SignalLemmas.{write_blocks}
 use Rattle.posix_defs.specs.Files.Descriptors.{lowest_free}
 use Rattle.posix_defs.specs.Files.Descriptions.{Access, Target, OnNode, OnPipe, OnSocket, may_read, may_write}
 use Rattle.posix_defs.specs.Files.State.{Files, descriptors_of, pipe_at}
@@ -279,17 +279,17 @@ module _ (script : Script) (who : ℕ) (old new : Plain) (same : SeesSame who ol
       ∙ queue_write_waits now.is.nonblock was.is.nonblock n done _ _ _)
       refl
 
-  ignoring_waits : (fd addr n : ℤ) (done : ℕ) → Queue (target_at old.files who fd) → Agree (write_ignoring script new who fd addr n done) (write_ignoring script old who fd addr n done)
+  write_waits : (fd addr n : ℤ) (done : ℕ) → Queue (target_at old.files who fd) → Agree (write_ignoring script new who fd addr n done) (write_ignoring script old who fd addr n done)
   unfolding write_ignoring
-  ignoring_waits fd addr n done sees = on_opened _ _ (opened_at old.files who fd) (opened_at new.files who fd) (same.opened fd) sees (λ it other alike queue.
+  write_waits fd addr n done sees = on_opened _ _ (opened_at old.files who fd) (opened_at new.files who fd) (same.opened fd) sees (λ it other alike queue.
       fork _ _ _ _ _ _ (ap may_write alike.1)
       (bytes_wait addr n _ _
       (ap (λ target. blocks (write_target script new who other addr (count_of n) done target)) alike.0 ∙ target_write_waits it other addr (count_of n) done it.is.target alike.2 queue))
       refl)
 
-  write_waits : (fd addr n : ℤ) (done : ℕ) → Queue (target_at old.files who fd) → Agree (write script new who fd addr n done) (write script old who fd addr n done)
-  write_waits fd addr n done sees =
-      write_blocks script new who fd addr n done ∙ ignoring_waits fd addr n done sees ∙ sym (write_blocks script old who fd addr n done)
+  -- one that ends its caller doesn't block, and so it is of all
+  any_write_waits : (fd addr n : ℤ) (done : ℕ) → Queue (target_at old.files who fd) → Agree (write script new who fd addr n done) (write script old who fd addr n done)
+  any_write_waits fd addr n done sees = write_blocks script new who fd addr n done ∙ write_waits fd addr n done sees ∙ sym (write_blocks script old who fd addr n done)
 
   peer_waits : (listener : ℕ) (fd : Option ℕ) (accepting : Accepting)
       → Agree (accepted_under script new who listener fd accepting) (accepted_under script old who listener fd accepting)
@@ -367,7 +367,7 @@ module _ (script : Script) (who : ℕ) (old new : Plain) (same : SeesSame who ol
   all_agree : (which : Call) → SeesQueues who old.files new.files (awaited which) → Agree (machine script new who which) (machine script old who which)
   all_agree (call.Waitpid child options) sees = right_or_wrong (argument_fault (call.Waitpid child options)) _ _ (child_waits child options)
   all_agree (call.Read fd addr n) sees = right_or_wrong (argument_fault (call.Read fd addr n)) _ _ (read_waits fd addr n sees.0)
-  all_agree (call.Write fd addr n done) sees = right_or_wrong (argument_fault (call.Write fd addr n done)) _ _ (write_waits fd addr n done sees.0)
+  all_agree (call.Write fd addr n done) sees = right_or_wrong (argument_fault (call.Write fd addr n done)) _ _ (any_write_waits fd addr n done sees.0)
   all_agree (call.Accept fd) sees = right_or_wrong (argument_fault (call.Accept fd)) _ _ (accept_waits fd sees.0)
   all_agree (call.Poll timeout entries) sees = right_or_wrong (argument_fault (call.Poll timeout entries)) _ _ (poll_waits timeout entries sees)
   all_agree which sees = quiet which refl

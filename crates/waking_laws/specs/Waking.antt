@@ -46,7 +46,7 @@ wakes_nobody call.Pipe = true
 wakes_nobody call.Socket = true
 wakes_nobody (call.Bind fd path) = true
 wakes_nobody (call.Poll timeout entries) = true
-wakes_nobody (call.Signal which disposition) = true
+wakes_nobody (call.Signal signal disposition) = true
 wakes_nobody _ = false
 
 -- what a call that failed was told
@@ -61,6 +61,10 @@ passes_by which turned.Gone = true
 passes_by which (turned.Done (reply.Fail errno)) = true
 passes_by which (turned.Done told) = wakes_nobody which
 passes_by which _ = false
+
+-- the call didn't end its caller
+abbrev pub Lasts : Turned → Type 0
+Lasts told = (status : ℕ) → told ≡ turned.Ended status → ⊥
 
 -- of these the calls that give their caller a number
 abbrev pub gives_number : Call → Bool

@@ -5,12 +5,11 @@ ghost use Rattle.kabi_types.specs.declared.calls.Call.{Call};
 ghost use Rattle.kabi_types.specs.declared.scripts.Script.{Script};
 ghost use Rattle.machine_laws.specs.Reached.{IsReached};
 ghost use Rattle.posix_defs.specs.declared.turner.Turned.{Turned};
-ghost use Rattle.posix_defs.specs.declared.turner.Turned.TheVariants.{Ended};
 ghost use Rattle.posix_defs.specs.Plain.{Plain};
 ghost use Rattle.posix_defs.specs.Process.{is_alive};
 ghost use Rattle.posix_defs.specs.Turn.{TurnsTo};
 ghost use Rattle.posix_defs.specs.World.{World};
-ghost use Rattle.waking_laws.specs.Waking.{StaysAsItWas, StaysItself, gives_number, is_apart, moves_through, passes_by, target_at};
+ghost use Rattle.waking_laws.specs.Waking.{Lasts, StaysAsItWas, StaysItself, gives_number, is_apart, moves_through, passes_by, target_at};
 
 /// Behind a turn that did nothing, that failed, or whose call changes nothing that others wait for, each other process that lived
 /// before it lives, and its next call would block exactly where it would have before.
@@ -28,18 +27,18 @@ pub fn a_turn_leaves_others_themselves()
         → StaysItself script who old.plain new.plain }
 {}
 
-/// A turn that moves bytes, and so doesn't end its process, wakes only those who wait for what its number is open on: whose next call has
+/// A turn that moves bytes, and doesn't end its process, wakes only those who wait for what its number is open on: whose next call has
 /// nothing to do with that would block exactly where it would have before.
 pub fn a_turn_that_moves_bytes_wakes_who_waits_there()
     ensures { (script : Script) (old new : World) (pid who : ℕ) (fd : ℤ) (call : Call) (told : Turned) → IsReached script old.plain
-        → TurnsTo script old pid call told new → moves_through call ≡ Some fd → ((status : ℕ) → told ≢ Ended status) → who ≢ pid → is_alive old.plain.table who ≡ true
+        → TurnsTo script old pid call told new → moves_through call ≡ Some fd → Lasts told → who ≢ pid → is_alive old.plain.table who ≡ true
         → is_apart script old.plain who pid fd ≡ true → StaysAsItWas script who old.plain new.plain }
 {}
 
-/// A turn that moves bytes and doesn't end its process leaves that one's numbers open on what they were open on.
+/// A turn that moves bytes, and doesn't end its process, leaves its own numbers open on what they were open on.
 pub fn a_turn_that_moves_bytes_leaves_its_numbers()
     ensures { (script : Script) (old new : World) (pid : ℕ) (fd number : ℤ) (call : Call) (told : Turned) → IsReached script old.plain
-        → TurnsTo script old pid call told new → moves_through call ≡ Some number → ((status : ℕ) → told ≢ Ended status)
+        → TurnsTo script old pid call told new → moves_through call ≡ Some number → Lasts told
         → target_at new.plain.files pid fd ≡ target_at old.plain.files pid fd }
 {}
 

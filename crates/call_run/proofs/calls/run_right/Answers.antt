@@ -9,10 +9,12 @@ use Rattle.kheap_slabs.specs.Purse.{left_bytes}
 use Rattle.posix_defs.specs.Needs.{bound, chunks_for, nodes_for, pages_in, pages_touched, slack}
 use Rattle.posix_defs.specs.Process.{parent_of}
 use Rattle.posix_defs.specs.Sizes.{reserve}
+use Rattle.store_objects.proofs.Callers.{caller_lives}
 use Rattle.store_objects.proofs.Paying.{uses_more, uses_nothing, uses_paid}
 use Rattle.store_objects.proofs.Replies.{does_tell, parent_is}
 use Rattle.store_objects.specs.Uses.{UsesAtMost}
 use Rattle.call_run.proofs.BytesCached.{cached_that, queue_cached}
+use Rattle.call_run.proofs.Breaking.{performs_write, serves_broken}
 use Rattle.call_run.proofs.Dispatch.{done_is, named_four, named_one, named_three, named_two, numbered, performs_that, reaches_that, serves_that, spelt_one, spelt_two}
 use Rattle.call_run.proofs.Naming.{has_file_need, has_left, has_need, leaf_where, may_fetch, paths_of_it, pays, right_that, room_kept, walks_connecting, walks_one, walks_opening, walks_two}
 use Rattle.call_run.proofs.OnFiles.{written_anew}
@@ -459,6 +461,39 @@ returns-in-File-target-clause-does c =
 pub returns-in-File-target-clause-cached : goal.returns-in-File-target-clause-cached
 returns-in-File-target-clause-cached c = cached_that _ _ _ _ c.in-Write.is tt
 
+-- ---- Write to a queue that ends its caller
+
+pub write_breaks-requires-clause-stands : goal.write_breaks-requires-clause-stands
+write_breaks-requires-clause-stands c = (c.args.script.now, c.requires.stands.0, c.requires.stands.1)
+
+pub write_breaks-requires-clause-right : goal.write_breaks-requires-clause-right
+write_breaks-requires-clause-right c = right_that c.requires.right (named_three c.named_by-named.ensures.number (λ x y z. call.Write x y z c.in-Write.done) c.in-Write.is refl (search (rules, to_z-of_z)) (search (rules, to_z-of_z)))
+
+pub break_off-requires-clause-stands : goal.break_off-requires-clause-stands
+break_off-requires-clause-stands c = (c.args.script.now, c.requires.stands.0, c.requires.stands.1, c.requires.stands.2)
+
+pub break_off-requires-clause-runs : goal.break_off-requires-clause-runs
+break_off-requires-clause-runs c = caller_lives c.args.objects.now c.args.caller.now.place.pid c.args.caller.now c.requires.caller
+
+pub break_off-requires-clause-room : goal.break_off-requires-clause-room
+break_off-requires-clause-room c = room_kept c.args.objects.now.heap c.args.call.now c.requires.room
+
+pub returns-then-write_breaks-clause-kept : goal.returns-then-write_breaks-clause-kept
+returns-then-write_breaks-clause-kept c = c.break_off.ensures.kept c.args.script.now c.requires.kept
+
+pub returns-then-write_breaks-clause-uses : goal.returns-then-write_breaks-clause-uses
+returns-then-write_breaks-clause-uses c =
+    uses_more _ _ _ _ (subst (λ which. UsesAtMost c.args.objects.now.heap c.break_off.new.objects.heap 0 (slack which)) (sym c.in-Write.is) c.break_off.ensures.uses)
+
+pub returns-then-write_breaks-clause-does : goal.returns-then-write_breaks-clause-does
+returns-then-write_breaks-clause-does c =
+    serves_that (named_three c.named_by-named.ensures.number (λ x y z. call.Write x y z c.in-Write.done) c.in-Write.is refl (search (rules, to_z-of_z)) (search (rules, to_z-of_z)))
+    (serves_broken c.args.script.now c.args.objects.now c.break_off.new.objects c.args.caller.now.place.pid _ _ _ c.in-Write.done c.break_off.result
+    (λ world stands. sym c.if-write_breaks.true ∙ c.write_breaks.ensures c.args.script.now world stands) (c.break_off.ensures.does c.args.script.now _ _ _ c.in-Write.done))
+
+pub returns-then-write_breaks-clause-cached : goal.returns-then-write_breaks-clause-cached
+returns-then-write_breaks-clause-cached c = cached_that _ _ _ _ c.in-Write.is tt
+
 -- ---- Write to a queue
 
 pub write-requires-in-Queue-target-clause-room : goal.write-requires-in-Queue-target-clause-room
@@ -488,7 +523,9 @@ returns-in-Queue-target-clause-uses c =
 
 pub returns-in-Queue-target-clause-does : goal.returns-in-Queue-target-clause-does
 returns-in-Queue-target-clause-does c =
-    performs_that (named_three c.named_by-named.ensures.number (λ x y z. call.Write x y z c.in-Write.done) c.in-Write.is refl (search (rules, to_z-of_z)) (search (rules, to_z-of_z))) refl c.write-in-Queue-target.ensures.does
+    performs_that (named_three c.named_by-named.ensures.number (λ x y z. call.Write x y z c.in-Write.done) c.in-Write.is refl (search (rules, to_z-of_z)) (search (rules, to_z-of_z))) refl
+    (performs_write c.args.script.now c.args.objects.now c.write-in-Queue-target.new.objects c.args.caller.now.place.pid _ _ _ c.in-Write.done c.write-in-Queue-target.result
+    (λ world stands. sym c.if-write_breaks.false ∙ c.write_breaks.ensures c.args.script.now world stands) c.write-in-Queue-target.ensures.does)
 
 pub returns-in-Queue-target-clause-cached : goal.returns-in-Queue-target-clause-cached
 returns-in-Queue-target-clause-cached c = cached_that _ _ _ _ c.in-Write.is tt
@@ -1040,3 +1077,15 @@ returns-in-Poll-clause-does c =
 
 pub returns-in-Poll-clause-cached : goal.returns-in-Poll-clause-cached
 returns-in-Poll-clause-cached c = cached_that _ _ _ _ c.in-Poll.is tt
+
+-- ---- Signal
+
+pub returns-in-Signal-clause-uses : goal.returns-in-Signal-clause-uses
+returns-in-Signal-clause-uses c = uses_nothing _ _ _ _ c.signal.ensures.takes
+
+pub returns-in-Signal-clause-does : goal.returns-in-Signal-clause-does
+returns-in-Signal-clause-does c =
+    performs_that (spelt_two call.Signal c.in-Signal.is (search (rules, to_z-of_z)) (search (rules, to_z-of_z))) refl c.signal.ensures.does
+
+pub returns-in-Signal-clause-cached : goal.returns-in-Signal-clause-cached
+returns-in-Signal-clause-cached c = cached_that _ _ _ _ c.in-Signal.is tt

@@ -19,6 +19,7 @@ use Rattle.store_objects.proofs.Within.{within_paid}
 use Rattle.file_calls.proofs.Calling.{HasMoved, Leads, alive_who_runs, holds_some, is_kept, kept_moved, leaves_others, mid_of, runs_moved, serves_moved}
 use Rattle.file_calls.proofs.Kin.{write_kin}
 use Rattle.file_calls.proofs.Needed.{of_two}
+use Rattle.file_calls.proofs.Unbroken.{serves_write}
 use Rattle.file_calls.proofs.writing.write.Goals as goal
 
 moved : (script : Script) (old : Objects) (heap : Heap) (fs : TreeView) (pid : ℕ) (fd addr n as_addr as_n : ℤ) (count : Result ℕ Errno) (said : Reply) → as_addr ≡ addr → as_n ≡ n
@@ -68,11 +69,13 @@ returns-clause-paid c =
 
 pub returns-clause-does : goal.returns-clause-does
 returns-clause-does c =
-    serves_moved c.args.script.now c.args.objects.now c.write_file-moved.new.heap c.write_file-moved.new.tree c.args.caller.now.place.pid (call.Write c.args.on.now.fd c.args.addr c.args.n 0) c.args.on.now.fd (λ plain. write_ignoring c.args.script.now plain c.args.caller.now.place.pid c.args.on.now.fd c.args.addr c.args.n 0) c.value.result
+    serves_write c.args.script.now c.args.objects.now c.go_on.new.objects c.args.caller.now.place.pid c.args.on.now c.args.addr c.args.n 0 (call.Write c.args.on.now.fd c.args.addr c.args.n 0) c.go_on.result
+    c.requires.opened c.requires.on
+    (serves_moved c.args.script.now c.args.objects.now c.write_file-moved.new.heap c.write_file-moved.new.tree c.args.caller.now.place.pid (call.Write c.args.on.now.fd c.args.addr c.args.n 0) c.args.on.now.fd (λ plain. write_ignoring c.args.script.now plain c.args.caller.now.place.pid c.args.on.now.fd c.args.addr c.args.n 0) c.value.result
     (moved c.args.script.now c.args.objects.now c.write_file-moved.new.heap c.write_file-moved.new.tree c.args.caller.now.place.pid c.args.on.now.fd c.args.addr c.args.n _ _ c.write_file-moved.result c.value.result
     (to_z-of_z w64 c.args.addr c.ranges.addr) (to_z-of_z w64 c.args.n c.ranges.n) c.value.ensures c.write_file-moved.ensures.beside c.requires.stands
     c.heap_is_well_formed.ensures c.write_file-moved.ensures.kept c.requires.right c.write_file-moved.ensures.stays (c.write_file-moved.ensures.leads c.args.script.now))
     c.go_on.result c.go_on.new.objects
     (within_paid c.args.objects.now (mid_of c.args.objects.now c.write_file-moved.new.heap c.write_file-moved.new.tree) c.args.purse.now c.write_file-moved.new.purse (call.Write c.args.on.now.fd c.args.addr c.args.n 0) c.write_file-moved.ensures.paid
     (ap (λ need. need.name) c.requires.needed) (ap (λ need. need.block) c.requires.needed) (ap (λ need. need.vnode) c.requires.needed) c.write_file-moved.ensures.reads)
-    c.go_on.ensures.told c.go_on.ensures.goes (λ plain. write_kin c.args.script.now plain c.args.caller.now.place.pid c.args.on.now.fd c.args.addr c.args.n 0)
+    c.go_on.ensures.told c.go_on.ensures.goes (λ plain. write_kin c.args.script.now plain c.args.caller.now.place.pid c.args.on.now.fd c.args.addr c.args.n 0))

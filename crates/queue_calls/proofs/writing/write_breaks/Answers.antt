@@ -1,5 +1,8 @@
-use Rattle.std.proofs.Common.{◌≡◌, ◌∙◌, sym, w64}
+use Rattle.std.proofs.Common.{◌≡◌, ◌∙◌, ◌<◌, ◌==◌, false, true, sym, subst, ne_eqb, eq-eqb, arith, w64}
 use Rattle.std.proofs.lemmas.Int.{to_z-of_z}
+use Rattle.posix_defs.specs.Calls.Opened.{opened_at}
+use Rattle.posix_defs.specs.Calls.Writing.{is_broken}
+use Rattle.store_objects.proofs.Callers.{caller_lives}
 use Rattle.queue_calls.proofs.Breaking.{who_breaks, who_ignores, who_moved}
 use Rattle.queue_calls.proofs.Queueing.{is_kept, queues_stand}
 use Rattle.queue_calls.proofs.writing.write_breaks.Goals as goal

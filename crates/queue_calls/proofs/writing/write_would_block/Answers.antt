@@ -2,7 +2,8 @@ use Rattle.std.proofs.Common.{◌≡◌, ◌∙◌, sym, w64}
 use Rattle.std.specs.Prelude.{is_none}
 use Rattle.std.proofs.lemmas.Int.{to_z-of_z}
 use Rattle.kabi_types.specs.Arguments.{moved_fault}
-use Rattle.posix_defs.specs.Calls.Writing.{write}
+use Rattle.posix_defs.proofs.SignalLemmas.{write_blocks}
+use Rattle.posix_defs.specs.Calls.Writing.{write, write_ignoring}
 use Rattle.posix_defs.specs.Machine.{blocks}
 use Rattle.store_objects.proofs.RunningProcs.{alive_runs}
 use Rattle.queue_calls.proofs.Blocking.{blocks_right, blocks_wrong, no_fault}
@@ -35,8 +36,9 @@ returns c = λ script world stands.
     let addr = to_z-of_z w64 c.args.addr c.ranges.addr in
     let n = to_z-of_z w64 c.args.n c.ranges.n in
     let right = of_three (λ x y z. c.may_move.result ≡ is_none (moved_fault 0 y z)) _ _ _ c.args.fd c.args.addr c.args.n fd addr n c.may_move.ensures in
-    of_three (λ x y z. c.write_waits.result ≡ blocks (write script world.plain pid x y z c.args.done)) _ _ _ c.args.fd c.args.addr c.args.n found addr n
+    of_three (λ x y z. c.write_waits.result ≡ blocks (write_ignoring script world.plain pid x y z c.args.done)) _ _ _ c.args.fd c.args.addr c.args.n found addr n
     (c.write_waits.ensures script stands.files.numbers world.plain world.account (queues_stand script c.args.objects.now world stands))
+    ∙ sym (write_blocks script world.plain pid c.args.fd c.args.addr c.args.n c.args.done)
     ∙ sym (blocks_right script world.plain pid (moved_fault 0 c.args.addr c.args.n) (write script world.plain pid c.args.fd c.args.addr c.args.n c.args.done) (sym right ∙ c.if-not-may_move.false))
 
 pub returns-then-not-may_move : goal.returns-then-not-may_move
