@@ -21,7 +21,7 @@ use kheap_slabs::Purse;
 use posix_defs::Turned;
 use proc_files::{close_number, dup_number};
 use proc_numbers::Named;
-use store_objects::replies::{value, zero};
+use store_objects::told::{value, zero};
 use store_objects::{Caller, Objects, go_on, kept_back};
 
 /// Closes a number; with the last that names it a description goes, and what it was open on. A file without links goes with the last

@@ -20,7 +20,7 @@ use kheap_slabs::Purse;
 use posix_defs::Turned;
 use proc_files::bind_number;
 use proc_numbers::Named;
-use store_objects::replies::zero;
+use store_objects::told::zero;
 use store_objects::{Caller, Objects, go_on};
 
 /// Gives the socket that a number is open on a new name in the tree of files.

@@ -22,7 +22,7 @@ use kheap_slabs::Purse;
 use posix_defs::Turned;
 use proc_files::{seek_number, size_number};
 use proc_numbers::Named;
-use store_objects::replies::zero;
+use store_objects::told::zero;
 use store_objects::{Caller, Objects, go_on};
 
 /// Has the description that a number names stand at another offset, counted from the beginning, from where it is, or from the end of

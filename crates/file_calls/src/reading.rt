@@ -23,7 +23,7 @@ use kheap_slabs::Purse;
 use posix_defs::Turned;
 use proc_files::{FileBuffer, pread_file, read_entries, read_file};
 use proc_numbers::Named;
-use store_objects::replies::value;
+use store_objects::told::value;
 use store_objects::{Caller, Objects, go_on};
 
 /// Reads at most n bytes of the file that a number is open on into memory, from the description's offset on, as many as are there;

@@ -14,7 +14,7 @@ use kabi_types::Script;
 use kheap_slabs::Purse;
 use posix_defs::Turned;
 use proc_numbers::{Named, dup_one};
-use store_objects::replies::value;
+use store_objects::told::value;
 use store_objects::{Caller, Objects, go_on};
 
 /// Has the lowest number that is free name what another names, and tells it. EBADF where the other isn't open, EMFILE where no

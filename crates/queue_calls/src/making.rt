@@ -14,7 +14,7 @@ use kabi_types::Script;
 use kheap_slabs::Purse;
 use posix_defs::Turned;
 use proc_numbers::{make_pair, make_socket};
-use store_objects::replies::value;
+use store_objects::told::value;
 use store_objects::{Caller, Objects, go_on};
 
 /// Makes a socket: the lowest number that is free names it, and is told. EMFILE where none is free; nothing is made then.
