@@ -6,6 +6,7 @@ use Rattle.kabi_types.specs.declared.calls.Call.{Call}
 use Rattle.kabi_types.specs.declared.calls.Call.TheVariants as calls
 use Rattle.kabi_types.specs.declared.errnos.Errno.{Errno}
 use Rattle.kabi_types.specs.declared.errnos.Errno.TheVariants.{EPERM, ESRCH}
+use Rattle.kabi_types.specs.declared.replies.Reply.{Reply}
 use Rattle.kabi_types.specs.declared.replies.Reply.TheVariants.{Val}
 use Rattle.kabi_types.specs.declared.scripts.Script.{Script}
 use Rattle.posix_defs.specs.Answer.{Answer, Blocked, Done, Ended, Part, failed, replied}
@@ -34,6 +35,9 @@ use Rattle.machine_laws.proofs.Quiet.{Told, writes_told}
 
 -- ---- who ignores a signal
 
+abbrev Stays : Plain → Answer → Type 0
+Stays plain given = LeadsTo (λ next. next.table ≡ plain.table) given
+
 -- who ignores it isn't ended by it
 not_ended : (signal : ℕ) (process : Process) → is_ignored process.ignores signal ≡ true → is_ended_by signal process ≡ false
 not_ended signal process ignores = go (runs process.status) (is_ignored process.ignores signal) ignores
@@ -47,51 +51,57 @@ pub sent_leaves : (script : Script) (plain : Plain) (pid target : ℕ) (signal :
     → LeadsTo (λ next. next.table ≡ plain.table) (machine script plain pid (calls.Kill (pos target) signal))
 sent_leaves script plain pid target signal ignores = right (argument_fault (calls.Kill (pos target) signal))
   where
-    abbrev Stays : Answer → Type 0
-    Stays given = LeadsTo (λ next. next.table ≡ plain.table) given
-
-    running : (process : Process) (b : Bool) → b ≡ false → Stays (cond b (struck script plain pid target (count_of signal)) (replied script plain pid (Val (pos 0))))
+    running : (process : Process) (b : Bool) → b ≡ false → Stays plain (cond b (struck script plain pid target (count_of signal)) (replied script plain pid (Val (pos 0))))
     running process true e = cc
     running process false e = refl
 
     first : (process : Process) → is_ended_by (count_of signal) process ≡ false → (b : Bool)
-        → Stays (cond b (failed script plain pid EPERM) (killing.ends script plain pid target (count_of signal) process))
+        → Stays plain (cond b (failed script plain pid EPERM) (killing.ends script plain pid target (count_of signal) process))
     first process spared true = refl
     first process spared false = running process (is_ended_by (count_of signal) process) spared
 
     asks : (process : Process) → is_ended_by (count_of signal) process ≡ false → (b : Bool)
-        → Stays (cond b (replied script plain pid (Val (pos 0))) (cond (target == 1) (failed script plain pid EPERM) (killing.ends script plain pid target (count_of signal) process)))
+        → Stays plain (cond b (replied script plain pid (Val (pos 0))) (cond (target == 1) (failed script plain pid EPERM) (killing.ends script plain pid target (count_of signal) process)))
     asks process spared true = refl
     asks process spared false = first process spared (target == 1)
 
-    go : (o : Option Process) → process_at plain.table target ≡ o → Stays (sent_to script plain pid target signal o)
+    go : (o : Option Process) → process_at plain.table target ≡ o → Stays plain (sent_to script plain pid target signal o)
     go None is = refl
     go (Some process) is =
         asks process (not_ended (count_of signal) process (ap (λ o. is_ignored (ignores_in o) (count_of signal)) (sym is) ∙ ignores)) (is_asking signal)
 
-    right : (fault : Option Errno) → Stays (unless_wrong script plain pid fault (kill script plain pid (pos target) signal))
+    right : (fault : Option Errno) → Stays plain (unless_wrong script plain pid fault (kill script plain pid (pos target) signal))
     right None = go (process_at plain.table target) refl
     right (Some e) = refl
 
+blocked_ended : (status : ℕ) (next : Plain) → Blocked ≡ Ended status next → ⊥
+blocked_ended status next e = cc
+
+done_ended : (said : Reply) (plain : Plain) (status : ℕ) (next : Plain) → Done said plain ≡ Ended status next → ⊥
+done_ended said plain status next e = cc
+
+part_ended : (moved : ℕ) (plain : Plain) (status : ℕ) (next : Plain) → Part moved plain ≡ Ended status next → ⊥
+part_ended moved plain status next e = cc
+
 -- what leaves the table of processes ends nobody
 told_goes_on : (script : Script) (plain : Plain) (pid status : ℕ) (next : Plain) (given : Answer) → Told script plain pid given → given ≢ Ended status next
-told_goes_on script plain pid status next _ quiet.blocks = λ e. cc
-told_goes_on script plain pid status next _ (quiet.fails e) = λ f. cc
-told_goes_on script plain pid status next _ (quiet.tells files said) = λ e. cc
-told_goes_on script plain pid status next _ (quiet.parts files moved) = λ e. cc
+told_goes_on script plain pid status next _ quiet.blocks = λ e. blocked_ended status next e
+told_goes_on script plain pid status next _ (quiet.fails e) = λ f. done_ended _ _ status next f
+told_goes_on script plain pid status next _ (quiet.tells files said) = λ e. done_ended _ _ status next e
+told_goes_on script plain pid status next _ (quiet.parts files moved) = λ e. part_ended _ _ status next e
 
 -- a write that ends its caller
+abbrev Ends : Plain → (pid done status : ℕ) → Plain → Answer → Type 0
+Ends plain pid done status next given = given ≡ Ended status next → EndsByPipe plain pid done status next
+
 pub write_ends_so : (script : Script) (plain : Plain) (pid : ℕ) (fd addr n : ℤ) (done status : ℕ) (next : Plain)
     → machine script plain pid (calls.Write fd addr n done) ≡ Ended status next → EndsByPipe plain pid done status next
 write_ends_so script plain pid fd addr n done status next is = right (argument_fault (calls.Write fd addr n done)) is
   where
-    abbrev Ends : Answer → Type 0
-    Ends given = given ≡ Ended status next → EndsByPipe plain pid done status next
-
     zero_is : (m : ℕ) → (m == 0) ≡ true → m ≡ 0
     zero_is m e = elim (eqb_tells m 0) [ inl same ↦ same.1 | inr apart ↦ absurd (let f = apart.0 in cc) ]
 
-    ended : write_ends plain pid fd addr n done ≡ true → Ends (Ended sigpipe (die plain pid sigpipe))
+    ended : write_ends plain pid fd addr n done ≡ true → Ends plain pid done status next (Ended sigpipe (die plain pid sigpipe))
     ended ends e = let by = ends_by script plain pid fd addr n done ends in record {
       nothing_moved = zero_is done by.1;
       heeded = by.0;
@@ -99,8 +109,8 @@ write_ends_so script plain pid fd addr n done status next is = right (argument_f
       ended = (let f = e in cc);
     }
 
-    right : (fault : Option Errno) → Ends (unless_wrong script plain pid fault (write script plain pid fd addr n done))
-    right None = of_write script plain pid fd addr n done Ends ended
+    right : (fault : Option Errno) → Ends plain pid done status next (unless_wrong script plain pid fault (write script plain pid fd addr n done))
+    right None = of_write script plain pid fd addr n done (Ends plain pid done status next) ended
         (λ goes e. absurd (told_goes_on script plain pid status next _ (writes_told script plain pid fd addr n done) e))
     right (Some errno) = λ e. absurd (told_goes_on script plain pid status next _ (quiet.fails errno) e)
 
@@ -115,6 +125,9 @@ ignoring_never_ends script plain pid fd addr n done status next ignores is =
 
 -- ---- the first process
 
+abbrev Lives : Answer → Type 0
+Lives given = LeadsTo (λ next. is_alive next.table 1 ≡ true) given
+
 spared : (table : Table) (target status : ℕ) → target ≢ 1 → is_alive table 1 ≡ true → is_alive (die_in table target status) 1 ≡ true
 spared table zero status other alive = others_live table zero 1 status alive (λ e. cc)
 spared table (suc zero) status other alive = absurd (other refl)
@@ -124,9 +137,6 @@ pub kill_spares_first : (script : Script) (plain : Plain) (pid : ℕ) (target si
     → LeadsTo (λ next. is_alive next.table 1 ≡ true) (machine script plain pid (calls.Kill target signal))
 kill_spares_first script plain pid target signal alive = right (argument_fault (calls.Kill target signal))
   where
-    abbrev Lives : Answer → Type 0
-    Lives given = LeadsTo (λ next. is_alive next.table 1 ≡ true) given
-
     strikes : (at : ℕ) → at ≢ 1 → (own : Bool) → (at == pid) ≡ own
         → Lives (cond own (Ended (count_of signal) (die plain pid (count_of signal))) (replied script (die plain at (count_of signal)) pid (Val (pos 0))))
     strikes at other true is = elim (eqb_tells at pid) [
@@ -277,7 +287,7 @@ module _ (script : Script) (plain : Plain) (pid : ℕ) (all : AllIgnore plain) w
   ]
 
   same_answer : (call : Call) → minds_no_signal call ≡ true → answer_to script plain pid call ≡ answer_before script plain pid call
-  same_answer (calls.Signal which disposition) e = cc
+  same_answer (calls.Signal which disposition) e = refl
   same_answer (calls.Kill target signal) e = kill_same target signal e
   same_answer (calls.Write fd addr n done) e =
       write_goes_on script plain pid fd addr n done (ignoring_goes_on script plain pid fd addr n done (ap (λ (ignores : Ignores). ignores.broken_pipe) (all pid)))
