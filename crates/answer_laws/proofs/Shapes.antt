@@ -22,7 +22,7 @@ use Rattle.posix_defs.specs.MemoryCalls.{in_range, mapped_from, mmap, remembered
 use Rattle.posix_defs.specs.Needs.{pages_in, pages_touched}
 use Rattle.posix_defs.specs.Pipe.{Moving, pipe_read, pipe_write}
 use Rattle.posix_defs.specs.Pipe as pipes
-use Rattle.posix_defs.specs.Plain.{Plain, answered, with_files}
+use Rattle.posix_defs.specs.Plain.{Plain, with_files}
 use Rattle.posix_defs.specs.Process.{Process, directory_of, is_alive, is_alive_in, memory_of, process_at, runs}
 use Rattle.posix_defs.specs.Reaching.{is_reply}
 use Rattle.posix_defs.specs.Signals.{sigpipe}

@@ -24,10 +24,11 @@ ghost use Rattle.store_objects.specs.Walking.{Serves};
 ghost use Rattle.store_objects.specs.declared.purses.Target.TheVariants.{File, Queue};
 ghost use Rattle.call_run.specs.Families.{HasDone, HasHalf, HasPaths};
 
+use crate::closing::{close, dup2};
 use crate::numbers::{named_by, target_of};
 use file_calls::{
-    bind, close, connect, dup2, exec, fstat, ftruncate, lseek, open, pread, pwrite,
-    read as read_file, readdir, write as write_file,
+    bind, connect, exec, fstat, ftruncate, lseek, open, pread, pwrite, read as read_file, readdir,
+    write as write_file,
 };
 use kabi_types::{Call, Errno, Memory, Need, Reply, Script, may_wait};
 use path_calls::{chdir, link, mkdir, rename, rmdir, stat, unlink};

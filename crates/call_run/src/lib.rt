@@ -2,6 +2,7 @@
 #![tactic(auto)]
 
 mod calls;
+mod closing;
 pub mod laws;
 mod numbers;
 mod sleepers;

@@ -5,7 +5,7 @@ ghost use Rattle.file_calls.specs.Bytes.{ReadsCached};
 ghost use Rattle.kabi_types.specs.declared.scripts.Script.{Script};
 ghost use Rattle.posix_defs.specs.Plain as plain;
 ghost use Rattle.posix_defs.specs.ValidScript.{IsValid};
-ghost use Rattle.posix_defs.specs.World.{World, boot_world};
+ghost use Rattle.posix_defs.specs.World.{boot_world};
 ghost use Rattle.call_run.specs.Settled.{settled_blocks};
 ghost use Rattle.call_run.specs.Sleepers.{is_settled};
 ghost use Rattle.call_run.specs.Stores.{Stands};

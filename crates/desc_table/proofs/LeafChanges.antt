@@ -1,7 +1,7 @@
 -- One number of a process in hand has another descriptor, or none: among the first, in a Leaf that is there, in one that comes for it,
 -- and in one that goes with it.
 use Rattle.std.proofs.Common.{◌≡◌, ◌≢◌, ℕ, ◌+◌, ◌<◌, ◌≤◌, List, Option, None, Some, length, get_or, set, replicate, count_by, is_some, IsSome, refl, sym, ap, ◌∙◌, subst, arith}
-use Rattle.std.proofs.lemmas.List.{get_or-replicate, get_or-set_other, get_or-set_same, length-replicate, length-set, set-set}
+use Rattle.std.proofs.lemmas.List.{get_or-replicate, get_or-set_other, get_or-set_same, length-replicate, length-set}
 use Rattle.std.proofs.lemmas.List.Folds.{sum_by-replicate}
 use Rattle.kheap_slabs.specs.Objects.{object, put, without}
 use Rattle.kheap_slabs.specs.declared.objects.Descriptor.{Descriptor as Held}

@@ -2,4 +2,3 @@ pub mod CopyLemmas
 pub mod GoingLemmas
 pub mod LeafChanges
 pub mod NumberLemmas
-pub mod OpenedLemmas

@@ -1,4 +1,3 @@
 pub mod Going
-pub mod Making
 pub mod Numbered
 pub mod Copying

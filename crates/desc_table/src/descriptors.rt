@@ -140,6 +140,38 @@ impl Descs {
         key
     }
 
+    /// The lowest number at or above one that isn't open. None where all from there to 127 are.
+    pub fn lowest(&self, heap: &KHeap, from: u32) -> Option<u32>
+        requires owns { OwnsLeaves heap.now.leaves self.now.leaves }
+        ensures { result ≡ lowest_free_from (descriptors_in (numbers heap.now self.now)) from }
+    {
+        lowest_among(heap, &self.places, &self.leaves, from)
+    }
+
+    /// Whether `exec` closes a number that is open (FD_CLOEXEC).
+    pub fn flags(&self, heap: &KHeap, fd: u32) -> bool
+        requires owns { OwnsLeaves heap.now.leaves self.now.leaves }
+        requires opened { IsSome (slice_index_or (numbers heap.now self.now) fd None) }
+        ensures { (descriptor : HeldDescriptor) → slice_index_or (numbers heap.now self.now) fd None ≡ Some descriptor
+            → result ≡ descriptor.close_on_exec }
+    {
+        self.descriptor(heap, fd).close_on_exec
+    }
+
+    /// What `poll` tells of one entry a process that has these open, as `polled` does of a Proc.
+    pub fn polled(&self, heap: &KHeap, entry: &PollEntry) -> u8
+        requires owns { OwnsLeaves heap.now.leaves self.now.leaves }
+        requires there { IsOpenIn heap.now (descriptor_of (descriptors_in (numbers heap.now self.now)) entry.now.fd) }
+        ensures { (plain : Numbers) (list : CountedList) (files : Files) (pid : ℕ) → AreOpen plain heap.now list files
+            → descriptors_of files pid ≡ renumbered plain.descs (descriptors_in (numbers heap.now self.now))
+            → result ≡ polled_at files pid entry.now.fd entry.now.events }
+    {
+        match number_of(entry.fd) {
+            Some(fd) => polled_at(heap, &self.places, &self.leaves, fd, entry.events),
+            None => 0,
+        }
+    }
+
     // The open descriptor of a number.
     fn descriptor(&self, heap: &KHeap, fd: u32) -> Descriptor
         requires owns { OwnsLeaves heap.now.leaves self.now.leaves }
@@ -187,7 +219,7 @@ pub fn polled(heap: &KHeap, proc: &Proc, entry: &PollEntry) -> u8
         → result ≡ polled_at files pid entry.now.fd entry.now.events }
 {
     match number_of(entry.fd) {
-        Some(fd) => polled_at(heap, proc, fd, entry.events),
+        Some(fd) => polled_at(heap, &proc.descriptors, &proc.leaves, fd, entry.events),
         None => 0,
     }
 }
@@ -207,19 +239,24 @@ pub fn open_count(heap: &KHeap, proc: &Proc) -> u32
 }
 
 // What is told of the descriptor of a number.
-fn polled_at(heap: &KHeap, proc: &Proc, fd: u64, events: i64) -> u8
-    requires rows { IsLong proc.now }
-    requires owns { OwnsLeaves heap.now.leaves proc.now.leaves }
+fn polled_at(
+    heap: &KHeap,
+    places: &[Option<Descriptor>; 32],
+    leaves: &[Option<u32>; 3],
+    fd: u64,
+    events: i64,
+) -> u8
+    requires owns { OwnsLeaves heap.now.leaves leaves.now }
     requires there { IsOpenIn heap.now
-        (descriptor_at (descriptors_in (numbers_by heap.now.leaves proc.now.descriptors proc.now.leaves)) fd) }
+        (descriptor_at (descriptors_in (numbers_by heap.now.leaves places.now leaves.now)) fd) }
     ensures { TellsOpen heap.now events result
-        (descriptor_at (descriptors_in (numbers_by heap.now.leaves proc.now.descriptors proc.now.leaves)) fd) }
+        (descriptor_at (descriptors_in (numbers_by heap.now.leaves places.now leaves.now)) fd) }
 {
     is_well_formed(heap);
     if fd >= u64::from(MOST_DESCRIPTORS) {
         return POLLNVAL;
     }
-    match at(heap, &proc.descriptors, &proc.leaves, fd as u32) {
+    match at(heap, places, leaves, fd as u32) {
         Some(descriptor) => polled_desc(heap, heap.get_desc(descriptor.desc), events),
         None => POLLNVAL,
     }

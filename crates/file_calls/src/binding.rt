@@ -15,12 +15,12 @@ ghost use Rattle.store_objects.specs.Objects.{AreKept, Runs};
 ghost use Rattle.store_objects.specs.Standing.{IsSound, StandsFor};
 ghost use Rattle.store_objects.specs.Walking.{Serves};
 
-use crate::replies::zero;
 use kabi_types::Script;
 use kheap_slabs::Purse;
 use posix_defs::Turned;
 use proc_files::bind_number;
 use proc_numbers::Named;
+use store_objects::told::zero;
 use store_objects::{Caller, Objects, go_on};
 
 /// Gives the socket that a number is open on a new name in the tree of files.

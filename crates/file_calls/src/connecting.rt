@@ -14,12 +14,12 @@ ghost use Rattle.store_objects.specs.Objects.{AreKept, Runs};
 ghost use Rattle.store_objects.specs.Standing.{IsSound, StandsFor};
 ghost use Rattle.store_objects.specs.Walking.{Serves};
 
-use crate::replies::zero;
 use kabi_types::Script;
 use kheap_slabs::Purse;
 use posix_defs::Turned;
 use proc_files::connect_number;
 use proc_numbers::Named;
+use store_objects::told::zero;
 use store_objects::{Caller, Objects, go_on};
 
 /// Connects the socket that a number is open on to a new one, which waits behind the others for the socket that listens under a

@@ -1,10 +1,9 @@
-//! A turn of each call that opens or closes, moves bytes of files and directories, tells or moves where a description stands in them,
-//! or names a socket leads the objects of a store to what the call's definition says: `open`, `close`, `dup2`, `fstat`, `exec`,
-//! `read` and `write` of a number that is open on a node, `pread`, `pwrite`, `readdir`, `lseek`, `ftruncate`, `bind` and `connect`.
+//! A turn of each call that opens, moves bytes of files and directories, tells or moves where a description stands in them, or names
+//! a socket leads the objects of a store to what the call's definition says: `open`, `fstat`, `exec`, `read` and `write` of a number
+//! that is open on a node, `pread`, `pwrite`, `readdir`, `lseek`, `ftruncate`, `bind` and `connect`.
 #![tactic(auto)]
 
 mod binding;
-mod closing;
 mod connecting;
 mod offsets;
 mod opening;
@@ -15,7 +14,6 @@ mod telling;
 mod writing;
 
 pub use binding::bind;
-pub use closing::{close, dup2};
 pub use connecting::connect;
 pub use offsets::{ftruncate, lseek};
 pub use opening::open;

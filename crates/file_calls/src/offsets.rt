@@ -16,12 +16,13 @@ ghost use Rattle.store_objects.specs.Standing.{IsSound, StandsFor};
 ghost use Rattle.store_objects.specs.Walking.{Serves};
 ghost use Rattle.store_objects.specs.declared.purses.Target.TheVariants.{File};
 
-use crate::replies::{offset, zero};
+use crate::replies::offset;
 use kabi_types::Script;
 use kheap_slabs::Purse;
 use posix_defs::Turned;
 use proc_files::{seek_number, size_number};
 use proc_numbers::Named;
+use store_objects::told::zero;
 use store_objects::{Caller, Objects, go_on};
 
 /// Has the description that a number names stand at another offset, counted from the beginning, from where it is, or from the end of

@@ -14,11 +14,11 @@ ghost use Rattle.store_objects.specs.Objects.{AreKept, Runs};
 ghost use Rattle.store_objects.specs.Standing.{IsSound, StandsFor};
 ghost use Rattle.store_objects.specs.Walking.{Serves};
 
-use crate::replies::value;
 use kabi_types::Script;
 use kheap_slabs::Purse;
 use posix_defs::Turned;
 use proc_files::open_path;
+use store_objects::told::value;
 use store_objects::{Caller, Objects, go_on};
 
 /// Has the lowest number that is free name a new description of what a path leads to, which may be made by the way (O_CREAT), and

@@ -18,12 +18,12 @@ ghost use Rattle.store_objects.specs.Standing.{IsSound, StandsFor};
 ghost use Rattle.store_objects.specs.Walking.{Serves};
 ghost use Rattle.store_objects.specs.declared.purses.Target.TheVariants.{File};
 
-use crate::replies::value;
 use kabi_types::Script;
 use kheap_slabs::Purse;
 use posix_defs::Turned;
 use proc_files::{FileBuffer, pread_file, read_entries, read_file};
 use proc_numbers::Named;
+use store_objects::told::value;
 use store_objects::{Caller, Objects, go_on};
 
 /// Reads at most n bytes of the file that a number is open on into memory, from the description's offset on, as many as are there;

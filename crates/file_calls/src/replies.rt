@@ -1,20 +1,10 @@
-//! What a call on files, on descriptors or on names of sockets tells its caller.
+//! What a call on files tells its caller, beside what most calls do.
 
 ghost use Rattle.std.specs.Prelude.{◌≡◌, ◌≤◌, IfOk};
 ghost use Rattle.posix_defs.specs.Calls.OnFiles.{greatest_offset};
-ghost use Rattle.proc_numbers.specs.Answering.{stat_of, value_of, zero_of};
+ghost use Rattle.proc_numbers.specs.Answering.{stat_of, value_of};
 
 use kabi_types::{Errno, Reply, StatInfo};
-
-/// A number, as of a descriptor or of bytes, or why there is none.
-pub(crate) fn value(told: Result<u32, Errno>) -> Reply
-    ensures { result ≡ value_of told }
-{
-    match told {
-        Ok(value) => Reply::Val(i64::from(value)),
-        Err(errno) => Reply::Fail(errno),
-    }
-}
 
 /// An offset, or why there is none.
 pub(crate) fn offset(sought: Result<u64, Errno>) -> Reply
@@ -23,16 +13,6 @@ pub(crate) fn offset(sought: Result<u64, Errno>) -> Reply
 {
     match sought {
         Ok(place) => Reply::Val(place as i64),
-        Err(errno) => Reply::Fail(errno),
-    }
-}
-
-/// 0, or why a call failed.
-pub(crate) fn zero(done: Result<(), Errno>) -> Reply
-    ensures { result ≡ zero_of done }
-{
-    match done {
-        Ok(()) => Reply::Val(0),
         Err(errno) => Reply::Fail(errno),
     }
 }

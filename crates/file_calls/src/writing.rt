@@ -16,12 +16,12 @@ ghost use Rattle.store_objects.specs.Standing.{IsSound, StandsFor};
 ghost use Rattle.store_objects.specs.Walking.{Serves};
 ghost use Rattle.store_objects.specs.declared.purses.Target.TheVariants.{File};
 
-use crate::replies::value;
 use kabi_types::Script;
 use kheap_slabs::Purse;
 use posix_defs::Turned;
 use proc_files::{FileBuffer, pwrite_file, write_file};
 use proc_numbers::Named;
+use store_objects::told::value;
 use store_objects::{Caller, Objects, go_on};
 
 /// Writes n bytes of memory to the file that a number is open on, at the description's offset, or at the file's end where it was

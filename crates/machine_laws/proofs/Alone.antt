@@ -15,11 +15,11 @@ use Rattle.posix_defs.specs.Answer.{Answer, failed, replied}
 use Rattle.posix_defs.specs.Control as program
 use Rattle.posix_defs.specs.Ending.{closed_by, die, die_in}
 use Rattle.posix_defs.specs.Forking.{child_of, is_full, with_child}
-use Rattle.posix_defs.specs.Killing.{is_asking, kill, sent_to, struck}
+use Rattle.posix_defs.specs.Killing.{is_asking, is_ended_by, kill, sent_to, struck}
 use Rattle.posix_defs.specs.Machine.{machine, unless_wrong}
 use Rattle.posix_defs.specs.Memory.{no_memory}
 use Rattle.posix_defs.specs.Plain.{Plain, answered, at_start, control_of, last_pid, with_control, with_files}
-use Rattle.posix_defs.specs.Process.{Process, is_alive, is_alive_in, process_at, remembering, runs, working_in}
+use Rattle.posix_defs.specs.Process.{Process, ignoring, is_alive, is_alive_in, process_at, remembering, working_in}
 use Rattle.posix_defs.specs.Files.State.{Files, with_heir}
 use Rattle.answer_laws.specs.Shapes as shape
 use Rattle.answer_laws.specs.Shapes.{HasShape}
@@ -35,6 +35,7 @@ use Rattle.machine_laws.proofs.Reaches.{reached_keeps}
 use Rattle.machine_laws.proofs.Stepping.{step_of}
 use Rattle.machine_laws.specs.Own.{IsLeftAlone}
 use Rattle.machine_laws.proofs.Numbers.{Spares, ends, execs, has_heir, leaves_spare, names_same, names_still, step_spares}
+use Rattle.machine_laws.proofs.Signalled.{ended_runs}
 use Rattle.machine_laws.proofs.Tables.{KeepsPlace, at_front, at_other, die_place, ended_dead, none_alive, other_place, same_place, true_false}
 
 -- What a process keeps of table, controls and files.
@@ -49,6 +50,7 @@ left_alone pid who old new parts described = record {
   own = record {
     memory = (let process = parts.process in process.memory);
     directory = (let process = parts.process in process.directory);
+    ignores = (let process = parts.process in process.ignores);
     control = parts.control;
     numbers = (let files = parts.files in files.numbers);
     names = names_still pid who old.files new.files parts.files described;
@@ -130,6 +132,12 @@ module _ (script : Script) (plain : Plain) (pid who : ℕ) (apart : who ≢ pid)
           control = refl;
           files = (let none = nothing in none.files);
         }))
+    by_shape call lives given spared stepped (shape.disposes signal disposition ignores before called is) = subst Sparing (sym is) (λ still.
+        goes_on _ (Val (pos before)) (record {
+          process = other_place who pid plain.table (ignoring ignores (process_at plain.table pid)) apart;
+          control = refl;
+          files = (let none = nothing in none.files);
+        }))
     by_shape call lives given spared stepped (shape.parts files moved part is) = subst Sparing (sym is) (λ still. record {
       process = same_place who plain.table plain.table refl;
       control = other_control plain (with_files plain files) pid who _ apart refl;
@@ -175,14 +183,14 @@ module _ (script : Script) (plain : Plain) (pid who : ℕ) (apart : who ≢ pid)
         strikes : is_alive plain.table target ≡ true → Sparing (struck script plain pid target (count_of signal))
         strikes lived = either (target == pid) _ _ (λ still. ended pid (count_of signal) lives still) (λ still. goes_on (die plain target (count_of signal)) (Val (pos 0)) (ended target (count_of signal) lived still))
 
-        by_life : (b : Bool) → is_alive plain.table target ≡ b → Sparing (cond b (struck script plain pid target (count_of signal)) (replied script plain pid (Val (pos 0))))
-        by_life true lived = strikes lived
+        by_life : (b : Bool) → (b ≡ true → is_alive plain.table target ≡ true) → Sparing (cond b (struck script plain pid target (count_of signal)) (replied script plain pid (Val (pos 0))))
+        by_life true lived = strikes (lived refl)
         by_life false over = λ still. goes_on plain (Val (pos 0)) nothing
 
         go : (o : Option Process) → process_at plain.table target ≡ o → Sparing (sent_to script plain pid target signal o)
         go None is = fails ESRCH
         go (Some process) is = either (is_asking signal) _ _ (λ still. goes_on plain (Val (pos 0)) nothing)
-            (either (target == 1) _ _ (fails EPERM) (by_life (runs process.status) (ap is_alive_in is)))
+            (either (target == 1) _ _ (fails EPERM) (by_life (is_ended_by (count_of signal) process) (λ ended. ap is_alive_in is ∙ ended_runs (count_of signal) process ended)))
 
     -- every other call
     other_spares : (call : Call) → is_alive plain.table pid ≡ true → call ≢ calls.Fork → may_end_other call ≡ false → Sparing (machine script plain pid call)

@@ -8,7 +8,7 @@ use Rattle.posix_defs.specs.Answer.{failed, replied}
 use Rattle.posix_defs.specs.Forking.{child_of, is_full, with_child}
 use Rattle.posix_defs.specs.Machine.{machine}
 use Rattle.posix_defs.specs.Plain.{Plain, answered, last_pid}
-use Rattle.posix_defs.specs.Process.{Process, directory_in, directory_of, is_alive_in, memory_in, memory_of, process_at}
+use Rattle.posix_defs.specs.Process.{Process, directory_in, directory_of, ignores_in, ignores_of, is_alive_in, memory_in, memory_of, process_at}
 use Rattle.kern_laws.proofs.TablePlaces.{at_end, past_last}
 use Rattle.machine_laws.specs.Described.{AreDescribed}
 use Rattle.machine_laws.specs.Placed.{IsPlaced}
@@ -32,6 +32,7 @@ module _ (script : Script) (plain : Plain) (pid : ℕ) (kept : IsPlaced plain ×
     new_one = ap is_alive_in (past_last plain.table (last_pid plain + 1) (omega (arith, last)));
     memory = ap (memory_of (plain.table ++ made ∷ [])) last ∙ ap memory_in (at_end plain.table made) ∙ same_memory (process_at plain.table pid);
     directory = ap (directory_of (plain.table ++ made ∷ [])) last ∙ ap directory_in (at_end plain.table made) ∙ same_directory (process_at plain.table pid);
+    ignores = ap (ignores_of (plain.table ++ made ∷ [])) last ∙ ap ignores_in (at_end plain.table made) ∙ same_ignores (process_at plain.table pid);
     numbers = heirs_open plain.files pid (last_pid plain + 1) (let placed = kept.0 in let places = placed.places in let numbers = places.counted in omega (arith, numbers));
   }
     where
@@ -42,6 +43,10 @@ module _ (script : Script) (plain : Plain) (pid : ℕ) (kept : IsPlaced plain ×
       same_directory : (o : Option Process) → directory_in (child_of pid o) ≡ directory_in o
       same_directory None = refl
       same_directory (Some process) = refl
+
+      same_ignores : (o : Option Process) → ignores_in (child_of pid o) ≡ ignores_in o
+      same_ignores None = refl
+      same_ignores (Some process) = refl
 
   told : InheritsWhere plain pid (machine script plain pid calls.Fork)
   told = go (is_full plain)

@@ -25,7 +25,7 @@ use Rattle.answer_laws.specs.Shapes.{HasShape}
 use Rattle.answer_laws.proofs.Shapes.{machine_shape}
 use Rattle.kern_laws.specs.Sleeping.{is_of}
 use Rattle.kern_laws.proofs.Families.{alive_there, follows_on, reached_kept}
-use Rattle.kern_laws.proofs.Remembering.{alive_still, alive_working}
+use Rattle.kern_laws.proofs.Remembering.{alive_ignoring, alive_still, alive_working}
 use Rattle.kern_laws.proofs.TablePlaces.{same_in_front, was_made}
 use Rattle.machine_laws.specs.FileSteps.{LeadsTo}
 use Rattle.machine_laws.specs.Reached.{IsReached}
@@ -39,12 +39,13 @@ use Rattle.machine_laws.proofs.Tables.{die_dead, reaped_dead, true_false}
 -- ---- an entry
 
 own_same : (who : ℕ) (plain : Plain) → KeepsOwn who plain plain
-own_same who plain = record { memory = refl; directory = refl; control = refl; numbers = refl; names = λ fd was is. (was, is, record { place = refl; target = refl; access = refl }) }
+own_same who plain = record { memory = refl; directory = refl; ignores = refl; control = refl; numbers = refl; names = λ fd was is. (was, is, record { place = refl; target = refl; access = refl }) }
 
 own_on : (who : ℕ) (old between new : Plain) → KeepsOwn who old between → KeepsOwn who between new → KeepsOwn who old new
 own_on who old between new one two = record {
   memory = two.memory ∙ one.memory;
   directory = two.directory ∙ one.directory;
+  ignores = two.ignores ∙ one.ignores;
   control = two.control ∙ one.control;
   numbers = two.numbers ∙ one.numbers;
   names = λ fd was is. let first = one.names fd was is in let second = two.names fd first.0 first.1 in (
@@ -112,6 +113,7 @@ module _ (script : Script) (plain : Plain) (pid who : ℕ) (made : who ≤ lengt
   answers_dead call given (shape.tells files said is_said is) = subst Dead (sym is) dead
   answers_dead call given (shape.puts files memory said is_said put is) = subst Dead (sym is) (alive_still plain.table pid who memory ∙ dead)
   answers_dead call given (shape.moves path directory called led is) = subst Dead (sym is) (alive_working plain.table pid who directory ∙ dead)
+  answers_dead call given (shape.disposes signal disposition ignores before called is) = subst Dead (sym is) (alive_ignoring plain.table pid who ignores ∙ dead)
   answers_dead call given (shape.parts files moved part is) = subst Dead (sym is) dead
   answers_dead call given (shape.starts place is) = subst Dead (sym is) (alive_still plain.table pid who no_memory ∙ dead)
   answers_dead call given (shape.forks is) = subst Dead (sym is) (ap is_alive_in (same_in_front plain.table (child_of pid (process_at plain.table pid)) who made) ∙ dead)

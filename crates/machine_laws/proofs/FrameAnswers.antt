@@ -1,5 +1,5 @@
 -- Whatever a call is answered, and whatever comes next in a history, the frames of the account stay frames.
-use Rattle.std.proofs.Common.{◌≡◌, ℕ, ◌*◌, ◌/◌, ◌==◌, ℤ, pos, negsuc, Bool, true, false, cond, List, length, take, Option, None, Some, Result, Ok, Err, refl, ap, sym, subst, arith}
+use Rattle.std.proofs.Common.{◌≡◌, ℕ, ◌*◌, ◌/◌, ◌==◌, ℤ, pos, negsuc, Bool, true, false, cond, List, length, take, Option, None, Some, Result, Ok, Err, refl, ap, sym, ◌∙◌, subst, arith}
 use Rattle.kabi_types.specs.Arguments.{argument_fault, count_of, page_size}
 use Rattle.kabi_types.specs.declared.calls.Call.{Call}
 use Rattle.kabi_types.specs.declared.calls.Call.TheVariants as call
@@ -17,7 +17,7 @@ use Rattle.posix_defs.specs.Ending.{die, exit_status}
 use Rattle.posix_defs.specs.Forking.{is_full}
 use Rattle.posix_defs.specs.History as histories
 use Rattle.posix_defs.specs.History.{IsAnswered, IsRun, MayFollow, Past}
-use Rattle.posix_defs.specs.Killing.{is_asking, kill, sent_to, sigkill, struck}
+use Rattle.posix_defs.specs.Killing.{is_asking, is_ended_by, kill, sent_to, sigkill, struck}
 use Rattle.posix_defs.specs.Machine.{answer_to, machine, unless_wrong}
 use Rattle.posix_defs.specs.Memory.{Frames, Unmapped, Zero, after_map, is_mapped_range, lowest_run, with_pages, zero_page}
 use Rattle.posix_defs.specs.MemoryCalls.{frames_after, frames_of, in_range, mapped_from, remembered}
@@ -26,7 +26,8 @@ use Rattle.posix_defs.specs.PathCalls.{enter_path, exec_path, list_node, read_no
 use Rattle.posix_defs.specs.Pipe as pipes
 use Rattle.posix_defs.specs.Pipe.{Moving, pipe_read}
 use Rattle.posix_defs.specs.Plain.{Plain, answered, call_of, with_files}
-use Rattle.posix_defs.specs.Process.{Process, directory_of, is_alive, is_alive_in, memory_of, process_at, runs}
+use Rattle.posix_defs.specs.Process.{Process, directory_of, is_alive, is_alive_in, memory_of, process_at}
+use Rattle.posix_defs.specs.Signals.{sigpipe}
 use Rattle.posix_defs.specs.Sockets.{sock_read, socket_at}
 use Rattle.posix_defs.specs.Tree.{is_directory}
 use Rattle.posix_defs.specs.Waiting.{Exited, any_from, exited_from, is_nohang, waited_for, waitpid}
@@ -36,12 +37,15 @@ use Rattle.posix_defs.specs.Calls.Opened.{Opened, answer_on, if_readable, on_ope
 use Rattle.posix_defs.specs.Calls.OnNames.{chdir, works_from}
 use Rattle.posix_defs.specs.Calls.Reading.{is_directory_target, list_target, pread, pread_target, read, read_from_pipe, read_from_socket, read_target, readdir}
 use Rattle.posix_defs.specs.Calls.Starting.{exec, starts}
+use Rattle.posix_defs.specs.Calls.Writing.{write}
+use Rattle.posix_defs.proofs.SignalLemmas.{of_write}
 use Rattle.kern_laws.proofs.LivingVictim.{victim_lives}
 use Rattle.machine_laws.specs.Framed.{AreFramed, StayUnwritten}
 use Rattle.machine_laws.proofs.Framing.{Goes, Holds}
-use Rattle.machine_laws.proofs.MemoryMoves.{boot_holds, goes_cleared, goes_ended, goes_forked, goes_moved, goes_put, goes_quiet, goes_ranged, goes_reaped, goes_same}
+use Rattle.machine_laws.proofs.MemoryMoves.{boot_holds, goes_cleared, goes_disposed, goes_ended, goes_forked, goes_moved, goes_put, goes_quiet, goes_ranged, goes_reaped, goes_same}
+use Rattle.machine_laws.proofs.Signalled.{ended_runs}
 use Rattle.machine_laws.proofs.Quiet as quiet
-use Rattle.machine_laws.proofs.Quiet.{Told, is_quiet, quiet_told}
+use Rattle.machine_laws.proofs.Quiet.{Told, is_quiet, quiet_told, writes_told}
 
 no : {X : Type 0} → false ≡ true → X
 no e = absurd (let f = e in cc)
@@ -59,11 +63,17 @@ quiet_frames frames pid which is said = by_reply said
     value (call.Read fd addr n) is _ = no is
     value (call.Pread fd addr n at) is _ = no is
     value (call.Readdir fd addr n) is _ = no is
+    value (call.Write fd addr n done) is _ = no is
     value _ is n = refl
 
     by_reply : (said : Reply) → frames_after frames pid which said ≡ frames
     by_reply (reply.Val n) = value which is (count_of n)
     by_reply _ = refl
+
+-- and so does a write
+write_frames : (frames : Frames) (pid : ℕ) (fd addr n : ℤ) (done : ℕ) (said : Reply) → frames_after frames pid (call.Write fd addr n done) said ≡ frames
+write_frames frames pid fd addr n done (reply.Val told) = refl
+write_frames frames pid fd addr n done _ = refl
 
 module _ (script : Script) (plain : Plain) (frames : Frames) (holds : Holds plain frames) (pid : ℕ) (alive : is_alive plain.table pid ≡ true) where
   -- what is asked of an answer to a call
@@ -80,13 +90,18 @@ module _ (script : Script) (plain : Plain) (frames : Frames) (holds : Holds plai
   fails : (which : Call) (e : Errno) → Framed which (failed script plain pid e)
   fails which e = goes_quiet plain frames holds (answered script plain pid (reply.Fail e)) refl
 
-  by_told : (which : Call) → is_quiet which ≡ true → (given : Answer) → Told script plain pid given → Framed which given
-  by_told which is _ quiet.blocks = tt
-  by_told which is _ (quiet.fails e) = fails which e
-  by_told which is _ (quiet.tells files said) =
+  by_told : (which : Call) → ((said : Reply) → frames_after frames pid which said ≡ frames) → (given : Answer) → Told script plain pid given → Framed which given
+  by_told which still _ quiet.blocks = tt
+  by_told which still _ (quiet.fails e) = fails which e
+  by_told which still _ (quiet.tells files said) =
       let next : Plain = answered script (with_files plain files) pid said in
-      subst (λ after. Goes plain frames next (forget_dead next after)) (sym (quiet_frames frames pid which is said)) (goes_quiet plain frames holds next refl)
-  by_told which is _ (quiet.parts files moved) = goes_quiet plain frames holds _ refl
+      subst (λ after. Goes plain frames next (forget_dead next after)) (sym (still said)) (goes_quiet plain frames holds next refl)
+  by_told which still _ (quiet.parts files moved) = goes_quiet plain frames holds _ refl
+
+  -- a write leaves frames, whether it ends its caller or not
+  writes : (fd addr n : ℤ) (done : ℕ) → Framed (call.Write fd addr n done) (write script plain pid fd addr n done)
+  writes fd addr n done = of_write script plain pid fd addr n done (Framed (call.Write fd addr n done)) (λ ends. goes_ended plain frames holds _ pid sigpipe alive refl)
+      (λ goes. by_told (call.Write fd addr n done) (write_frames frames pid fd addr n done) _ (writes_told script plain pid fd addr n done))
 
   -- ---- memory
 
@@ -220,18 +235,18 @@ module _ (script : Script) (plain : Plain) (frames : Frames) (holds : Holds plai
       strikes : is_alive plain.table target ≡ true → Framed asked (struck script plain pid target (count_of signal))
       strikes lived = either asked (target == pid) _ _ (goes_ended plain frames holds _ pid (count_of signal) alive refl) (goes_ended plain frames holds _ target (count_of signal) lived refl)
 
-      by_life : (b : Bool) → is_alive plain.table target ≡ b → Framed asked (cond b (struck script plain pid target (count_of signal)) (replied script plain pid (reply.Val (pos 0))))
-      by_life true lived = strikes lived
+      by_life : (b : Bool) → (b ≡ true → is_alive plain.table target ≡ true) → Framed asked (cond b (struck script plain pid target (count_of signal)) (replied script plain pid (reply.Val (pos 0))))
+      by_life true lived = strikes (lived refl)
       by_life false over = none
 
       go : (o : Option Process) → process_at plain.table target ≡ o → Framed asked (sent_to script plain pid target signal o)
       go None is = fails asked errno.ESRCH
-      go (Some process) is = either asked (is_asking signal) _ _ none (either asked (target == 1) _ _ (fails asked errno.EPERM) (by_life (runs process.status) (ap is_alive_in is)))
+      go (Some process) is = either asked (is_asking signal) _ _ none (either asked (target == 1) _ _ (fails asked errno.EPERM) (by_life (is_ended_by (count_of signal) process) (λ ended. ap is_alive_in is ∙ ended_runs (count_of signal) process ended)))
 
   -- ---- every call
 
   others : (which : Call) → is_quiet which ≡ true → Framed which (answer_to script plain pid which)
-  others which is = by_told which is (answer_to script plain pid which) (quiet_told script plain pid which is)
+  others which is = by_told which (quiet_frames frames pid which is) (answer_to script plain pid which) (quiet_told script plain pid which is)
 
   right : (which : Call) → Framed which (answer_to script plain pid which)
   right call.Fork = forks
@@ -255,7 +270,7 @@ module _ (script : Script) (plain : Plain) (frames : Frames) (holds : Holds plai
   right (call.Dup fd) = others (call.Dup fd) refl
   right (call.Dup2 fd to) = others (call.Dup2 fd to) refl
   right (call.Fcntl fd cmd arg) = others (call.Fcntl fd cmd arg) refl
-  right (call.Write fd addr n done) = others (call.Write fd addr n done) refl
+  right (call.Write fd addr n done) = writes fd addr n done
   right (call.Pwrite fd addr n at) = others (call.Pwrite fd addr n at) refl
   right (call.Lseek fd offset whence) = others (call.Lseek fd offset whence) refl
   right (call.Ftruncate fd size) = others (call.Ftruncate fd size) refl
@@ -275,6 +290,7 @@ module _ (script : Script) (plain : Plain) (frames : Frames) (holds : Holds plai
   right (call.Accept fd) = others (call.Accept fd) refl
   right (call.Shutdown fd how) = others (call.Shutdown fd how) refl
   right (call.Poll timeout entries) = others (call.Poll timeout entries) refl
+  right (call.Signal which disposition) = goes_disposed plain frames holds pid _ alive _ refl
 
   pub answers_framed : (which : Call) → Framed which (machine script plain pid which)
   answers_framed which = go (argument_fault which)

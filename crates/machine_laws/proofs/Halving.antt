@@ -17,14 +17,14 @@ use Rattle.posix_defs.specs.ByPid.{at_pid, with_pid}
 use Rattle.posix_defs.specs.Control as program
 use Rattle.posix_defs.specs.Ending.{closed_by, die}
 use Rattle.posix_defs.specs.Forking.{child_of, is_full, with_child}
-use Rattle.posix_defs.specs.Killing.{is_asking, kill, sent_to, struck}
+use Rattle.posix_defs.specs.Killing.{is_asking, is_ended_by, kill, sent_to, struck}
 use Rattle.posix_defs.specs.Killing as killing
 use Rattle.posix_defs.specs.Machine.{machine, unless_wrong}
 use Rattle.posix_defs.specs.Made.{further}
 use Rattle.posix_defs.specs.Memory.{no_memory}
 use Rattle.posix_defs.specs.MemoryCalls.{remembered}
 use Rattle.posix_defs.specs.Plain.{Plain, answered, at_start, boot_plain, call_of, control_of, last_pid, with_control, with_files, with_table}
-use Rattle.posix_defs.specs.Process.{Process, is_alive, is_alive_in, process_at, runs, with_directory}
+use Rattle.posix_defs.specs.Process.{Process, is_alive, is_alive_in, process_at, with_directory, with_ignores}
 use Rattle.posix_defs.specs.Files.Descriptors.{Descriptor, descriptor_at, descriptor_of, is_named}
 use Rattle.posix_defs.specs.Files.Descriptions.{Description, description_at, with_description}
 use Rattle.posix_defs.specs.Files.State.{Files, descriptors_of, opened_as, with_heir, with_open}
@@ -35,7 +35,7 @@ use Rattle.posix_defs.specs.Calls.Opened.{Opened, opened_at, opened_by}
 use Rattle.posix_defs.specs.Calls.Starting.{started}
 use Rattle.kern_laws.proofs.Families.{alive_there}
 use Rattle.kern_laws.proofs.Nexts.{at_other}
-use Rattle.kern_laws.proofs.Remembering.{alive_still}
+use Rattle.kern_laws.proofs.Remembering.{alive_ignoring, alive_still}
 use Rattle.kern_laws.proofs.TablePlaces.{below_or_not, get_front, get_set_same, is_gone, same_in_front, was_made, with_other}
 use Rattle.answer_laws.proofs.GoingOn.{call_part}
 use Rattle.machine_laws.specs.FileSteps as step
@@ -319,7 +319,7 @@ kill_is script plain pid Holds fails says ends others (pos target) signal = go (
 
     first : (process : Process) (b : Bool) → Holds (cond b (failed script plain pid EPERM) (killing.ends script plain pid target (count_of signal) process))
     first process true = fails EPERM
-    first process false = lives (runs process.status)
+    first process false = lives (is_ended_by (count_of signal) process)
 
     asks : (process : Process) (b : Bool) → Holds (cond b (replied script plain pid (Val (pos 0))) (cond (target == 1) (failed script plain pid EPERM) (killing.ends script plain pid target (count_of signal) process)))
     asks process true = says
@@ -435,6 +435,9 @@ module _ (script : Script) (plain : Plain) (pid : ℕ) (half : Half script plain
       (λ who apart lives. step_keeps plain pid call files who apart no_fork no_other (subst (Steps plain pid call) is stepped)))
   by_shape call asked no_fork no_other given stepped (shape.moves path directory called led is) = subst (LeadsTo (Half script)) (sym is)
       (answered_half script plain (with_table plain (with_directory plain.table pid directory)) pid (Val (pos 0)) half refl (λ who apart lives. sym (alive_moved plain.table pid directory who alive) ∙ lives)
+      (λ who apart lives. keeps_same plain.files plain.files who refl refl))
+  by_shape call asked no_fork no_other given stepped (shape.disposes signal disposition ignores before called is) = subst (LeadsTo (Half script)) (sym is)
+      (answered_half script plain (with_table plain (with_ignores plain.table pid ignores)) pid (Val (pos before)) half refl (λ who apart lives. sym (alive_ignoring plain.table pid who ignores) ∙ lives)
       (λ who apart lives. keeps_same plain.files plain.files who refl refl))
   by_shape call asked no_fork no_other given stepped (shape.parts files moved part is) = subst (LeadsTo (Half script)) (sym is)
       (part_on call files moved asked part (λ who apart. step_keeps plain pid call files who apart no_fork no_other (subst (Steps plain pid call) is stepped)))

@@ -19,7 +19,7 @@ use Rattle.posix_defs.specs.PathCalls.{node_led}
 use Rattle.posix_defs.specs.Paths.{resolve}
 use Rattle.posix_defs.specs.Pipe.{Pipe}
 use Rattle.posix_defs.specs.Plain.{Plain, answered, boot_plain, call_of, control_of, first_process, last_pid, with_files, with_table}
-use Rattle.posix_defs.specs.Process.{Table, directory_of, is_alive, memory_of, with_directory, with_memory}
+use Rattle.posix_defs.specs.Process.{Table, directory_of, is_alive, memory_of, with_directory, with_ignores, with_memory}
 use Rattle.posix_defs.specs.Sockets.{socket_at}
 use Rattle.posix_defs.specs.Tree.{is_directory, is_in_use, links_at, new_tree}
 use Rattle.posix_defs.specs.Waiting.{reaped}
@@ -48,7 +48,7 @@ use Rattle.machine_laws.proofs.Rooting.{Rooted, new_well}
 use Rattle.machine_laws.proofs.PipeBytes.{HasPipeBytes, IsByte, pipe_bytes}
 use Rattle.machine_laws.proofs.CallFacts.{entered_is}
 use Rattle.machine_laws.proofs.StepsKeep.{After, closed_after, exec_after, step_after}
-use Rattle.machine_laws.proofs.ProcessesKept.{AreKept, KeepsProcess, child_kept, die_kept, held_directory, held_memory, memory_kept, moved_kept, reaped_kept, table_on}
+use Rattle.machine_laws.proofs.ProcessesKept.{AreKept, KeepsProcess, child_kept, die_kept, disposed_kept, held_directory, held_memory, memory_kept, moved_kept, reaped_kept, table_on}
 
 -- what is kept of the tree, of bytes and of directories
 pub record Whole (plain : Plain) : Type 0 where
@@ -107,6 +107,12 @@ module _ (script : Script) (plain : Plain) (pid : ℕ) (holds : Holds plain) (jo
         rooted = holds.rooted;
         pipes = holds.pipes;
         table = moved_kept plain.files.tree plain.table pid directory (entered_is plain.files.tree (node_led (resolve plain.files.tree (directory_of plain.table pid) path)) directory led) holds.table;
+      }))
+  by_shape call stores_bytes given stepped (shape.disposes signal disposition ignores before called is) = subst (LeadsTo Holds) (sym is)
+      (answered_holds (with_table plain (with_ignores plain.table pid ignores)) (Val (pos before)) (record {
+        rooted = holds.rooted;
+        pipes = holds.pipes;
+        table = disposed_kept plain.files.tree plain.table pid ignores holds.table;
       }))
   by_shape call stores_bytes given stepped (shape.parts files moved part is) = subst (LeadsTo Holds) (sym is)
       (let it = after_holds files plain.table (subst (LeadsTo (λ next. After plain next.files)) is stepped) (λ kept. kept) in record { rooted = it.rooted; pipes = it.pipes; table = it.table })

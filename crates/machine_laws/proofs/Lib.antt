@@ -1,4 +1,5 @@
 mod Between
+pub mod Signalled
 pub mod Stepping
 pub mod Leading
 pub mod Fading
@@ -47,3 +48,4 @@ pub mod Quiet
 pub mod Framing
 pub mod MemoryMoves
 pub mod FrameAnswers
+pub mod Ignoring

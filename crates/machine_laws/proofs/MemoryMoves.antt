@@ -10,9 +10,9 @@ use Rattle.posix_defs.specs.Forking.{child_of}
 use Rattle.posix_defs.specs.Memory.{Frame, Frames, Memory, Place, Places, Unmapped, after_clear, after_fork, after_put, boot_frames, is_mapped, is_place, no_memory, no_places, page_at, place_at, places_of, stored, with_places, with_range}
 use Rattle.posix_defs.specs.Needs.{pages_touched}
 use Rattle.posix_defs.specs.Plain.{Plain, boot_plain}
-use Rattle.posix_defs.specs.Process.{Process, Table, is_alive, is_alive_in, memory_in, memory_of, process_at, remembering, with_directory, with_memory, working_in}
+use Rattle.posix_defs.specs.Process.{Ignores, Process, Table, ignoring, is_alive, is_alive_in, memory_in, memory_of, process_at, remembering, with_directory, with_ignores, with_memory, working_in}
 use Rattle.kern_laws.proofs.Families.{alive_there}
-use Rattle.kern_laws.proofs.Remembering.{alive_still, alive_working}
+use Rattle.kern_laws.proofs.Remembering.{alive_ignoring, alive_still, alive_working}
 use Rattle.kern_laws.proofs.TablePlaces.{at_end, below_or_not, is_gone, same_in_front, was_made, with_other, with_same}
 use Rattle.machine_laws.proofs.Shutting.{length_with}
 use Rattle.machine_laws.specs.Framed.{AreFramed, Names, bytes_at}
@@ -63,6 +63,20 @@ moved_memory table pid who directory alive = elim (eqb_tells who pid) [
     own : memory_of (with_directory table pid directory) pid ≡ memory_of table pid
     own = let there = alive_there table pid alive in let made = was_made table pid there.0 there.1 in
         ap memory_in (with_same table pid (working_in directory (process_at table pid)) made.0 made.1) ∙ keeps (process_at table pid)
+
+disposed_memory : (table : Table) (pid who : ℕ) (ignores : Ignores) → is_alive table pid ≡ true → memory_of (with_ignores table pid ignores) who ≡ memory_of table who
+disposed_memory table pid who ignores alive = elim (eqb_tells who pid) [
+  | inl alike ↦ ap (memory_of (with_ignores table pid ignores)) alike.1 ∙ own ∙ sym (ap (memory_of table) alike.1)
+  | inr apart ↦ ap memory_in (with_other table pid who (ignoring ignores (process_at table pid)) apart.1)
+]
+  where
+    keeps : (o : Option Process) → memory_in (ignoring ignores o) ≡ memory_in o
+    keeps None = refl
+    keeps (Some process) = refl
+
+    own : memory_of (with_ignores table pid ignores) pid ≡ memory_of table pid
+    own = let there = alive_there table pid alive in let made = was_made table pid there.0 there.1 in
+        ap memory_in (with_same table pid (ignoring ignores (process_at table pid)) made.0 made.1) ∙ keeps (process_at table pid)
 
 length_die : (table : Table) (target status : ℕ) → length (die_in table target status) ≡ length table
 length_die table zero status = length_with (map (left_behind zero) table) zero (ended_as status (process_at table zero)) ∙ length-map table (left_behind zero)
@@ -144,6 +158,13 @@ module _ (plain : Plain) (frames : Frames) (holds : Holds plain frames) where
   goes_moved pid directory alive next same = goes_still next (ap (λ table. length table) same ∙ length_with plain.table pid (working_in directory (process_at plain.table pid))) (λ who lives. (
     sym (alive_working plain.table pid who directory) ∙ ap (λ table. is_alive table who) (sym same) ∙ lives,
     ap (λ table. memory_of table who) same ∙ moved_memory plain.table pid who directory alive,
+  ))
+
+  -- a process ignores other signals
+  pub goes_disposed : (pid : ℕ) (ignores : Ignores) → is_alive plain.table pid ≡ true → (next : Plain) → next.table ≡ with_ignores plain.table pid ignores → Goes plain frames next (forget_dead next frames)
+  goes_disposed pid ignores alive next same = goes_still next (ap (λ table. length table) same ∙ length_with plain.table pid (ignoring ignores (process_at plain.table pid))) (λ who lives. (
+    sym (alive_ignoring plain.table pid who ignores) ∙ ap (λ table. is_alive table who) (sym same) ∙ lives,
+    ap (λ table. memory_of table who) same ∙ disposed_memory plain.table pid who ignores alive,
   ))
 
   -- ---- one process has something else in memory

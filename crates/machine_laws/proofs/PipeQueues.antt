@@ -17,7 +17,8 @@ use Rattle.posix_defs.specs.Files.Descriptions.{OnPipe, description_at, may_read
 use Rattle.posix_defs.specs.Files.State.{Files, pipe_at, pipe_there, with_pipe}
 use Rattle.posix_defs.specs.Calls.Opened.{Opened, answer_on, on_open, opened_at}
 use Rattle.posix_defs.specs.Calls.Reading.{is_directory_target, read, read_from_pipe, read_target}
-use Rattle.posix_defs.specs.Calls.Writing.{bytes_left, put_in_pipe, write, write_queue, write_target}
+use Rattle.posix_defs.specs.Calls.Writing.{bytes_left, put_in_pipe, write, write_ignoring, write_queue, write_target}
+use Rattle.posix_defs.proofs.SignalLemmas.{of_write}
 use Rattle.kern_laws.proofs.TablePlaces.{below_or_not}
 use Rattle.machine_laws.specs.FileSteps as step
 use Rattle.machine_laws.specs.FileSteps.{IsStep, LeadsTo}
@@ -100,12 +101,15 @@ module _ (script : Script) (plain : Plain) (pid : ℕ) (fd addr n : ℤ) (opened
   target_puts done = subst (λ target. Puts done (write_target script plain pid opened addr (count_of n) done target)) (sym on)
       (queue_puts done (pipe_write (pipe_at plain.files place) opened.is.nonblock (count_of n) (count_of n - done)))
 
-  write_puts : (done : ℕ) → Puts done (write script plain pid fd addr n done)
-  unfolding write
-  write_puts done = on_it (Puts done) _
+  ignoring_puts : (done : ℕ) → Puts done (write_ignoring script plain pid fd addr n done)
+  unfolding write_ignoring
+  ignoring_puts done = on_it (Puts done) _
       (choose (Puts done) (may_write opened.is.access) _ _ (λ may.
       choose (Puts done) (is_mapped_range (memory_of plain.table pid) (count_of addr) (count_of n)) _ _ (λ mapped.
       choose (Puts done) (count_of n == 0) _ _ (λ none. nothing done 0 (omega arith)) (λ some. target_puts done)) (λ unmapped. tt)) (λ no. tt))
+
+  write_puts : (done : ℕ) → Puts done (write script plain pid fd addr n done)
+  write_puts done = of_write script plain pid fd addr n done (Puts done) (λ ends. tt) (λ goes. ignoring_puts done)
 
   pub puts : (done : ℕ) → Puts done (machine script plain pid (calls.Write fd addr n done))
   puts done = go (argument_fault (calls.Write fd addr n done))

@@ -17,13 +17,13 @@ use Rattle.posix_defs.specs.Forking.{child_of, is_full, with_child}
 use Rattle.posix_defs.specs.Memory.{no_memory}
 use Rattle.posix_defs.specs.Plain.{Plain, answered, boot_plain, control_of, last_pid}
 use Rattle.posix_defs.specs.Machine.{machine}
-use Rattle.posix_defs.specs.Process.{Alive, Process, Table, is_alive, is_alive_in, process_at, with_directory, working_in}
+use Rattle.posix_defs.specs.Process.{Alive, Process, Table, is_alive, is_alive_in, process_at, with_directory, with_ignores, working_in}
 use Rattle.posix_defs.specs.Files.Descriptors.{none_open}
 use Rattle.posix_defs.specs.Files.Descriptions.{Description}
 use Rattle.posix_defs.specs.Files.State.{Files, boot_files, descriptors_of, opened_as, with_heir, with_open}
 use Rattle.posix_defs.specs.Files.Whole.{HasPlaces}
 use Rattle.kern_laws.proofs.Families.{others_live, alive_there}
-use Rattle.kern_laws.proofs.Remembering.{alive_still}
+use Rattle.kern_laws.proofs.Remembering.{alive_ignoring, alive_still}
 use Rattle.kern_laws.proofs.TablePlaces.{at_end, below_or_not, same_in_front, was_made, with_other, with_same}
 use Rattle.machine_laws.specs.FileSteps as step
 use Rattle.machine_laws.specs.FileSteps.{IsStep, LeadsTo, Steps}
@@ -266,6 +266,8 @@ module _ (script : Script) (plain : Plain) (pid : ℕ) (placed : IsPlaced plain)
       (step_shuts plain pid call files no_fork (subst (Steps plain pid call) is stepped)))
   by_shape call no_fork given stepped (shape.moves path directory called led is) = subst (LeadsTo IsPlaced) (sym is)
       (placed_on plain _ pid placed alive (length_with plain.table pid _) (length_with plain.controls pid _) (λ who gone. sym (alive_moved plain.table pid directory who alive) ∙ gone) (shuts_same pid _ _ refl))
+  by_shape call no_fork given stepped (shape.disposes signal disposition ignores before called is) = subst (LeadsTo IsPlaced) (sym is)
+      (placed_on plain _ pid placed alive (length_with plain.table pid _) (length_with plain.controls pid _) (λ who gone. sym (alive_ignoring plain.table pid who ignores) ∙ gone) (shuts_same pid _ _ refl))
   by_shape call no_fork given stepped (shape.parts files moved part is) = subst (LeadsTo IsPlaced) (sym is)
       (placed_on plain _ pid placed alive refl (length_with plain.controls pid _) (λ who gone. gone)
       (step_shuts plain pid call files no_fork (subst (Steps plain pid call) is stepped)))

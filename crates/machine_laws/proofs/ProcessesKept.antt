@@ -6,7 +6,7 @@ use Rattle.posix_defs.specs.ByPid.{with_pid}
 use Rattle.posix_defs.specs.Ending.{die_in, ended_as, leaves, left_behind, left_child}
 use Rattle.posix_defs.specs.Forking.{child_of}
 use Rattle.posix_defs.specs.Memory.{Memory, no_memory}
-use Rattle.posix_defs.specs.Process.{Alive, Ended, Process, Status, Table, directory_in, directory_of, is_alive, memory_in, memory_of, process_at, remembering, runs, with_directory, with_memory, working_in}
+use Rattle.posix_defs.specs.Process.{Alive, Ended, Ignores, Process, Status, Table, directory_in, directory_of, ignoring, is_alive, memory_in, memory_of, process_at, remembering, runs, with_directory, with_ignores, with_memory, working_in}
 use Rattle.posix_defs.specs.Tree.{Tree, is_directory}
 use Rattle.posix_defs.specs.Calls.OnNames.{works_in}
 use Rattle.kern_laws.proofs.Families.{alive_there}
@@ -32,7 +32,7 @@ table_on tree after table directories kept who process is = let before = kept wh
     record { memory = before.memory; directory = λ alive. directories process.directory (before.directory alive) (works table who process is alive) }
 
 -- who is there after one item has changed was there before, or is that one
-at_with : (table : Table) (pid : ℕ) (there : Option Process) (who : ℕ) (process : Process) → process_at (with_pid table pid there) who ≡ Some process → (there ≡ Some process) ⊎ (process_at table who ≡ Some process)
+pub at_with : (table : Table) (pid : ℕ) (there : Option Process) (who : ℕ) (process : Process) → process_at (with_pid table pid there) who ≡ Some process → (there ≡ Some process) ⊎ (process_at table who ≡ Some process)
 at_with table pid there who process is = elim (eqb_tells who pid) [
   | inr apart ↦ inr (sym (with_other table pid who there apart.1) ∙ is)
   | inl alike ↦ let made_it = was_made (with_pid table pid there) who process is in
@@ -58,6 +58,14 @@ moved_kept tree table pid directory dir kept = changed_kept tree table pid (work
     go None there process is = absurd (not_some refl is)
     go (Some old) there process is = let before = kept pid old there in
         subst (KeepsProcess tree) (some_same (Some (record old { directory = directory })) (record old { directory = directory }) process refl is) (record { memory = before.memory; directory = λ alive. dir })
+
+pub disposed_kept : (tree : Tree) (table : Table) (pid : ℕ) (ignores : Ignores) → AreKept tree table → AreKept tree (with_ignores table pid ignores)
+disposed_kept tree table pid ignores kept = changed_kept tree table pid (ignoring ignores (process_at table pid)) (λ process is. go (process_at table pid) refl process is) kept
+  where
+    go : (o : Option Process) → process_at table pid ≡ o → (process : Process) → ignoring ignores o ≡ Some process → KeepsProcess tree process
+    go None there process is = absurd (not_some refl is)
+    go (Some old) there process is = let before = kept pid old there in
+        subst (KeepsProcess tree) (some_same (Some (record old { ignores = ignores })) (record old { ignores = ignores }) process refl is) (record { memory = before.memory; directory = before.directory })
 
 pub reaped_kept : (tree : Tree) (table : Table) (child : ℕ) → AreKept tree table → AreKept tree (with_pid table child None)
 reaped_kept tree table child kept = changed_kept tree table child None (λ process is. absurd (not_some refl is)) kept

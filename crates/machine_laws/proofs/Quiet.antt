@@ -28,7 +28,7 @@ use Rattle.posix_defs.specs.Files.State.{Files, descriptors_of}
 use Rattle.posix_defs.specs.Calls.Opened.{Opened, answer_on, if_readable, if_writable, on_open, opened_at}
 use Rattle.posix_defs.specs.Calls.OnDescriptors.{close, controlled, dup, dup2, duplicated, duplicated_to, fcntl}
 use Rattle.posix_defs.specs.Calls.Reading.{of_bytes}
-use Rattle.posix_defs.specs.Calls.Writing.{bytes_left, did_part, place_of_write, put_in_socket, pwrite, pwrite_target, stopped, write, write_queue, write_target, wrote, wrote_at}
+use Rattle.posix_defs.specs.Calls.Writing.{bytes_left, did_part, place_of_write, put_in_socket, pwrite, pwrite_target, stopped, write_ignoring, write_queue, write_target, wrote, wrote_at}
 use Rattle.posix_defs.specs.Calls.OnFiles.{fstat, ftruncate, greatest_offset, is_between_entries, lseek, open_at, open_file, opened_node_as, origin, resized_to, seek_target, seek_to, truncate_target}
 use Rattle.posix_defs.specs.Calls.OnNames.{freed_in, link, made_directory, mkdir, rename, retreed, rmdir, stat, told_of, unlink}
 use Rattle.posix_defs.specs.Calls.OnPipes.{pipe, piped_under}
@@ -56,7 +56,9 @@ is_quiet (call.Store addr bytes) = false
 is_quiet (call.Read fd addr n) = false
 is_quiet (call.Pread fd addr n at) = false
 is_quiet (call.Readdir fd addr n) = false
+is_quiet (call.Write fd addr n done) = false
 is_quiet (call.Chdir path) = false
+is_quiet (call.Signal which disposition) = false
 is_quiet _ = true
 
 module _ (script : Script) (plain : Plain) (pid : ℕ) where
@@ -147,9 +149,10 @@ module _ (script : Script) (plain : Plain) (pid : ℕ) where
       either (is_connected (stage_at plain.files.sockets place)) _ (failed script plain pid errno.ENOTCONN)
       (queue_writes opened.is.nonblock n done (put_in_socket plain.files place (bytes_left plain pid addr n done)) _) (fails errno.ENOTCONN)
 
-  writes : (fd addr n : ℤ) (done : ℕ) → Told script plain pid (write script plain pid fd addr n done)
-  unfolding write
-  writes fd addr n done = opens_told fd _ (λ opened. writable opened _ (bytes_said addr n _ (target_writes opened addr (count_of n) done opened.is.target)))
+  -- a write that doesn't end its caller leaves it too
+  pub writes_told : (fd addr n : ℤ) (done : ℕ) → Told script plain pid (write_ignoring script plain pid fd addr n done)
+  unfolding write_ignoring
+  writes_told fd addr n done = opens_told fd _ (λ opened. writable opened _ (bytes_said addr n _ (target_writes opened addr (count_of n) done opened.is.target)))
 
   pwrites : (fd addr n at : ℤ) → Told script plain pid (pwrite script plain pid fd addr n at)
   unfolding pwrite
@@ -367,7 +370,7 @@ module _ (script : Script) (plain : Plain) (pid : ℕ) where
   quiet_told (call.Dup2 fd to) is = dups_to fd to
   quiet_told (call.Fcntl fd cmd arg) is = controls fd cmd arg
   quiet_told (call.Read fd addr n) is = no is
-  quiet_told (call.Write fd addr n done) is = writes fd addr n done
+  quiet_told (call.Write fd addr n done) is = no is
   quiet_told (call.Pread fd addr n at) is = no is
   quiet_told (call.Pwrite fd addr n at) is = pwrites fd addr n at
   quiet_told (call.Lseek fd offset whence) is = seeks fd offset whence
@@ -390,3 +393,4 @@ module _ (script : Script) (plain : Plain) (pid : ℕ) where
   quiet_told (call.Accept fd) is = accepts fd
   quiet_told (call.Shutdown fd how) is = shuts fd how
   quiet_told (call.Poll timeout entries) is = polls timeout entries
+  quiet_told (call.Signal which disposition) is = no is

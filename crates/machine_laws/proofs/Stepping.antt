@@ -8,7 +8,7 @@ use Rattle.kabi_types.specs.declared.replies.StatInfo.{StatInfo}
 use Rattle.kabi_types.specs.declared.scripts.Script.{Script}
 use Rattle.posix_defs.specs.Answer.{Answer}
 use Rattle.posix_defs.specs.Forking.{fork, is_full}
-use Rattle.posix_defs.specs.Killing.{is_asking, kill, sent_to, struck}
+use Rattle.posix_defs.specs.Killing.{is_asking, is_ended_by, kill, sent_to, struck}
 use Rattle.posix_defs.specs.Machine.{answer_to, machine, unless_wrong}
 use Rattle.posix_defs.specs.Memory.{is_mapped_range, lowest_run}
 use Rattle.posix_defs.specs.MemoryCalls.{in_range, mapped_from, mmap}
@@ -16,7 +16,7 @@ use Rattle.posix_defs.specs.Needs.{pages_in}
 use Rattle.posix_defs.specs.Pipe.{Moving, pipe_read, pipe_write}
 use Rattle.posix_defs.specs.Pipe as pipes
 use Rattle.posix_defs.specs.Plain.{Plain}
-use Rattle.posix_defs.specs.Process.{Process, directory_of, memory_of, process_at, runs}
+use Rattle.posix_defs.specs.Process.{Process, directory_of, memory_of, process_at}
 use Rattle.posix_defs.specs.Reaching.{is_on_node}
 use Rattle.posix_defs.specs.Socket.{Accepting, is_connected}
 use Rattle.posix_defs.specs.Socket as socket
@@ -33,7 +33,8 @@ use Rattle.posix_defs.specs.Files.State.{Files, descriptors_of, node_of, opens, 
 use Rattle.posix_defs.specs.Calls.Opened.{Opened, answer_on, if_readable, if_writable, on_open, opened_at}
 use Rattle.posix_defs.specs.Calls.OnDescriptors.{close, controlled, dup, dup2, duplicated, fcntl}
 use Rattle.posix_defs.specs.Calls.Reading.{is_directory_target, list_target, of_bytes, pread, pread_target, read, read_from_pipe, read_from_socket, read_target, readdir}
-use Rattle.posix_defs.specs.Calls.Writing.{bytes_left, place_of_write, put_in_pipe, put_in_socket, pwrite, pwrite_target, write, write_queue, write_target, wrote, wrote_at}
+use Rattle.posix_defs.specs.Calls.Writing.{bytes_left, place_of_write, put_in_pipe, put_in_socket, pwrite, pwrite_target, write, write_ignoring, write_queue, write_target, wrote, wrote_at}
+use Rattle.posix_defs.proofs.SignalLemmas.{of_write}
 use Rattle.posix_defs.specs.Calls.OnFiles.{fstat, ftruncate, greatest_offset, is_between_entries, lseek, open_at, open_file, opened_node_as, opening_of, origin, resized_to, seek_target, seek_to, truncate_target}
 use Rattle.posix_defs.specs.Calls.OnNames.{chdir, freed_in, is_busy, link, made_directory, mkdir, rename, retreed, rmdir, stat, told_of, unlink, works_from}
 use Rattle.posix_defs.specs.Calls.Starting.{exec, starts}
@@ -343,7 +344,7 @@ module _ (script : Script) (plain : Plain) (pid : ℕ) (which : Call) where
       go : (o : Option Process) → Stepped plain pid which (sent_to script plain pid target signal o)
       go None = step.stays refl
       go (Some process) = either (is_asking signal) _ _ (λ asks. step.stays refl) (λ strikes_it.
-          either (target == 1) _ _ (λ first. step.stays refl) (λ other. either (runs process.status) _ _ (λ yes. strikes) (λ no. step.stays refl)))
+          either (target == 1) _ _ (λ first. step.stays refl) (λ other. either (is_ended_by (count_of signal) process) _ _ (λ yes. strikes) (λ no. step.stays refl)))
 
   maps : (size : ℤ) → Stepped plain pid which (mmap script plain pid size)
   maps size = go (lowest_run (memory_of plain.table pid) (pages_in (count_of size)))
@@ -355,11 +356,15 @@ module _ (script : Script) (plain : Plain) (pid : ℕ) (which : Call) where
 -- ---- calls of which their step tells what they are
 
 module _ (script : Script) (plain : Plain) (pid : ℕ) where
-  writes : (fd addr n : ℤ) (done : ℕ) → Stepped plain pid (call.Write fd addr n done) (write script plain pid fd addr n done)
-  unfolding write
-  writes fd addr n done = opens_step script plain pid _ fd _ (λ opened is. writable script plain pid _ opened _ (λ may.
+  writes_ignoring : (fd addr n : ℤ) (done : ℕ) → Stepped plain pid (call.Write fd addr n done) (write_ignoring script plain pid fd addr n done)
+  unfolding write_ignoring
+  writes_ignoring fd addr n done = opens_step script plain pid _ fd _ (λ opened is. writable script plain pid _ opened _ (λ may.
       bytes_step script plain pid _ addr n _ (write_on script plain pid _ fd addr n done opened opened.is.target refl is refl may (λ number on.
       record { named = is; target = on; writable = may; reached = on_node plain.files (opened_at plain.files pid fd) opened number is on }))))
+
+  writes : (fd addr n : ℤ) (done : ℕ) → Stepped plain pid (call.Write fd addr n done) (write script plain pid fd addr n done)
+  writes fd addr n done = of_write script plain pid fd addr n done (Stepped plain pid (call.Write fd addr n done)) (λ ends. step.ends_caller refl refl refl)
+      (λ goes. writes_ignoring fd addr n done)
 
   pwrites : (fd addr n at : ℤ) → Stepped plain pid (call.Pwrite fd addr n at) (pwrite script plain pid fd addr n at)
   unfolding pwrite
@@ -506,6 +511,7 @@ module _ (script : Script) (plain : Plain) (pid : ℕ) where
   right (call.Accept fd) = accepts script plain pid _ fd
   right (call.Shutdown fd how) = shuts script plain pid _ fd how
   right (call.Poll timeout entries) = polls script plain pid _ timeout entries
+  right (call.Signal of disposition) = step.stays refl
 
 -- an answer whose operands aren't wrong is told where none is, and else only an errno
 told : (script : Script) (plain : Plain) (pid : ℕ) (which : Call) (fault : Option Errno) → Stepped plain pid which (answer_to script plain pid which)

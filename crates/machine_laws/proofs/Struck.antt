@@ -16,7 +16,7 @@ use Rattle.answer_laws.specs.Shapes as shape
 use Rattle.answer_laws.specs.Shapes.{HasShape}
 use Rattle.answer_laws.proofs.Shapes.{machine_shape}
 use Rattle.kern_laws.proofs.Families.{others_live, still_alive}
-use Rattle.kern_laws.proofs.Remembering.{alive_still, alive_working}
+use Rattle.kern_laws.proofs.Remembering.{alive_ignoring, alive_still, alive_working}
 use Rattle.kern_laws.proofs.TablePlaces.{with_other}
 use Rattle.machine_laws.specs.FileSteps.{LeadsTo}
 use Rattle.machine_laws.specs.Own as own
@@ -43,6 +43,7 @@ module _ (script : Script) (plain : Plain) (pid who : ℕ) (call : Call) (apart 
   by_shape given (shape.tells files said is_said is) = subst Ends (sym is) (lives plain.table alive)
   by_shape given (shape.puts files memory said is_said put is) = subst Ends (sym is) (lives _ (alive_still plain.table pid who memory ∙ alive))
   by_shape given (shape.moves path directory called led is) = subst Ends (sym is) (lives _ (alive_working plain.table pid who directory ∙ alive))
+  by_shape given (shape.disposes signal disposition ignores before called is) = subst Ends (sym is) (lives _ (alive_ignoring plain.table pid who ignores ∙ alive))
   by_shape given (shape.parts files moved part is) = subst Ends (sym is) (lives plain.table alive)
   by_shape given (shape.starts place is) = subst Ends (sym is) (lives _ (alive_still plain.table pid who no_memory ∙ alive))
   by_shape given (shape.forks is) = subst Ends (sym is) (lives _ (still_alive plain.table (child_of pid (process_at plain.table pid)) who alive))

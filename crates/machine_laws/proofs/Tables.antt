@@ -4,7 +4,7 @@ use Rattle.std.proofs.lemmas.Bool.Decides.{eqb_tells}
 use Rattle.std.proofs.lemmas.List.{length-map}
 use Rattle.posix_defs.specs.ByPid.{at_pid, with_pid}
 use Rattle.posix_defs.specs.Ending.{die_in, ended_as, leaves, left_behind, left_child}
-use Rattle.posix_defs.specs.Process.{Alive, Ended, Process, Status, Table, directory_in, directory_of, is_alive, is_alive_in, memory_in, memory_of, process_at, runs}
+use Rattle.posix_defs.specs.Process.{Alive, Ended, Process, Status, Table, directory_in, directory_of, ignores_in, ignores_of, is_alive, is_alive_in, memory_in, memory_of, process_at, runs}
 use Rattle.kern_laws.proofs.Families.{alive_there}
 use Rattle.kern_laws.proofs.TablePlaces.{each_changed, get_front, get_set_other, is_gone, was_made, with_other, with_same}
 use Rattle.machine_laws.proofs.Shutting.{length_with}
@@ -23,14 +23,15 @@ pub at_front : {X : Type 0} (xs ys : List X) (who : ℕ) → who ≤ length xs �
 at_front xs ys zero h = refl
 at_front xs ys (suc i) h = get_front xs ys i (omega arith)
 
--- ---- what a process has in memory, and where it works
+-- ---- what a process has in memory, where it works, and which signals it ignores
 
 pub record KeepsPlace (who : ℕ) (old new : Table) : Type 0 where
   pub memory : memory_of new who ≡ memory_of old who
   pub directory : directory_of new who ≡ directory_of old who
+  pub ignores : ignores_of new who ≡ ignores_of old who
 
 pub same_place : (who : ℕ) (old new : Table) → process_at new who ≡ process_at old who → KeepsPlace who old new
-same_place who old new same = record { memory = ap memory_in same; directory = ap directory_in same }
+same_place who old new same = record { memory = ap memory_in same; directory = ap directory_in same; ignores = ap ignores_in same }
 
 pub other_place : (who pid : ℕ) (table : Table) (there : Option Process) → who ≢ pid → KeepsPlace who table (with_pid table pid there)
 other_place who pid table there apart = same_place who table (with_pid table pid there) (with_other table pid who there apart)
@@ -38,7 +39,7 @@ other_place who pid table there apart = same_place who table (with_pid table pid
 -- who lives stays when another ends, though it may get another parent
 left_place : (table : Table) (target status who : ℕ) → who ≢ target → is_alive table who ≡ true → KeepsPlace who table (leaves table target status)
 left_place table target status who apart alive = let there = alive_there table who alive in
-    record { memory = memory there.0 there.1 there.2; directory = directory there.0 there.1 there.2 }
+    record { memory = memory there.0 there.1 there.2; directory = directory there.0 there.1 there.2; ignores = ignores there.0 there.1 there.2 }
   where
     found : process_at (leaves table target status) who ≡ left_behind target (process_at table who)
     found = with_other (map (left_behind target) table) target who (ended_as status (process_at table target)) apart ∙ each_changed (left_behind target) table who refl
@@ -53,11 +54,19 @@ left_place table target status who apart alive = let there = alive_there table w
     kept_directory true (Ended code) process is = absurd (true_false (ap runs is) refl)
     kept_directory false of_it process is = refl
 
+    kept_ignores : (b : Bool) (of_it : Status) (process : Process) → of_it ≡ Alive → ignores_in (cond b (left_child of_it process) (Some process)) ≡ process.ignores
+    kept_ignores true Alive process is = refl
+    kept_ignores true (Ended code) process is = absurd (true_false (ap runs is) refl)
+    kept_ignores false of_it process is = refl
+
     memory : (process : Process) → process_at table who ≡ Some process → process.status ≡ Alive → memory_of (leaves table target status) who ≡ memory_of table who
     memory process is lives = ap memory_in (found ∙ ap (left_behind target) is) ∙ kept_memory (process.parent == target) process.status process lives ∙ sym (ap memory_in is)
 
     directory : (process : Process) → process_at table who ≡ Some process → process.status ≡ Alive → directory_of (leaves table target status) who ≡ directory_of table who
     directory process is lives = ap directory_in (found ∙ ap (left_behind target) is) ∙ kept_directory (process.parent == target) process.status process lives ∙ sym (ap directory_in is)
+
+    ignores : (process : Process) → process_at table who ≡ Some process → process.status ≡ Alive → ignores_of (leaves table target status) who ≡ ignores_of table who
+    ignores process is lives = ap ignores_in (found ∙ ap (left_behind target) is) ∙ kept_ignores (process.parent == target) process.status process lives ∙ sym (ap ignores_in is)
 
 -- nobody lives where the first process has ended
 pub none_alive : (table : Table) (who : ℕ) → is_alive (map (λ _. None) table) who ≡ false

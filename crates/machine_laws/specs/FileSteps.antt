@@ -39,6 +39,7 @@ LeadsTo Holds (Ended status next) = Holds next
 abbrev pub may_end_caller : Call → Bool
 may_end_caller (calls.Exit status) = true
 may_end_caller (calls.Kill target signal) = true
+may_end_caller (calls.Write fd addr n done) = true
 may_end_caller _ = false
 
 -- the calls that may end another process

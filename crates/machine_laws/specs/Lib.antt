@@ -11,3 +11,4 @@ pub mod Texts
 pub mod Own
 pub mod Followed
 pub mod Framed
+pub mod Signals

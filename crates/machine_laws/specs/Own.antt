@@ -5,7 +5,7 @@ use Rattle.kabi_types.specs.declared.calls.Call.TheVariants.{Kill}
 use Rattle.kabi_types.specs.declared.replies.Reply.TheVariants.{Val}
 use Rattle.posix_defs.specs.Answer.{Answer, Done}
 use Rattle.posix_defs.specs.Plain.{Plain, control_of}
-use Rattle.posix_defs.specs.Process.{directory_of, is_alive, memory_of}
+use Rattle.posix_defs.specs.Process.{directory_of, ignores_of, is_alive, memory_of}
 use Rattle.posix_defs.specs.Files.State.{Files, descriptors_of}
 use Rattle.posix_defs.specs.Calls.Opened.{Opened, opened_at}
 
@@ -16,11 +16,12 @@ pub record IsStill (was now : Opened) : Type 0 where
   pub target : now.is.target ≡ was.is.target
   pub access : now.is.access ≡ was.is.access
 
--- A process has the same in memory, works in the same directory, stands at the same place of its program with the same
+-- A process has the same in memory, works in the same directory, ignores the same signals, stands at the same place of its program with the same
 -- registers, has the same numbers open, with FD_CLOEXEC or without, and each names the description that it named.
 pub record KeepsOwn (who : ℕ) (old new : Plain) : Type 0 where
   pub memory : memory_of new.table who ≡ memory_of old.table who
   pub directory : directory_of new.table who ≡ directory_of old.table who
+  pub ignores : ignores_of new.table who ≡ ignores_of old.table who
   pub control : control_of new who ≡ control_of old who
   pub numbers : descriptors_of new.files who ≡ descriptors_of old.files who
   pub names : (fd : ℤ) (was : Opened) → opened_at old.files who fd ≡ Some was
@@ -45,11 +46,13 @@ pub data IsEndedBy (pid who : ℕ) (call : Call) : Type 0 where
   struck : (signal : ℤ) → call ≡ Kill (pos who) signal → IsEndedBy pid who call
   with_first : pid ≡ 1 → IsEndedBy pid who call
 
--- A child that is told wasn't alive before, and has in memory, as its working directory and under its numbers what its parent has.
+-- A child that is told wasn't alive before, has in memory, as its working directory and under its numbers what its parent has, and
+-- ignores the signals that that one ignores.
 pub record Inherits (parent child : ℕ) (old new : Plain) : Type 0 where
   pub new_one : is_alive old.table child ≡ false
   pub memory : memory_of new.table child ≡ memory_of old.table parent
   pub directory : directory_of new.table child ≡ directory_of old.table parent
+  pub ignores : ignores_of new.table child ≡ ignores_of old.table parent
   pub numbers : descriptors_of new.files child ≡ descriptors_of old.files parent
 
 abbrev pub InheritsWhere : Plain → ℕ → Answer → Type 0

@@ -11,6 +11,7 @@ mod pipes;
 mod queues;
 mod runs;
 mod sharing;
+mod signals;
 mod sockets;
 mod steps;
 mod trees;
@@ -34,6 +35,10 @@ pub use runs::{
     an_entry_of_another_leaves_alone, entries_of_others_leave_its_own, who_has_ended_stays_so,
 };
 pub use sharing::an_offset_is_shared;
+pub use signals::{
+    a_write_that_ends_its_caller_moved_nothing, no_kill_ends_the_first_process,
+    who_ignores_a_signal_is_not_ended_by_it, without_signal_all_is_as_before,
+};
 pub use sockets::{each_socket_is_named_once_or_waits, who_waits_has_no_name};
 pub use steps::every_answer_takes_a_step;
 pub use trees::a_call_that_reaches_no_node_leaves_the_tree;

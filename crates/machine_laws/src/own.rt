@@ -16,7 +16,7 @@ ghost use Rattle.machine_laws.specs.Own.{InheritsWhere, IsEndedBy, IsLeftAlone};
 
 /// Whatever a call of one process is answered, another that lives before it and after it has what it had: in memory, as its
 /// working directory, in its registers and its place in its program, and under each of its numbers, which names the description
-/// that it named. Of a description of which the caller has no number the offset and the flags stay too. Where it doesn't live
+/// that it named, and it ignores the signals that it ignored. Of a description of which the caller has no number the offset and the flags stay too. Where it doesn't live
 /// after it, the call was a `kill` of it, or ended the first process.
 pub fn another_call_leaves_alone()
     ensures alone { (script : Script) (plain : Plain) → IsReached script plain → (pid who : ℕ) (call : Call) → is_alive plain.table pid ≡ true
@@ -34,7 +34,8 @@ pub fn kills_and_refusals_leave_alone()
         → is_alive (die plain pid status).table who ≡ true → IsLeftAlone pid who plain (die plain pid status) }
 {}
 
-/// A process that is made begins with what its parent has: in memory, as its working directory and under its numbers.
+/// A process that is made begins with what its parent has: in memory, as its working directory and under its numbers, and it ignores
+/// the signals that that one ignores.
 pub fn a_child_begins_with_what_its_parent_has()
     ensures { (script : Script) (plain : Plain) → IsReached script plain → (pid : ℕ) → InheritsWhere plain pid (machine script plain pid Fork) }
 {}

@@ -7,3 +7,4 @@ pub mod Paths
 pub mod Starts
 pub mod Sockets
 pub mod Lives
+pub mod Signals

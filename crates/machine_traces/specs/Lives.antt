@@ -39,11 +39,11 @@ faults_of_processes =
     ∷ fails 1 (call.Waitpid (negsuc 0) (pos 2)) errno.EINVAL
     ∷ fails 1 (call.Kill (pos 0) (pos 9)) errno.EINVAL
     ∷ fails 1 (call.Kill (negsuc 0) (pos 9)) errno.EINVAL
-    ∷ fails 1 (call.Kill (pos 1) (pos 15)) errno.EINVAL
+    ∷ fails 1 (call.Kill (pos 1) (pos 14)) errno.EINVAL
     ∷ gets 1 (call.Kill (pos 1) (pos 0)) (reply.Val (pos 0))
     ∷ fails 1 (call.Kill (pos 1) (pos 9)) errno.EPERM
     ∷ fails 1 (call.Kill (pos 7) (pos 9)) errno.ESRCH
-    ∷ fails 1 (call.Kill (pos 7) (pos 15)) errno.EINVAL
+    ∷ fails 1 (call.Kill (pos 7) (pos 14)) errno.EINVAL
     ∷ gets 1 call.Fork (reply.Val (pos 2))
     ∷ gets 1 (call.Kill (pos 2) (pos 0)) (reply.Val (pos 0))
     ∷ ends 1 (call.Exit (pos 0)) 0

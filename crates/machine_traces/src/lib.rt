@@ -9,6 +9,7 @@ mod pairs;
 mod paths;
 mod pipes;
 mod polls;
+mod signals;
 mod sockets;
 mod starts;
 
@@ -29,6 +30,7 @@ pub use pipes::{
     numbers_of_descriptors_are_told, parts_that_end_are_told, writes_at_the_border_are_told,
 };
 pub use polls::{hung_up_ends_are_told, polled_entries_are_told};
+pub use signals::{dispositions_are_told, unread_writes_are_told};
 pub use sockets::{
     accepted_sockets_are_told, bound_sockets_are_told, calls_on_sockets_are_told,
     connected_sockets_are_told, waiting_sockets_are_told,

@@ -1,6 +1,6 @@
 //! `connect`.
 
-ghost use Rattle.std.specs.Prelude.{◌≡◌, ◌<◌, ◌≤◌, ℕ, [], List, Option, None, IsOk, OnErr, OnOk};
+ghost use Rattle.std.specs.Prelude.{◌≡◌, ◌<◌, ◌≤◌, ℕ, [], Option, None, IsOk, OnErr, OnOk};
 ghost use Rattle.std.specs.Option.{ForSome};
 ghost use Rattle.kabi_types.specs.Arguments.{path_fault};
 ghost use Rattle.kabi_types.specs.declared.scripts.Script.{Script};

@@ -1,22 +1,21 @@
 //! A socket gets the name of a node, and loses it.
 
-ghost use Rattle.std.specs.Prelude.{◌≡◌, ◌<◌, ℕ, [], List, None, Some, length};
-ghost use Rattle.std.specs.List.{Contains};
+ghost use Rattle.std.specs.Prelude.{◌≡◌, ◌<◌, ℕ, [], None, Some, length};
 ghost use Rattle.kheap_slabs.specs.Objects.{object, put, without};
 ghost use Rattle.kheap_slabs.specs.Owners.{OwnsItsObjects};
 ghost use Rattle.kheap_slabs.specs.Paid.{TakesNothing};
 ghost use Rattle.memfs_ops.specs.FileTree.{TreeView};
-ghost use Rattle.open_laws.specs.Owned.{HasItsOwners, socks_named};
+ghost use Rattle.open_laws.specs.Owned.{HasItsOwners};
 ghost use Rattle.open_laws.specs.Placed.{Numbers};
 ghost use Rattle.posix_defs.specs.DiskFormat.{table_nodes};
 ghost use Rattle.posix_defs.specs.Files.SocketNames.{after_freeing};
 ghost use Rattle.posix_defs.specs.Files.State.{Files, with_sockets};
 ghost use Rattle.posix_defs.specs.Sockets.{Sockets, with_name};
 ghost use Rattle.proc_table.specs.Table.{TableView};
-ghost use Rattle.proc_numbers.specs.Having.{AreListed, HaveOpen};
+ghost use Rattle.proc_numbers.specs.Having.{AreListed};
 ghost use Rattle.proc_numbers.specs.Queues.{QueuesStand};
 ghost use Rattle.proc_files.specs.Holding.{HoldFiles};
-ghost use Rattle.usock_core.specs.Standing.{IsSocketIn, LeavesOthers, QueuesStay, StandsFor as SocketsStandFor};
+ghost use Rattle.usock_core.specs.Standing.{IsSocketIn, QueuesStay, StandsFor as SocketsStandFor};
 ghost use Rattle.proc_numbers.specs.Owning.{SocketsChange};
 ghost use Rattle.proc_files.specs.Names.{AreBound, freed_from, name_of};
 ghost use Rattle.proc_files.specs.NameHolding.{HoldNames};

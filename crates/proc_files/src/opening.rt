@@ -1,6 +1,6 @@
 //! `open`.
 
-ghost use Rattle.std.specs.Prelude.{◌≡◌, ◌-◌, ◌<◌, ◌≤◌, ◌^◌, ℕ, ℤ, List, [], ◌∷◌, None, OnErr, OnOk, Some, false, true};
+ghost use Rattle.std.specs.Prelude.{◌≡◌, ◌-◌, ◌<◌, ◌≤◌, ◌^◌, ℕ, [], None, OnOk, Some, false, true};
 ghost use Rattle.std.specs.List.{All};
 ghost use Rattle.kabi_types.specs.Arguments.{argument_fault, most_descriptors};
 ghost use Rattle.kabi_types.specs.declared.calls.Call.{Call};

@@ -1,9 +1,8 @@
 //! `lseek`.
 
-ghost use Rattle.std.specs.Prelude.{◌≡◌, ◌<◌, ℕ, zero, suc, [], IfOk, OnErr, Some, Result, Ok, Err, nat_lt, if◌then◌else◌, pos, ◌+ℤ◌, ◌-◌};
+ghost use Rattle.std.specs.Prelude.{◌≡◌, ◌<◌, ℕ, [], IfOk, OnErr, Some, Result, Ok, Err, pos, ◌+ℤ◌, ◌-◌};
 ghost use Rattle.kabi_types.specs.declared.scripts.Script.{Script};
 ghost use Rattle.kabi_types.specs.Arguments.{count_of};
-ghost use Rattle.kabi_types.specs.declared.errnos.Errno.{Errno as Fault};
 ghost use Rattle.kabi_types.specs.declared.errnos.Errno.TheVariants.{EINVAL};
 ghost use Rattle.kheap_slabs.specs.Objects.{object};
 ghost use Rattle.kheap_slabs.specs.Paid.{TakesNothing};

@@ -1,6 +1,6 @@
 //! `ftruncate`.
 
-ghost use Rattle.std.specs.Prelude.{◌≡◌, ℕ, [], OnErr};
+ghost use Rattle.std.specs.Prelude.{ℕ, []};
 ghost use Rattle.kabi_types.specs.Arguments.{count_of};
 ghost use Rattle.kabi_types.specs.declared.scripts.Script.{Script};
 ghost use Rattle.memfs_ops.specs.Fetching.{MayFetch};

@@ -1,6 +1,6 @@
 -- What a number of a process names in the heap is what it names in the machine.
 use Rattle.std.proofs.Common.{◌≡◌, ℕ, ◌<◌, ℤ, pos, negsuc, List, [], Option, None, Some, refl, ap, ◌∙◌, arith}
-use Rattle.std.specs.Prelude.{count_by, slice_index_or}
+use Rattle.std.specs.Prelude.{count_by}
 use Rattle.std.specs.Option.{option_map}
 use Rattle.std.proofs.Math.ListN.{get_or-map}
 use Rattle.kheap_slabs.specs.Objects.{object}
@@ -16,19 +16,17 @@ use Rattle.open_laws.proofs.DescribedLemmas.{at_place}
 use Rattle.open_laws.proofs.DropLemmas.{description_in}
 use Rattle.open_laws.proofs.GoingLemmas.{named_there}
 use Rattle.open_laws.specs.Placed.{Numbers}
-use Rattle.posix_defs.specs.Calls.Opened.{opened_at, opened_by}
-use Rattle.posix_defs.specs.Files.Descriptions.{Description, Descriptions, description_at}
-use Rattle.posix_defs.specs.Files.Descriptors.{Descriptors, descriptor_of}
+use Rattle.posix_defs.specs.Files.Descriptions.{Descriptions, description_at}
+use Rattle.posix_defs.specs.Files.Descriptors.{descriptor_of}
 use Rattle.posix_defs.specs.Files.State.{Files, descriptors_of}
 use Rattle.proc_numbers.specs.Having.{AreListed, HaveOpen, places_in}
-use Rattle.proc_numbers.specs.Naming.{named_by}
 use Rattle.proc_numbers.proofs.Listing.{found_before}
 use Rattle.proc_numbers.proofs.NumberParts.{named_part}
 use Rattle.proc_numbers.proofs.Sums.{one_if, part_of_sum}
-use Rattle.proc_table.specs.Procs.{numbers_in, proc_of}
-use Rattle.proc_table.specs.Table.{TableView, key_of, processes}
+use Rattle.proc_table.specs.Procs.{numbers_in}
+use Rattle.proc_table.specs.Table.{TableView, key_of}
 use Rattle.proc_table.proofs.PlaceLemmas.{eqb_same}
-use Rattle.proc_numbers.specs.Found.{held_at, opened_in}
+use Rattle.proc_numbers.specs.Found.{held_at}
 
 -- the descriptor that a number has, by the places of descriptions
 pub held_by : (number : ℕ → ℕ) (places : List (Option HeldDescriptor)) (fd : ℤ) → descriptor_of (descriptors_by number places) fd ≡ option_map (descriptor_by number) (held_at places fd)

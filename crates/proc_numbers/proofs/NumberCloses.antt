@@ -1,18 +1,15 @@
 -- A number of a process is closed in the heap as in the machine.
-use Rattle.std.proofs.Common.{◌≡◌, ◌≢◌, ◌⊎◌, ℕ, zero, suc, ◌+◌, ◌-◌, ◌<◌, ◌≤◌, ◌==◌, Bool, true, false, cond, List, [], ◌∷◌, length, Option, None, Some, is_some, unwrap_or, refl, ap, sym, ◌∙◌, subst, arith, inl, inr}
-use Rattle.std.specs.Prelude.{count_by, is_none, slice_get, slice_index_or, slice_set}
+use Rattle.std.proofs.Common.{◌≡◌, ◌≢◌, ◌⊎◌, ℕ, zero, suc, ◌+◌, ◌-◌, ◌<◌, ◌==◌, Bool, true, false, cond, List, [], ◌∷◌, length, Option, None, Some, IsSome, is_some, unwrap_or, refl, ap, sym, ◌∙◌, subst, arith, inl, inr}
+use Rattle.std.specs.Prelude.{count_by, slice_get, slice_index_or, slice_set}
 use Rattle.std.specs.Option.{option_map}
 use Rattle.std.proofs.lemmas.Bool.Decides.{eqb_tells}
-use Rattle.std.proofs.lemmas.List.{get_or-set_other, get_or-set_same, length-set, map-set, set-get_or}
+use Rattle.std.proofs.lemmas.List.{get_or-set_other, get_or-set_same, set-get_or}
 use Rattle.std.proofs.Math.ListN.{get_or-map}
-use Rattle.std.proofs.lemmas.List.Sums.{sum_by-set}
-use Rattle.kheap_slabs.specs.Objects.{InUse, object, put}
-use Rattle.kheap_slabs.specs.declared.objects.Access.{Access}
+use Rattle.kheap_slabs.specs.Objects.{InUse, object}
 use Rattle.kheap_slabs.specs.declared.objects.Desc.{Desc}
 use Rattle.kheap_slabs.specs.declared.objects.Descriptor.{Descriptor as HeldDescriptor}
 use Rattle.kheap_slabs.specs.declared.objects.Leaf.{Leaf}
 use Rattle.kheap_slabs.specs.declared.objects.Proc.{Proc}
-use Rattle.kheap_slabs.specs.declared.objects.Target.{Target}
 use Rattle.kheap_slabs.specs.declared.objects.Target.TheVariants as target
 use Rattle.kheap_slabs.proofs.ObjectLemmas.{InUse-within}
 use Rattle.kheap_slabs.specs.Heap.{Heap}
@@ -20,13 +17,13 @@ use Rattle.kheap_slabs.specs.Keys.{AreKeysOf}
 use Rattle.kheap_slabs.specs.Leaves.{HoldLeaves, numbers_by}
 use Rattle.kheap_laws.proofs.LeafKeys.{LeavesChange-refl}
 use Rattle.open_laws.specs.Closing.{IsDroppable}
-use Rattle.open_laws.specs.Described.{Counted, CountedList, after_drop, counting, descs_left, node_in}
+use Rattle.open_laws.specs.Described.{Counted, after_drop, counting, descs_left, node_in}
 use Rattle.open_laws.specs.Open.{AreOpen, descriptor_by, descriptors_by, dropped_in, files_dropped}
-use Rattle.open_laws.specs.Owned.{HasItsOwners, IsHeldOpen, IsThereFor, all_namings, desc_count, names_desc, namings_in}
+use Rattle.open_laws.specs.Owned.{HasItsOwners, all_namings, desc_count}
 use Rattle.open_laws.specs.Placed.{Numbers}
 use Rattle.posix_defs.specs.Files.Closing.{after_close, close_in, description_gone, gone_in, released, target_closed}
 use Rattle.posix_defs.specs.Files.Descriptions.{Target as PlainTarget, OnNode, OnPipe, OnSocket, Access as PlainAccess, Description, description_at, with_description}
-use Rattle.posix_defs.specs.Files.Descriptors.{Descriptors, descriptor_at, none_open, with_descriptor}
+use Rattle.posix_defs.specs.Files.Descriptors.{Descriptors, descriptor_at, none_open}
 use Rattle.posix_defs.specs.Files.State.{Files, descriptors_of, opens, with_descriptions, with_open, with_tree}
 use Rattle.posix_defs.specs.TreeChanges.{closed}
 use Rattle.proc_table.specs.Procs.{numbers_in, proc_of}
@@ -277,10 +274,6 @@ closes_nothing old kept pid fd key listed named none =
     }
 
 -- some number is open
-pub some_of : {X : Type 0} (o : Option X) → is_none o ≡ false → (x : X) × (o ≡ Some x)
-some_of None some = absurd (let both : true ≡ false = some in cc)
-some_of (Some x) some = (x, refl)
-
-pub none_of : {X : Type 0} (o : Option X) → is_none o ≡ true → o ≡ None
-none_of None none = refl
-none_of (Some x) none = absurd (let both : false ≡ true = none in cc)
+pub some_held : {X : Type 0} (o : Option X) → IsSome o → (x : X) × (o ≡ Some x)
+some_held None some = absurd (cc)
+some_held (Some x) some = (x, refl)

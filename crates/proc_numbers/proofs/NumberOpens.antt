@@ -1,9 +1,9 @@
 -- A number of a process names a Desc from now on, or nothing, in the heap as in the machine.
-use Rattle.std.proofs.Common.{◌≡◌, ℕ, ◌+◌, ◌==◌, List, [], ◌∷◌, Option, None, Some, refl, ap, sym, ◌∙◌, subst, arith}
+use Rattle.std.proofs.Common.{◌≡◌, ℕ, ◌+◌, ◌==◌, List, ◌∷◌, Option, None, Some, refl, ap, sym, ◌∙◌, subst, arith}
 use Rattle.std.specs.Prelude.{count_by, slice_index_or}
 use Rattle.std.specs.Option.{option_map}
 use Rattle.kheap_laws.proofs.TableLemmas.{OwnsItsObjects-along, OwnsItsObjects-proc_set}
-use Rattle.kheap_slabs.specs.Objects.{InUse, object, put}
+use Rattle.kheap_slabs.specs.Objects.{InUse, put}
 use Rattle.kheap_slabs.specs.declared.objects.Desc.{Desc}
 use Rattle.kheap_slabs.specs.declared.objects.Descriptor.{Descriptor as HeldDescriptor}
 use Rattle.kheap_slabs.specs.declared.objects.Proc.{Proc}

@@ -1,17 +1,14 @@
 -- Where a process's number names a Desc, it is named in its Proc or in one of its Leaves, and the other way round.
-use Rattle.std.proofs.Common.{◌≡◌, ◌≢◌, ◌⊎◌, ℕ, zero, suc, ◌+◌, ◌<◌, ◌≤◌, ◌==◌, true, false, cond, List, [], ◌∷◌, map, length, get_or, sum_by, Option, None, Some, is_some, refl, ap, sym, ◌∙◌, subst, arith, inl, inr, Contains}
+use Rattle.std.proofs.Common.{◌≡◌, ℕ, zero, suc, ◌+◌, ◌<◌, cond, List, [], ◌∷◌, get_or, sum_by, Option, None, Some, is_some, refl, ap, ◌∙◌, subst, arith, inl, inr, Contains}
 use Rattle.std.specs.Prelude.{count_by}
-use Rattle.std.specs.List.{concat}
-use Rattle.std.proofs.lemmas.Bool.Decides.{eqb_tells}
 use Rattle.std.proofs.lemmas.List.Elements.{Contains-append_cases}
 use Rattle.std.proofs.lemmas.List.Sums.{get_or-le-sum_by, sum_by-cons}
 use Rattle.proc_table.proofs.AmongLemmas.{Contains-cons, Contains-cons_cases}
 use Rattle.kheap_laws.proofs.KeyPlaces.{key_placed}
 use Rattle.kheap_laws.proofs.LeafLemmas.{numbers_by-count}
-use Rattle.kheap_laws.proofs.LeafOwners.{keys_of_leaves}
 use Rattle.kheap_slabs.specs.Heap.{Heap}
 use Rattle.kheap_slabs.specs.Leaves.{leaf_keys, no_row, row_at, row_of}
-use Rattle.kheap_slabs.specs.Objects.{InUse, object}
+use Rattle.kheap_slabs.specs.Objects.{object}
 use Rattle.kheap_slabs.specs.Spaces.{keys_in}
 use Rattle.kheap_slabs.specs.declared.objects.Leaf.{Leaf}
 use Rattle.kheap_slabs.specs.declared.objects.Proc.{Proc}
@@ -21,7 +18,7 @@ use Rattle.proc_table.specs.Table.{TableView, processes}
 use Rattle.proc_table.proofs.OwnLemmas.{AreRising, rising_procs}
 use Rattle.proc_table.proofs.PlaceLemmas.{eqb_other, eqb_same, key_of-proc, some_same}
 use Rattle.proc_numbers.specs.Having.{AreListed}
-use Rattle.proc_numbers.proofs.Listing.{key_listed, pid_between}
+use Rattle.proc_numbers.proofs.Listing.{key_listed}
 use Rattle.proc_numbers.proofs.Sums.{part_of_sum, some_adds}
 
 module _ (key : ℕ) where

@@ -1,13 +1,11 @@
 -- One number of a process has another descriptor, or none, in the heap as in the machine.
-use Rattle.std.proofs.Common.{◌≡◌, ◌≢◌, ◌⊎◌, ℕ, zero, suc, ◌+◌, ◌<◌, ◌≤◌, ◌==◌, true, false, List, length, Option, None, Some, unwrap_or, refl, ap, sym, ◌∙◌, subst, arith, inl, inr}
-use Rattle.std.specs.Prelude.{slice_index_or, slice_set}
+use Rattle.std.proofs.Common.{◌≡◌, ◌≢◌, ◌⊎◌, ℕ, zero, suc, ◌<◌, ◌≤◌, ◌==◌, true, false, List, length, Option, None, Some, unwrap_or, refl, ap, sym, ◌∙◌, subst, arith, inl, inr}
+use Rattle.std.specs.Prelude.{slice_set}
 use Rattle.std.specs.Option.{option_map}
 use Rattle.std.proofs.lemmas.Bool.Decides.{eqb_tells}
 use Rattle.std.proofs.lemmas.List.{length-set, map-set}
 use Rattle.kern_laws.proofs.TablePlaces.{get_set_same, get_set_other}
 use Rattle.chunk_queue.proofs.HeldLemmas.{HasBytes-same}
-use Rattle.kheap_laws.proofs.TableLemmas.{OwnsItsObjects-proc_set}
-use Rattle.kheap_slabs.specs.Objects.{InUse, object, put}
 use Rattle.kheap_slabs.specs.declared.objects.Access.{Access}
 use Rattle.kheap_slabs.specs.declared.objects.Descriptor.{Descriptor as HeldDescriptor}
 use Rattle.kheap_slabs.specs.declared.objects.Leaf.{Leaf}
@@ -16,7 +14,6 @@ use Rattle.kheap_slabs.specs.declared.objects.Target.{Target}
 use Rattle.kheap_slabs.specs.declared.objects.Target.TheVariants as target
 use Rattle.kheap_slabs.specs.Heap.{Heap}
 use Rattle.kheap_slabs.specs.Keys.{AreKeysOf}
-use Rattle.kheap_slabs.specs.Leaves.{HoldLeaves}
 use Rattle.open_laws.specs.Described.{CountedList}
 use Rattle.open_laws.specs.Open.{AreOpen, descriptor_by, descriptors_by}
 use Rattle.open_laws.specs.Owned.{IsHeldOpen, IsThereFor}
@@ -27,11 +24,11 @@ use Rattle.posix_defs.specs.ByPid.{with_pid}
 use Rattle.posix_defs.specs.Files.Descriptors.{Descriptor, Descriptors, none_open, with_descriptor}
 use Rattle.posix_defs.specs.Files.State.{Files, descriptors_of, with_open}
 use Rattle.proc_table.specs.Moves.{NumbersTurn}
-use Rattle.proc_table.specs.Procs.{numbers_in, proc_of, with_numbers}
-use Rattle.proc_table.specs.Table.{AreStored, TableView, key_of, keys_of, processes, procs_at}
+use Rattle.proc_table.specs.Procs.{numbers_in, proc_of}
+use Rattle.proc_table.specs.Table.{AreStored, TableView, keys_of, processes, procs_at}
 use Rattle.proc_table.proofs.LeafTurns.{turned_hold, turned_others}
 use Rattle.usock_core.proofs.StandingLemmas.{held_on}
-use Rattle.proc_numbers.specs.Having.{AreListed, HaveDescriptors, HaveOpen, places_in}
+use Rattle.proc_numbers.specs.Having.{AreListed, HaveDescriptors, places_in}
 use Rattle.proc_numbers.proofs.Listing.{found_before, found_now, found_others, pid_between, stored_still, used_still}
 
 -- the heap with other Procs and other Leaves

@@ -24,7 +24,7 @@ use Rattle.page_space.specs.Putting.{Puts}
 use Rattle.open_laws.specs.Placed.{Numbers}
 use Rattle.posix_defs.specs.Account.{Account, front_after}
 use Rattle.posix_defs.specs.Answer.{Blocked, failed, replied}
-use Rattle.posix_defs.specs.Calls.Reading.{put, read, read_from_socket}
+use Rattle.posix_defs.specs.Calls.Reading.{put, read_from_socket}
 use Rattle.posix_defs.specs.Files.State.{with_sockets}
 use Rattle.posix_defs.specs.Memory.{after_put, stored}
 use Rattle.posix_defs.specs.MemoryCalls.{remembered}
@@ -35,7 +35,6 @@ use Rattle.posix_defs.specs.QueuePlace.{QueuePlace, after_take, at_front}
 use Rattle.posix_defs.specs.Socket.{Connected, Idle, Listening, Socket, Stage, is_shut_write, peer_of}
 use Rattle.posix_defs.specs.SocketLinks.{AreLinked, room_of}
 use Rattle.posix_defs.specs.Sockets.{Sockets, after_read, read_in_stage, sock_at, sock_read, socket_at, stage_at, writes_no_more}
-use Rattle.posix_defs.specs.declared.turner.Turned.{Turned}
 use Rattle.posix_defs.specs.declared.turner.Turned.TheVariants as turned
 use Rattle.socket_laws.proofs.SocketLaws.{peer_there}
 use Rattle.socket_laws.proofs.SocketTable.{sock_at-with_other, there_within}

@@ -29,7 +29,6 @@ use Rattle.posix_defs.specs.Socket.{Connected, Idle, Listening, Socket, Stage, i
 use Rattle.posix_defs.specs.SocketLinks.{AreLinked}
 use Rattle.posix_defs.specs.Sockets.{Sockets, after_write, free_at, reads_no_more, sent_to, sock_at, sock_write, socket_at, stage_at, write_in_stage, write_to, write_within}
 use Rattle.posix_defs.specs.Turn.{account_after}
-use Rattle.posix_defs.specs.declared.turner.Turned.{Turned}
 use Rattle.posix_defs.specs.declared.turner.Turned.TheVariants as turned
 use Rattle.socket_laws.proofs.SocketLaws.{peer_there}
 use Rattle.socket_laws.proofs.SocketTable.{sock_at-with_other, there_within}

@@ -10,7 +10,6 @@ use Rattle.kheap_slabs.specs.declared.objects.Desc.{Desc}
 use Rattle.kheap_slabs.specs.declared.objects.Node.{Node}
 use Rattle.kheap_slabs.specs.declared.objects.Page.{Page}
 use Rattle.kheap_slabs.specs.declared.objects.Pipe.{Pipe as HeldPipe}
-use Rattle.kheap_slabs.specs.declared.objects.Proc.{Proc}
 use Rattle.kheap_slabs.specs.declared.objects.Sock.{Sock}
 use Rattle.kheap_slabs.specs.declared.objects.Target.{Target}
 use Rattle.kheap_slabs.specs.declared.objects.Target.TheVariants as target

@@ -16,13 +16,12 @@ ghost use Rattle.proc_numbers.specs.Queues.{QueuesStand};
 ghost use Rattle.proc_numbers.specs.Having.{AreListed, ClosesNumber, HaveOpen, OpensNoNode, node_closed};
 ghost use Rattle.proc_numbers.specs.Naming.{TurnsNumber, named_at};
 
-use crate::finding::named_at;
 use desc_table::{Descs, drop_desc};
 use kheap_slabs::KHeap;
 use proc_table::{Place, ProcTable};
 
-/// A process has a number open no more (POSIX close). With the last of its numbers that is open a Leaf goes. With the last descriptor
-/// that names it a description goes, and what it was open on is closed; a number that isn't open changes nothing.
+/// A process has a number open no more (POSIX close), which was found open. With the last of its numbers that is open a Leaf goes. With
+/// the last descriptor that names it a description goes, and what it was open on is closed.
 ///
 /// The answer is the node whose pin the caller then drops; None where no description of a node has gone.
 pub fn close_one(heap: &mut KHeap, procs: &ProcTable, place: Place, fd: u32) -> Option<u32>
@@ -30,6 +29,7 @@ pub fn close_one(heap: &mut KHeap, procs: &ProcTable, place: Place, fd: u32) -> 
     requires owners { HasItsOwners heap.old [] }
     requires there { IsPlaced procs.now place }
     requires number { fd < most_descriptors }
+    requires is_open { IsSome (named_at heap.old procs.now place.pid fd) }
     ensures closed { (numbers : Numbers) (files : Files) → HaveOpen numbers heap.old procs.now files
         → HaveOpen numbers heap.new procs.now (after_close files place.pid fd) }
     ensures nodes { OpensNoNode heap.old.descs → OpensNoNode heap.new.descs }
@@ -41,9 +41,6 @@ pub fn close_one(heap: &mut KHeap, procs: &ProcTable, place: Place, fd: u32) -> 
     ensures queues { QueuesStand heap.old heap.new }
     ensures takes { TakesNothing heap.old heap.new }
 {
-    if named_at(heap, procs, place, fd).is_none() {
-        return None;
-    }
     let desc = clear_number(heap, procs, place, fd);
     drop_desc(heap, desc)
 }

@@ -94,7 +94,8 @@ pub fn control(
         F_GETFD => Ok(bit(found.close_on_exec)),
         F_SETFD => {
             let cloexec = has_flag(arg, FD_CLOEXEC);
-            mark_one(heap, purse, procs, place, found.number, cloexec);
+            let held = found.descriptor();
+            mark_one(heap, purse, procs, place, found.number, held, cloexec);
             Ok(0)
         }
         F_GETFL => Ok(status_bits(&found.desc)),

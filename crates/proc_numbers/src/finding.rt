@@ -1,4 +1,4 @@
-//! What a number names, also that of a call on a socket, and which number is free.
+//! The socket that a number is open on, and which number is free.
 
 ghost use Rattle.std.specs.Prelude.{◌≡◌, ◌<◌, ◌≤◌, ℕ, [], IfOk, IfSome, None};
 ghost use Rattle.std.specs.List.{Contains};
@@ -20,9 +20,9 @@ ghost use Rattle.proc_numbers.specs.Finding.{FindsSocket};
 
 use crate::closing::is_well_formed;
 use crate::lookups::Named;
-use desc_table::{descriptor_of, lowest_of};
+use desc_table::lowest_of;
 use kabi_types::Errno;
-use kheap_slabs::{Descriptor, KHeap, Target};
+use kheap_slabs::{KHeap, Target};
 use proc_table::{Place, ProcTable};
 
 /// The socket that a number of a process is open on.
@@ -56,17 +56,6 @@ impl Named {
             nonblock: found.desc.flags.nonblock,
         })
     }
-}
-
-/// What a number of a process names.
-pub fn named_at(heap: &KHeap, procs: &ProcTable, place: Place, fd: u32) -> Option<Descriptor>
-    requires listed { AreListed heap.now procs.now }
-    requires there { IsPlaced procs.now place }
-    requires number { fd < most_descriptors }
-    ensures { result ≡ named_at heap.now procs.now place.pid fd }
-{
-    is_well_formed(heap);
-    descriptor_of(heap, procs.at(heap, place), fd)
 }
 
 /// The lowest number of a process at or above one that is free; None where all from there to 127 are open.

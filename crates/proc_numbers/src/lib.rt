@@ -30,7 +30,7 @@ pub use buffer::{Buffer, CAPACITY};
 pub use closing::close_one;
 pub use controlling::control;
 pub use ends::QueueEnd;
-pub use finding::{OpenSocket, lowest_from, named_at};
+pub use finding::{OpenSocket, lowest_from};
 pub use lookups::{Found, Named, opened};
 pub use making::{make_pair, make_socket};
 pub use opening::{count_of, may_be_descriptor, open_one};

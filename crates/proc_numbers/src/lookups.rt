@@ -16,12 +16,12 @@ ghost use Rattle.posix_defs.specs.Plain.{Plain};
 ghost use Rattle.posix_defs.specs.Reaching.{is_on_node as plain_on_node};
 ghost use Rattle.proc_numbers.specs.Having.{AreListed, HaveOpen};
 ghost use Rattle.proc_table.specs.Table.{IsPlaced, TableView};
-ghost use Rattle.proc_numbers.specs.Found.{IsOffNodes, IsOnNode, IsOpened, opened_in};
+ghost use Rattle.proc_numbers.specs.Found.{IsOffNodes, IsOnNode, IsOpened, held_in, opened_in};
 
 use crate::closing::is_well_formed;
 use desc_table::descriptor_of;
 use kabi_types::MOST_DESCRIPTORS;
-use kheap_slabs::{Access, Desc, KHeap, Target};
+use kheap_slabs::{Access, Desc, Descriptor, KHeap, Target};
 use proc_table::{Place, ProcTable};
 
 /// A number of a process that is open, and what it names.
@@ -76,6 +76,16 @@ pub fn opened(heap: &KHeap, procs: &ProcTable, place: Place, fd: i64) -> Named
 }
 
 impl Found {
+    /// What names it.
+    pub(crate) fn descriptor(&self) -> Descriptor
+        ensures { result ≡ held_in self.now }
+    {
+        Descriptor {
+            desc: self.key,
+            close_on_exec: self.close_on_exec,
+        }
+    }
+
     /// Whether it is open for reading.
     pub fn is_readable(&self) -> bool
         ensures { result ≡ may_read (access_in self.now.desc.access) }

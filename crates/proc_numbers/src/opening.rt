@@ -1,6 +1,6 @@
 //! How a process has a number name something.
 
-ghost use Rattle.std.specs.Prelude.{◌≡◌, ◌<◌, ℕ, List, ◌∷◌, IsSome, None, Some, false, if◌then◌else◌, true};
+ghost use Rattle.std.specs.Prelude.{◌≡◌, ◌<◌, ℕ, List, ◌∷◌, None, Some, false, if◌then◌else◌, true};
 ghost use Rattle.kabi_types.specs.Arguments.{count_of, may_be_descriptor, most_descriptors};
 ghost use Rattle.kheap_slabs.specs.Paid.{CanPay, IsPaid};
 ghost use Rattle.desc_table.specs.Numbered.{leaf_spent};
@@ -15,7 +15,6 @@ ghost use Rattle.proc_numbers.specs.Having.{AreListed, HaveOpen};
 ghost use Rattle.proc_numbers.specs.Naming.{ChangesNumbers, NamesNumber, has_room, named_at};
 
 use crate::closing::is_well_formed;
-use crate::finding::named_at;
 use desc_table::Descs;
 use kabi_types::MOST_DESCRIPTORS;
 use kheap_slabs::{Descriptor, KHeap, Purse};
@@ -67,21 +66,22 @@ pub fn open_one(
     put_number(heap, purse, procs, place, fd, descriptor);
 }
 
-/// An open number of a process is closed by `exec` from now on, or isn't (FD_CLOEXEC). It has its place already, so the purse pays
-/// nothing.
+/// A number of a process that names this is closed by `exec` from now on, or isn't (FD_CLOEXEC). It has its place already, so the
+/// purse pays nothing.
 pub(crate) fn mark_one(
     heap: &mut KHeap,
     purse: &mut Purse,
     procs: &ProcTable,
     place: Place,
     fd: u32,
+    descriptor: Descriptor,
     cloexec: bool,
 )
     requires listed { AreListed heap.old procs.now }
     requires there { IsPlaced procs.now place }
     requires pays { CanPay heap.old purse.old }
     requires number { fd < most_descriptors }
-    requires is_open { IsSome (named_at heap.old procs.now place.pid fd) }
+    requires names { named_at heap.old procs.now place.pid fd ≡ Some descriptor }
     ensures marked { (numbers : Numbers) (files : Files) → HaveOpen numbers heap.old procs.now files
         → HaveOpen numbers heap.new procs.now
         (with_open files place.pid fd (cloexec_set cloexec (descriptor_at (descriptors_of files place.pid) fd))) }
@@ -94,9 +94,6 @@ pub(crate) fn mark_one(
     ensures spent { purse.new ≡ purse.old }
 {
     is_well_formed(heap);
-    let Some(descriptor) = named_at(heap, procs, place, fd) else {
-        unreachable!();
-    };
     let marked = Descriptor {
         close_on_exec: cloexec,
         ..descriptor

@@ -1,5 +1,5 @@
 -- What a fork makes of numbers: the child has copies of its parent's.
-use Rattle.std.proofs.Common.{◌≡◌, ◌≢◌, ℕ, ◌+◌, ◌-◌, ◌<◌, ◌≤◌, ◌==◌, cond, List, [], ◌∷◌, ◌++◌, count_by, length, Option, None, Some, refl, sym, ap, ◌∙◌, subst, arith}
+use Rattle.std.proofs.Common.{◌≡◌, ◌≢◌, ℕ, ◌+◌, ◌-◌, ◌<◌, ◌≤◌, cond, List, [], ◌∷◌, ◌++◌, count_by, length, Option, None, Some, refl, sym, ap, ◌∙◌, subst, arith}
 use Rattle.std.specs.List.{AllByRecursion}
 use Rattle.std.proofs.lemmas.List.{length-set}
 use Rattle.std.proofs.lemmas.List.Sums.{sum_by-set}
@@ -13,11 +13,11 @@ use Rattle.kheap_slabs.specs.Heap.{Heap}
 use Rattle.kheap_slabs.specs.Leaves.{HoldLeaves, LeavesChange, numbers_by}
 use Rattle.kheap_slabs.proofs.ObjectLemmas.{InUse-within}
 use Rattle.desc_table.specs.Copying.{no_leaves, spends_leaves}
-use Rattle.open_laws.specs.Owned.{all_namings, leaf_namings_of, names_desc, namings_in, namings_of}
+use Rattle.open_laws.specs.Owned.{leaf_namings_of, names_desc, namings_in, namings_of}
 use Rattle.proc_table.specs.Changes.{child_proc}
 use Rattle.proc_table.specs.Moves.{HasCopies, IsAdded}
 use Rattle.proc_table.specs.Procs.{numbers_in, proc_of}
-use Rattle.proc_table.specs.Table.{AreBetween, AreStored, TableView, processes, procs_at}
+use Rattle.proc_table.specs.Table.{AreBetween, AreStored, TableView, processes}
 use Rattle.proc_table.proofs.AccountLemmas.{pids_within}
 use Rattle.proc_table.proofs.LeafTurns.{forked_hold}
 use Rattle.proc_table.proofs.OwnLemmas.{all_weaker}

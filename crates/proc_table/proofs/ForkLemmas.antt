@@ -34,7 +34,7 @@ use Rattle.proc_table.proofs.FamilyLemmas.{one_more, proc_has_pid, process_is, s
 use Rattle.proc_table.proofs.HoldLemmas.{content_kept}
 use Rattle.proc_table.proofs.LawLemmas.{elsewhere_account, elsewhere_holds, elsewhere_table}
 use Rattle.proc_table.proofs.MemoryLemmas.{memory_at-same, processes_same}
-use Rattle.proc_table.proofs.OwnLemmas.{HasOut, all_weaker, has_it, has_out, rising_procs, spaces_in}
+use Rattle.proc_table.proofs.OwnLemmas.{HasOut, all_weaker, has_out, rising_procs, spaces_in}
 use Rattle.proc_table.proofs.PlaceLemmas.{Contains-behind, some_same}
 
 module _ (old mid new : Heap) (before between after : Purse) (was now : TableView) (pid : ℕ) (parent : Proc) (of nodes leaves : List (Option ℕ))

@@ -1,10 +1,10 @@
 -- Who holds which Leaves, where processes end, are waited for, or go on.
-use Rattle.std.proofs.Common.{◌≡◌, ◌≢◌, ◌⊎◌, ℕ, ◌<◌, ◌==◌, ◌/◌, Bool, true, false, cond, not, List, [], ◌∷◌, ◌++◌, filter, map, Option, None, Some, refl, sym, ap, ◌∙◌, subst, inl, inr, arith}
+use Rattle.std.proofs.Common.{◌≡◌, ◌≢◌, ◌⊎◌, ℕ, ◌==◌, ◌/◌, Bool, true, false, cond, not, List, [], ◌∷◌, ◌++◌, filter, map, Option, None, Some, refl, sym, ap, ◌∙◌, subst, inl, inr, arith}
 use Rattle.std.specs.List.{AllByRecursion, cons_option, filter_map}
 use Rattle.std.proofs.lemmas.Bool.Decides.{eqb_tells}
 use Rattle.kabi_types.specs.Class.{size}
 use Rattle.kabi_types.specs.declared.classes.Class.TheVariants as class
-use Rattle.kheap_slabs.specs.Objects.{InUse, object}
+use Rattle.kheap_slabs.specs.Objects.{object}
 use Rattle.kheap_slabs.specs.declared.objects.Leaf.{Leaf}
 use Rattle.kheap_slabs.specs.declared.objects.Proc.{Proc}
 use Rattle.kheap_slabs.specs.Heap.{Heap, empty_heap}
@@ -14,7 +14,7 @@ use Rattle.kheap_slabs.proofs.ObjectLemmas.{object-none, object_of}
 use Rattle.kheap_laws.proofs.LeafOwners.{HoldLeaves-same}
 use Rattle.proc_table.specs.Changes.{after_wait, cleared, ended, is_alone, is_other, left_behind, left_by, left_child, reaped_of, replaced, with_nodes}
 use Rattle.proc_table.specs.Moves.{ProcTurns}
-use Rattle.proc_table.specs.Procs.{HasClosed, HasNoneOpenOnce, IsLight, first_proc, no_nodes, proc_of}
+use Rattle.proc_table.specs.Procs.{HasClosed, HasNoneOpenOnce, first_proc, no_nodes, proc_of}
 use Rattle.proc_table.specs.Table.{Holds, TableView, processes}
 use Rattle.proc_table.specs.declared.reaped.Reaped.{Reaped}
 use Rattle.proc_table.specs.declared.reaped.Reaped.TheVariants.{NoChild, Nobody, Took}

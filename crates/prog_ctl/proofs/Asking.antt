@@ -1,6 +1,6 @@
 -- The kind of a call that is made of a statement, and the bound of one whose price is nothing.
 use Rattle.std.proofs.Common.{◌≡◌, ℕ, ℤ, pos, List, Bool, true, false, cond, Option, None, Some, refl, ap, sym, ◌∙◌, is_none, is_some}
-use Rattle.kabi_types.specs.Arguments.{argument_fault, path_fault}
+use Rattle.kabi_types.specs.Arguments.{argument_fault, is_number, path_fault}
 use Rattle.kabi_types.specs.Call.{kind_of}
 use Rattle.kabi_types.specs.declared.calls.Call.{Call}
 use Rattle.kabi_types.specs.declared.calls.Call.TheVariants as call
@@ -12,11 +12,11 @@ use Rattle.kabi_types.specs.declared.scripts.Operand.{Operand}
 use Rattle.kabi_types.specs.declared.scripts.Statement.{Statement}
 use Rattle.kabi_types.specs.declared.scripts.Statement.TheVariants as statement
 use Rattle.posix_defs.specs.Control.{call_at}
-use Rattle.posix_defs.specs.Made.{made, text_at}
+use Rattle.posix_defs.specs.Made.{made, number_at, text_at}
 use Rattle.posix_defs.specs.Needs.{bound, cost}
 use Rattle.posix_defs.specs.PriceList.{price_of}
 use Rattle.posix_defs.specs.declared.prices.Price.{Price}
-use Rattle.posix_defs.specs.declared.prices.Price.TheVariants.{Always}
+use Rattle.posix_defs.specs.declared.prices.Price.TheVariants.{Always, Copied}
 use Rattle.prog_ctl.specs.Runnable.{IsNeverWrong, TakesPath}
 use Rattle.prog_ctl.specs.Waits.{asked_for}
 
@@ -63,6 +63,7 @@ kind_made kind.Connect numbers texts done = refl
 kind_made kind.Accept numbers texts done = refl
 kind_made kind.Shutdown numbers texts done = refl
 kind_made kind.Poll numbers texts done = refl
+kind_made kind.Signal numbers texts done = refl
 
 -- a call whose price is nothing, whatever its operands are, may use nothing
 pub bound_free : (call : Call) → price_of (kind_of call) ≡ Always 0 → bound call ≡ 0
@@ -108,6 +109,20 @@ pub bound_by_fault : (which : CallKind) (numbers : List ℤ) (texts : List (List
     → argument_fault (made which numbers texts done) ≡ fault → right ≡ is_none fault → cond right bytes 0 ≡ bound (made which numbers texts done)
 bound_by_fault which numbers texts done bytes right fault price is said =
     ap (λ (b : Bool). cond b bytes 0) (said ∙ ap is_none (sym is)) ∙ sym (bound_fixed (made which numbers texts done) bytes (ap price_of (kind_made which numbers texts done) ∙ price))
+
+-- of what makes a further descriptor alone the price goes by whether it does
+pub copied_is : {bytes : ℕ} (which : CallKind) → price_of which ≡ Copied bytes → which ≡ kind.Fcntl
+copied_is kind.Fcntl is = refl
+copied_is _ is = cc
+
+-- and another command may use nothing
+pub bound_other : (numbers : List ℤ) (texts : List (List ℕ)) (done : ℕ) → is_number 0 (number_at numbers 1) ≡ false → bound (made kind.Fcntl numbers texts done) ≡ 0
+unfolding bound
+bound_other numbers texts done other = go (is_some (argument_fault (made kind.Fcntl numbers texts done)))
+  where
+    go : (wrong : Bool) → ◌≡◌ {A = ℕ} (cond wrong 0 (cond (is_number 0 (number_at numbers 1)) 256 0)) 0
+    go true = refl
+    go false = ap {B = ℕ} (λ (b : Bool). cond b 256 0) other
 
 -- so nothing is asked for at the end of a program, and where a loop goes round again
 pub asked_to_exit : asked_for (call.Exit (pos 0)) ≡ record { kind = kind.Exit; bound = 0 }

@@ -17,7 +17,7 @@ use Rattle.posix_defs.specs.declared.said.Shape.TheVariants as shape
 use Rattle.posix_defs.specs.ScriptLines.{shape_of}
 use Rattle.posix_defs.specs.Control.{body_of, statements_of}
 use Rattle.posix_defs.specs.ValidScript as valid
-use Rattle.posix_defs.specs.ValidScript.{AreTargets, Fits, IsLabel, IsPath, IsProgram, IsRegister, IsStatement, IsValid}
+use Rattle.posix_defs.specs.ValidScript.{AreTargets, Fits, IsLabel, IsPath, IsProgram, IsRegister, IsStatement}
 use Rattle.prog_ctl.specs.Runnable.{IsLater, IsOperand, IsRunnable, IsRunnableAt, Stands, most_text}
 
 both_true : (a b : Bool) → (a && b) ≡ true → a ≡ true

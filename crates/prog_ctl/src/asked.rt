@@ -2,6 +2,8 @@
 
 ghost use Rattle.std.specs.Prelude.{◌≡◌, ◌≤◌, cond, true, length, map, IfSome, option_copied};
 ghost use Rattle.std.specs.List.{AllByRecursion};
+ghost use Rattle.kabi_types.specs.Arguments.{is_number};
+ghost use Rattle.kabi_types.specs.declared.calls.CallKind.TheVariants as kinds;
 ghost use Rattle.posix_defs.specs.Control.{call_at, value_of};
 ghost use Rattle.posix_defs.specs.Made as spec;
 ghost use Rattle.posix_defs.specs.Needs.{bound};
@@ -11,11 +13,14 @@ ghost use Rattle.posix_defs.specs.declared.prices.Price.TheVariants.{Always};
 ghost use Rattle.prog_ctl.specs.Runnable.{IsNeverWrong, IsOperand, IsRunnableAt, TakesPath, most_text};
 ghost use Rattle.prog_ctl.specs.Waits.{asked_for};
 
-use crate::made::made;
+use crate::made::{made, operand_at};
 use crate::paths::{names_path, names_paths, names_renamed};
 use kabi_types::{CallKind, Control, Operand, Statement, Text};
 use need_table::{bound, price};
 use posix_defs::{Asked, Price};
+
+/// The command of `fcntl` that makes a further descriptor.
+const F_DUPFD: i64 = 0;
 
 /// The bound of a call of this kind, with these operands and texts in the order of its fields. It stands by itself, since the call is
 /// made here, which has room for two paths.
@@ -57,6 +62,29 @@ fn bound_at(
     }
 }
 
+/// The same of `fcntl`, which is made for it where it makes a further descriptor, and for no other command.
+fn bound_copied(control: &Control, kind: CallKind, operands: &[Operand], texts: &[Text]) -> u64
+    requires count { length operands.now ≤ 17 }
+    requires each { AllByRecursion IsOperand operands.now }
+    requires texts { AllByRecursion (λ text. length text ≤ most_text (shape_of kind)) texts.now }
+    requires copies { kind ≡ kinds.Fcntl }
+    ensures { result ≡ bound (spec.made kind (map (value_of control.now) operands.now) texts.now control.now.done) }
+{
+    let cmd = operand_at(control, operands, 1);
+    if makes_copy(cmd) {
+        bound_made(control, kind, operands, texts)
+    } else {
+        0
+    }
+}
+
+/// Whether a command of `fcntl` makes a further descriptor.
+fn makes_copy(cmd: i64) -> bool
+    ensures { result ≡ is_number 0 cmd }
+{
+    cmd == F_DUPFD
+}
+
 /// The same, where most calls make nothing and aren't made for it.
 fn bound_of(control: &Control, kind: CallKind, operands: &[Operand], texts: &[Text]) -> u64
     requires count { length operands.now ≤ 17 }
@@ -67,6 +95,7 @@ fn bound_of(control: &Control, kind: CallKind, operands: &[Operand], texts: &[Te
     match price(kind) {
         Price::Always(0) => 0,
         Price::Always(bytes) => bound_at(control, kind, operands, texts, bytes),
+        Price::Copied(_) => bound_copied(control, kind, operands, texts),
         _ => bound_made(control, kind, operands, texts),
     }
 }

@@ -1,11 +1,11 @@
 //! Laws of how programs go on. Each is the contract of a function that does nothing.
 
-ghost use Rattle.std.specs.Prelude.{◌≡◌, ◌<◌, ℕ, ℤ, pos, neg_ℤ, Some, None, length, slice_get, slice_set};
-ghost use Rattle.kabi_types.specs.declared.calls.Call.TheVariants.{Exit, SchedYield};
+ghost use Rattle.std.specs.Prelude.{◌≡◌, ◌<◌, ℕ, pos, neg_ℤ, Some, None, length, slice_get, slice_set};
+ghost use Rattle.kabi_types.specs.declared.calls.Call.TheVariants.{Exit};
 ghost use Rattle.kabi_types.specs.declared.scripts.Control.{Control};
 ghost use Rattle.kabi_types.specs.declared.scripts.Operand.TheVariants.{Number};
 ghost use Rattle.kabi_types.specs.declared.scripts.Script.{Script};
-ghost use Rattle.kabi_types.specs.declared.scripts.Statement.TheVariants.{Add, Loop};
+ghost use Rattle.kabi_types.specs.declared.scripts.Statement.TheVariants.{Add};
 ghost use Rattle.kabi_types.specs.declared.replies.Reply.{Reply};
 ghost use Rattle.posix_defs.specs.Control.{after, call_of, local, register_of, restarted, settled, statement_of, statements_of};
 ghost use Rattle.posix_defs.specs.ScriptValues.{least_value, greatest_value};

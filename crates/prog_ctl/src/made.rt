@@ -18,7 +18,7 @@ use kabi_types::{
 };
 
 /// What the operand at a place is now; 0 where there is none.
-fn operand_at(control: &Control, operands: &[Operand], at: usize) -> i64
+pub(crate) fn operand_at(control: &Control, operands: &[Operand], at: usize) -> i64
     requires { AllByRecursion IsOperand operands.now }
     ensures { result ≡ spec.number_at (map (value_of control.now) operands.now) at }
 {

@@ -1,6 +1,6 @@
 //! What one statement does to a control.
 
-ghost use Rattle.std.specs.Prelude.{◌≡◌, ◌<◌, ℤ, true, pos, ◌-ℤ◌, int_lt, IfSome};
+ghost use Rattle.std.specs.Prelude.{◌≡◌, ◌<◌, true, pos, ◌-ℤ◌, int_lt, IfSome};
 ghost use Rattle.kabi_types.specs.Reply.{first_of, second_of};
 ghost use Rattle.posix_defs.specs.Control as spec;
 ghost use Rattle.posix_defs.specs.ValidScript.{IsRegister};

@@ -10,11 +10,11 @@ ghost use Rattle.proc_table.specs.Table.{IsPlaced};
 ghost use Rattle.store_objects.specs.Objects.{AreKept, Runs};
 ghost use Rattle.store_objects.specs.Standing.{Performs};
 
-use crate::replies::value;
 use kabi_types::Script;
 use kheap_slabs::Purse;
 use posix_defs::Turned;
 use proc_numbers::{Named, dup_one};
+use store_objects::told::value;
 use store_objects::{Caller, Objects, go_on};
 
 /// Has the lowest number that is free name what another names, and tells it. EBADF where the other isn't open, EMFILE where no

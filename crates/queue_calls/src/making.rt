@@ -9,11 +9,12 @@ ghost use Rattle.proc_table.specs.Table.{IsPlaced};
 ghost use Rattle.store_objects.specs.Objects.{AreKept, Runs};
 ghost use Rattle.store_objects.specs.Standing.{Performs, StandsFor};
 
-use crate::replies::{pair, value};
+use crate::replies::pair;
 use kabi_types::Script;
 use kheap_slabs::Purse;
 use posix_defs::Turned;
 use proc_numbers::{make_pair, make_socket};
+use store_objects::told::value;
 use store_objects::{Caller, Objects, go_on};
 
 /// Makes a socket: the lowest number that is free names it, and is told. EMFILE where none is free; nothing is made then.

@@ -98,6 +98,7 @@ word_back kind.Connect = refl
 word_back kind.Accept = refl
 word_back kind.Shutdown = refl
 word_back kind.Poll = refl
+word_back kind.Signal = refl
 
 all_errnos : List Errno
 all_errnos =

@@ -1,5 +1,5 @@
 -- Of a store that stands for a world, others than descriptions hold directories alone, and who runs works in one.
-use Rattle.std.proofs.Common.{◌≡◌, ℕ, ◌<◌, ◌≤◌, ◌==◌, Bool, true, false, cond, ◌⊎◌, ◌≢◌, List, [], ◌∷◌, length, None, Some, refl, ap, subst, arith, inl, inr}
+use Rattle.std.proofs.Common.{◌≡◌, ℕ, ◌<◌, ◌==◌, Bool, true, false, cond, ◌⊎◌, ◌≢◌, List, [], ◌∷◌, None, Some, refl, ap, subst, arith, inl, inr}
 use Rattle.std.proofs.lemmas.Bool.Decides.{eqb_tells}
 use Rattle.kabi_types.specs.declared.scripts.Script.{Script}
 use Rattle.kheap_slabs.specs.declared.objects.Proc.{Proc}

@@ -1,9 +1,9 @@
 -- As many Leaves are in the heap as the machine says that its processes take.
-use Rattle.std.proofs.Common.{◌≡◌, ℕ, zero, suc, ◌+◌, ◌<◌, ◌≤◌, ◌||◌, Bool, true, false, cond, is_some, List, [], ◌∷◌, ◌++◌, map, length, take, drop, Option, None, Some, IfSome, refl, ap, sym, ◌∙◌, subst, arith, length-append}
+use Rattle.std.proofs.Common.{◌≡◌, ℕ, zero, suc, ◌+◌, ◌<◌, ◌≤◌, true, cond, is_some, List, [], ◌∷◌, ◌++◌, length, take, drop, Option, None, Some, refl, ap, sym, ◌∙◌, arith, length-append}
 use Rattle.std.specs.Prelude.{count_by, slice_index_or, sum_by}
-use Rattle.std.specs.List.{AllByRecursion, concat, list_any}
+use Rattle.std.specs.List.{list_any}
 use Rattle.std.specs.Option.{option_map}
-use Rattle.std.proofs.lemmas.List.{append_assoc, length-map, length-replicate, map-append}
+use Rattle.std.proofs.lemmas.List.{append_assoc, length-map, map-append}
 use Rattle.std.proofs.lemmas.List.Sums.{sum_by-cons}
 use Rattle.std.proofs.lemmas.Option.{unwrap_or-slice_get}
 use Rattle.kheap_slabs.specs.Objects.{count}
@@ -20,7 +20,7 @@ use Rattle.page_space.proofs.NodeCounts.{count_of_keys}
 use Rattle.open_laws.specs.Open.{descriptor_by, descriptors_by}
 use Rattle.open_laws.specs.Placed.{Numbers}
 use Rattle.posix_defs.specs.Account.{has_leaf, leaves_of, leaves_open}
-use Rattle.posix_defs.specs.Files.Descriptors.{Descriptor, Descriptors, none_open}
+use Rattle.posix_defs.specs.Files.Descriptors.{Descriptors, none_open}
 use Rattle.posix_defs.specs.Files.State.{Files}
 use Rattle.proc_table.specs.Procs.{numbers_in, proc_of}
 use Rattle.proc_table.specs.Table.{TableView, processes}

@@ -1,5 +1,5 @@
 -- A mark of the heap changes nothing that a store stands for.
-use Rattle.std.proofs.Common.{◌≡◌, ℕ, refl}
+use Rattle.std.proofs.Common.{ℕ, refl}
 use Rattle.kabi_types.specs.declared.scripts.Script.{Script}
 use Rattle.posix_defs.specs.World.{World}
 use Rattle.store_objects.specs.declared.objects.Objects.{Objects}

@@ -1,5 +1,5 @@
 -- A store that stands for a world holds its files and names of sockets.
-use Rattle.std.proofs.Common.{◌≡◌, ℕ, ◌<◌, ◌≤◌, length, ap, arith}
+use Rattle.std.proofs.Common.{ℕ, ◌<◌, ◌≤◌, length, ap, arith}
 use Rattle.proc_files.specs.Holders.{holders}
 use Rattle.kabi_types.specs.declared.scripts.Script.{Script}
 use Rattle.kheap_slabs.specs.declared.objects.Proc.{Proc}

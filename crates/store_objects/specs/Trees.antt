@@ -1,5 +1,5 @@
 -- The tree of files beside the heap: who holds its nodes, what its caches keep, and for which part of a world it stands.
-use Rattle.std.specs.Prelude.{ℕ, ◌≡◌, ◌==◌, false, if◌then◌else◌, List, [], ◌∷◌, ◌++◌, count_by, map, take}
+use Rattle.std.specs.Prelude.{ℕ, ◌≡◌, ◌==◌, if◌then◌else◌, List, [], ◌∷◌, ◌++◌, count_by, map, take}
 use Rattle.std.specs.Map.{keys_of}
 use Rattle.kheap_slabs.specs.Heap.{Heap}
 use Rattle.lru_index.specs.declared.keys.NameKey.{NameKey}

@@ -15,6 +15,7 @@ pub mod laws;
 mod objects;
 pub mod open_moves;
 mod purses;
+pub mod told;
 
 pub use boot::booted;
 pub use directories::{directory_of, hold_directory, let_go, work_in};

@@ -1,10 +1,9 @@
-use Rattle.std.proofs.Common.{suc, None, Some, drop, sym, subst, ap, add-one, ◌∙◌}
+use Rattle.std.proofs.Common.{None, Some, sym, subst, add-one}
 use Rattle.kheap_slabs.specs.Heap.{Heap}
 use Rattle.open_laws.specs.Open.{AreOpen}
 use Rattle.open_laws.specs.Owned.{HasItsOwners}
 use Rattle.open_laws.specs.Sharing.{after_shares, hand_with}
-use Rattle.open_laws.proofs.CloseLemmas.{described}
-use Rattle.open_laws.proofs.ShareLemmas.{Shares, all_shared, behind, opened_all, owners_all, shares_next, shares_none}
+use Rattle.open_laws.proofs.ShareLemmas.{all_shared, behind, opened_all, owners_all, shares_next, shares_none}
 use Rattle.desc_table.proofs.descriptions.share_descs.Goals as goal
 use Rattle.desc_table.proofs.descriptions.share_descs.Goals.{in-Some, in_default}
 

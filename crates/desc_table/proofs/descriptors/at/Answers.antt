@@ -1,7 +1,6 @@
-use Rattle.std.proofs.Common.{◌≡◌, List, Option, length, get_or, None, Some, sym, ap, ◌∙◌, subst, rules}
+use Rattle.std.proofs.Common.{◌≡◌, length, get_or, None, Some, sym, ap, ◌∙◌, subst, rules}
 use Rattle.std.proofs.lemmas.List.{get_or-replicate}
 use Rattle.kheap_slabs.specs.Leaves.{place_of, row_at, row_of}
-use Rattle.kheap_slabs.specs.declared.objects.Descriptor.{Descriptor as Held}
 use Rattle.kheap_laws.proofs.KeyPlaces.{key_there}
 use Rattle.kheap_laws.proofs.LeafLemmas.{numbers_by-first, numbers_by-leaf}
 use Rattle.desc_table.proofs.NumberLemmas.{in_a_row}

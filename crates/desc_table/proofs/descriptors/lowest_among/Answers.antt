@@ -1,9 +1,8 @@
-use Rattle.std.proofs.Common.{◌≡◌, List, Option, length, None, sym, ap, ◌∙◌, arith, rules, not}
+use Rattle.std.proofs.Common.{◌≡◌, List, Option, length, sym, ap, ◌∙◌, arith, rules, not}
 use Rattle.std.specs.Option.{option_map}
 use Rattle.kheap_slabs.specs.Leaves.{numbers_by}
 use Rattle.kheap_slabs.specs.declared.objects.Descriptor.{Descriptor as Held}
 use Rattle.kheap_laws.proofs.LeafLemmas.{numbers_by-length}
-use Rattle.posix_defs.specs.Files.Descriptors.{descriptor_at}
 use Rattle.desc_table.specs.Numbered.{descriptor_in, descriptors_in}
 use Rattle.desc_table.proofs.NumberLemmas.{free_seen, length_seen, lowest_found, lowest_passed, none_from, seen_at, taken_seen}
 use Rattle.desc_table.proofs.descriptors.lowest_among.Goals as goal

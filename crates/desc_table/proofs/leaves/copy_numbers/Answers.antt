@@ -1,6 +1,6 @@
 use Rattle.std.proofs.Common.{◌≡◌, [], ◌∷◌, length, get_or, None, IfSome, refl, sym, ap, subst, ◌∙◌, rules}
 use Rattle.kheap_slabs.specs.Heap.{Heap}
-use Rattle.kheap_slabs.specs.Leaves.{numbers_by, row_at}
+use Rattle.kheap_slabs.specs.Leaves.{row_at}
 use Rattle.kheap_slabs.specs.Objects.{InUse}
 use Rattle.kheap_laws.proofs.KeyPlaces.{key_there}
 use Rattle.kheap_laws.proofs.PaidLemmas.{CanPay-kept, IsPaid-nothing, IsPaid-trans}

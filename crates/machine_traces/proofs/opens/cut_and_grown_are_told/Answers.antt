@@ -6,9 +6,9 @@ use Rattle.posix_defs.specs.DiskContents.{zeros}
 use Rattle.posix_defs.specs.DiskFormat.{entry_bytes}
 use Rattle.posix_defs.specs.Calls.OnFiles.{fstat, ftruncate, lseek, open_file}
 use Rattle.posix_defs.specs.Calls.Reading.{pread, read}
-use Rattle.posix_defs.specs.Calls.Writing.{write}
+use Rattle.posix_defs.specs.Calls.Writing.{write, write_ignoring}
 use Rattle.machine_traces.proofs.opens.cut_and_grown_are_told.Goals as goal
 
 pub returns : goal.returns
-unfolding none_open no_memory no_places lowest_free_run zero_page after_end_of zeros entry_bytes fstat ftruncate lseek open_file pread read write
+unfolding none_open no_memory no_places lowest_free_run zero_page after_end_of zeros entry_bytes fstat ftruncate lseek open_file pread read write write_ignoring
 returns c = refl

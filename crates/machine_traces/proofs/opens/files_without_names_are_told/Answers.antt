@@ -8,9 +8,9 @@ use Rattle.posix_defs.specs.Calls.OnDescriptors.{close, dup, dup2}
 use Rattle.posix_defs.specs.Calls.OnFiles.{fstat, ftruncate, open_file}
 use Rattle.posix_defs.specs.Calls.Reading.{pread}
 use Rattle.posix_defs.specs.Calls.OnNames.{stat, unlink}
-use Rattle.posix_defs.specs.Calls.Writing.{write}
+use Rattle.posix_defs.specs.Calls.Writing.{write, write_ignoring}
 use Rattle.machine_traces.proofs.opens.files_without_names_are_told.Goals as goal
 
 pub returns : goal.returns
-unfolding none_open no_memory no_places lowest_free_run zero_page after_end_of zeros entry_bytes close dup dup2 fstat ftruncate open_file pread stat unlink write
+unfolding none_open no_memory no_places lowest_free_run zero_page after_end_of zeros entry_bytes close dup dup2 fstat ftruncate open_file pread stat unlink write write_ignoring
 returns c = refl

@@ -6,9 +6,9 @@ use Rattle.posix_defs.specs.DiskContents.{zeros}
 use Rattle.posix_defs.specs.Calls.OnDescriptors.{fcntl}
 use Rattle.posix_defs.specs.Calls.OnFiles.{fstat, open_file}
 use Rattle.posix_defs.specs.Calls.OnNames.{mkdir, stat}
-use Rattle.posix_defs.specs.Calls.Writing.{write}
+use Rattle.posix_defs.specs.Calls.Writing.{write, write_ignoring}
 use Rattle.machine_traces.proofs.opens.flags_of_open_are_told.Goals as goal
 
 pub returns : goal.returns
-unfolding none_open no_memory no_places lowest_free_run zero_page after_end_of zeros fcntl fstat open_file mkdir stat write
+unfolding none_open no_memory no_places lowest_free_run zero_page after_end_of zeros fcntl fstat open_file mkdir stat write write_ignoring
 returns c = refl

@@ -6,9 +6,9 @@ use Rattle.posix_defs.specs.DiskContents.{zeros}
 use Rattle.posix_defs.specs.DiskFormat.{entry_bytes}
 use Rattle.posix_defs.specs.Calls.Reading.{read}
 use Rattle.posix_defs.specs.Calls.OnSockets.{shutdown, socketpair}
-use Rattle.posix_defs.specs.Calls.Writing.{write}
+use Rattle.posix_defs.specs.Calls.Writing.{write, write_ignoring}
 use Rattle.machine_traces.proofs.pairs.shut_reading_are_told.Goals as goal
 
 pub returns : goal.returns
-unfolding none_open no_memory no_places lowest_free_run zero_page after_end_of zeros entry_bytes read shutdown socketpair write
+unfolding none_open no_memory no_places lowest_free_run zero_page after_end_of zeros entry_bytes read shutdown socketpair write write_ignoring
 returns c = refl

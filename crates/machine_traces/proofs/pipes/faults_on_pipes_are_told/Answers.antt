@@ -8,9 +8,9 @@ use Rattle.posix_defs.specs.Calls.OnDescriptors.{close}
 use Rattle.posix_defs.specs.Calls.OnFiles.{fstat, ftruncate, lseek}
 use Rattle.posix_defs.specs.Calls.OnPipes.{pipe}
 use Rattle.posix_defs.specs.Calls.Reading.{pread, read, readdir}
-use Rattle.posix_defs.specs.Calls.Writing.{pwrite, write}
+use Rattle.posix_defs.specs.Calls.Writing.{pwrite, write, write_ignoring}
 use Rattle.machine_traces.proofs.pipes.faults_on_pipes_are_told.Goals as goal
 
 pub returns : goal.returns
-unfolding none_open no_memory no_places lowest_free_run zero_page after_end_of zeros entry_bytes close fstat ftruncate lseek pipe pread read readdir pwrite write
+unfolding none_open no_memory no_places lowest_free_run zero_page after_end_of zeros entry_bytes close fstat ftruncate lseek pipe pread read readdir pwrite write write_ignoring
 returns c = refl

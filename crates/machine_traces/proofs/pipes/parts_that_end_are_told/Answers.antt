@@ -7,9 +7,9 @@ use Rattle.posix_defs.specs.DiskFormat.{entry_bytes}
 use Rattle.posix_defs.specs.Calls.OnDescriptors.{close, fcntl}
 use Rattle.posix_defs.specs.Calls.OnPipes.{pipe}
 use Rattle.posix_defs.specs.Calls.Reading.{read}
-use Rattle.posix_defs.specs.Calls.Writing.{write}
+use Rattle.posix_defs.specs.Calls.Writing.{write, write_ignoring}
 use Rattle.machine_traces.proofs.pipes.parts_that_end_are_told.Goals as goal
 
 pub returns : goal.returns
-unfolding none_open no_memory no_places lowest_free_run zero_page after_end_of zeros entry_bytes close fcntl pipe read write
+unfolding none_open no_memory no_places lowest_free_run zero_page after_end_of zeros entry_bytes close fcntl pipe read write write_ignoring
 returns c = refl

@@ -6,9 +6,9 @@ use Rattle.posix_defs.specs.DiskContents.{zeros}
 use Rattle.posix_defs.specs.Calls.OnDescriptors.{close}
 use Rattle.posix_defs.specs.Calls.OnPipes.{pipe}
 use Rattle.posix_defs.specs.Calls.Polling.{poll}
-use Rattle.posix_defs.specs.Calls.Writing.{write}
+use Rattle.posix_defs.specs.Calls.Writing.{write, write_ignoring}
 use Rattle.machine_traces.proofs.polls.hung_up_ends_are_told.Goals as goal
 
 pub returns : goal.returns
-unfolding none_open no_memory no_places lowest_free_run zero_page after_end_of zeros close pipe poll write
+unfolding none_open no_memory no_places lowest_free_run zero_page after_end_of zeros close pipe poll write write_ignoring
 returns c = refl

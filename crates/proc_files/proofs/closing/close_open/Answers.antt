@@ -1,4 +1,4 @@
-use Rattle.std.proofs.Common.{◌≡◌, ◌∙◌, [], None, Some, ap, refl, sym}
+use Rattle.std.proofs.Common.{◌≡◌, ◌∙◌, [], None, Some, ap, is_some, refl, sym}
 use Rattle.kheap_laws.proofs.PaidLemmas.{IsPaid-nothing, IsPaid-trans}
 use Rattle.kheap_slabs.specs.Heap.{Heap}
 use Rattle.memfs_ops.proofs.CachedLemmas.{cached_still}
@@ -28,6 +28,10 @@ close_one-requires-clause-listed c =
 
 pub close_one-requires-clause-number : goal.close_one-requires-clause-number
 close_one-requires-clause-number c = c.requires.opened.number.1
+
+pub close_one-requires-clause-is_open : goal.close_one-requires-clause-is_open
+close_one-requires-clause-is_open c =
+    ap is_some (ap (λ (h : Heap). named_at h c.args.procs.now c.args.place.pid c.args.found.now.number) c.unname_going.ensures.beside ∙ c.requires.opened.names)
 
 -- ---- no node goes
 

@@ -1,4 +1,4 @@
-use Rattle.std.proofs.Common.{◌≡◌, ◌∙◌, None, IsSome, ap, sym, subst, arith}
+use Rattle.std.proofs.Common.{◌∙◌, None, IsSome, ap, sym, subst, arith}
 use Rattle.std.specs.Prelude.{slice_index_or}
 use Rattle.desc_table.specs.Numbered.{InHand, numbers}
 use Rattle.kheap_laws.proofs.PaidLemmas.{TakesNothing-trans}

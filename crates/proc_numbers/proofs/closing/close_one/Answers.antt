@@ -1,4 +1,4 @@
-use Rattle.std.proofs.Common.{◌≡◌, ◌∙◌, List, [], ◌∷◌, Option, Some, None, is_some, not, ap, refl, subst, sym, arith}
+use Rattle.std.proofs.Common.{◌≡◌, ◌∙◌, List, [], ◌∷◌, Option, Some, None, ap, refl, subst, sym, arith}
 use Rattle.std.specs.Prelude.{slice_index_or}
 use Rattle.kheap_slabs.specs.Objects.{object}
 use Rattle.kheap_slabs.specs.declared.objects.Descriptor.{Descriptor as HeldDescriptor}
@@ -10,49 +10,19 @@ use Rattle.open_laws.specs.Owned.{HasItsOwners, all_namings}
 use Rattle.desc_table.specs.Numbered.{names_one}
 use Rattle.posix_defs.specs.Files.State.{with_open}
 use Rattle.proc_table.specs.Procs.{numbers_in}
-use Rattle.proc_numbers.specs.Having.{HaveOpen, OpensNoNode, node_closed, node_dropped, places_in}
+use Rattle.proc_numbers.specs.Having.{OpensNoNode, node_closed, node_dropped, places_in}
 use Rattle.proc_numbers.specs.Naming.{named_at}
 use Rattle.proc_numbers.proofs.Droppable.{is_named}
 use Rattle.proc_numbers.proofs.Fronts.{queues_dropped, queues_same, queues_then}
-use Rattle.proc_numbers.proofs.NumberCloses.{closes_nothing, desc_between, droppable_between, have_closed, left_opens, listed_mid, listed_on, none_of, opened_mid, owners_mid, some_of, unopened}
+use Rattle.proc_numbers.proofs.NumberCloses.{desc_between, droppable_between, have_closed, left_opens, listed_mid, listed_on, opened_mid, owners_mid, some_held}
 use Rattle.proc_numbers.proofs.NumberOpens.{was_at}
 use Rattle.proc_numbers.proofs.closing.close_one.Goals as goal
 
--- ---- it isn't open
-
-pub returns-then-is_none-clause-closed : goal.returns-then-is_none-clause-closed
-returns-then-is_none-clause-closed c =
-    λ numbers files have.
-    let none : named_at c.args.heap.now c.args.procs.now c.args.place.pid c.args.fd ≡ None = sym c.named_at.ensures ∙ none_of c.named_at.result (ap not c.is_none.ensures ∙ ap (λ b. not (not b)) c.if-is_none.true) in
-    subst (HaveOpen numbers c.args.heap.now c.args.procs.now) (sym (unopened numbers c.args.heap.now c.args.procs.now files c.args.place.pid c.args.fd none have)) have
-
-pub returns-then-is_none-clause-closes : goal.returns-then-is_none-clause-closes
-returns-then-is_none-clause-closes c =
-    let none : named_at c.args.heap.now c.args.procs.now c.args.place.pid c.args.fd ≡ None = sym c.named_at.ensures ∙ none_of c.named_at.result (ap not c.is_none.ensures ∙ ap (λ b. not (not b)) c.if-is_none.true) in
-    closes_nothing c.args.heap.now c.args.procs.now c.args.place.pid c.args.fd c.args.place.key c.requires.listed c.requires.there none
-
-pub returns-then-is_none-clause-node : goal.returns-then-is_none-clause-node
-returns-then-is_none-clause-node c =
-    λ proc found.
-    let none : named_at c.args.heap.now c.args.procs.now c.args.place.pid c.args.fd ≡ None = sym c.named_at.ensures ∙ none_of c.named_at.result (ap not c.is_none.ensures ∙ ap (λ b. not (not b)) c.if-is_none.true) in
-    sym (ap (node_closed c.args.heap.now.descs) (sym (ap (λ o. slice_index_or (places_in (numbers_in c.args.heap.now) o) c.args.fd None) found) ∙ none))
-
-pub returns-then-is_none-clause-queues : goal.returns-then-is_none-clause-queues
-returns-then-is_none-clause-queues c =
-    queues_same c.args.heap.now c.args.heap.now refl refl
-
--- ---- it is
-
-pub clear_number-desc-requires-clause-is_open : goal.clear_number-desc-requires-clause-is_open
-clear_number-desc-requires-clause-is_open c =
-    let opened = some_of c.named_at.result (ap not c.is_none.ensures ∙ ap (λ b. not (not b)) c.if-is_none.false) in
-    ap is_some (sym c.named_at.ensures ∙ opened.1)
-
 pub drop_desc-requires-clause-owned : goal.drop_desc-requires-clause-owned
 drop_desc-requires-clause-owned c =
-    let opened = some_of c.named_at.result (ap not c.is_none.ensures ∙ ap (λ b. not (not b)) c.if-is_none.false) in
+    let opened = some_held (named_at c.args.heap.now c.args.procs.now c.args.place.pid c.args.fd) c.requires.is_open in
     let is : named_at c.args.heap.now c.args.procs.now c.args.place.pid c.args.fd ≡ Some (record { desc = c.clear_number-desc.result; close_on_exec = opened.0.close_on_exec }) =
-    sym c.named_at.ensures ∙ opened.1 ∙ ap (λ key. Some (record { desc = key; close_on_exec = opened.0.close_on_exec })) (sym (c.clear_number-desc.ensures.named opened.0 (sym c.named_at.ensures ∙ opened.1))) in
+    opened.1 ∙ ap (λ key. Some (record { desc = key; close_on_exec = opened.0.close_on_exec })) (sym (c.clear_number-desc.ensures.named opened.0 opened.1)) in
     let held : HeldDescriptor = record { desc = c.clear_number-desc.result; close_on_exec = opened.0.close_on_exec } in
     let at = sym (was_at c.args.heap.now c.clear_number-desc.new.heap c.args.procs.now c.args.place.pid c.args.fd None c.requires.listed c.clear_number-desc.ensures.turns) ∙ is in
     let owners : HasItsOwners c.clear_number-desc.new.heap (c.clear_number-desc.result ∷ []) = owners_mid c.args.heap.now c.clear_number-desc.new.heap c.args.procs.now c.args.place.pid c.args.fd held c.requires.listed c.clear_number-desc.ensures.turns at c.requires.owners in
@@ -60,9 +30,9 @@ drop_desc-requires-clause-owned c =
 
 pub drop_desc-requires-clause-there : goal.drop_desc-requires-clause-there
 drop_desc-requires-clause-there c =
-    let opened = some_of c.named_at.result (ap not c.is_none.ensures ∙ ap (λ b. not (not b)) c.if-is_none.false) in
+    let opened = some_held (named_at c.args.heap.now c.args.procs.now c.args.place.pid c.args.fd) c.requires.is_open in
     let is : named_at c.args.heap.now c.args.procs.now c.args.place.pid c.args.fd ≡ Some (record { desc = c.clear_number-desc.result; close_on_exec = opened.0.close_on_exec }) =
-    sym c.named_at.ensures ∙ opened.1 ∙ ap (λ key. Some (record { desc = key; close_on_exec = opened.0.close_on_exec })) (sym (c.clear_number-desc.ensures.named opened.0 (sym c.named_at.ensures ∙ opened.1))) in
+    opened.1 ∙ ap (λ key. Some (record { desc = key; close_on_exec = opened.0.close_on_exec })) (sym (c.clear_number-desc.ensures.named opened.0 opened.1)) in
     let held : HeldDescriptor = record { desc = c.clear_number-desc.result; close_on_exec = opened.0.close_on_exec } in
     let at = sym (was_at c.args.heap.now c.clear_number-desc.new.heap c.args.procs.now c.args.place.pid c.args.fd None c.requires.listed c.clear_number-desc.ensures.turns) ∙ is in
     droppable_between c.args.heap.now c.clear_number-desc.new.heap c.args.procs.now c.args.place.pid c.args.fd held c.requires.listed c.clear_number-desc.ensures.turns at c.requires.owners
@@ -70,9 +40,9 @@ drop_desc-requires-clause-there c =
 pub returns-clause-closed : goal.returns-clause-closed
 returns-clause-closed c =
     λ numbers files have.
-    let opened = some_of c.named_at.result (ap not c.is_none.ensures ∙ ap (λ b. not (not b)) c.if-is_none.false) in
+    let opened = some_held (named_at c.args.heap.now c.args.procs.now c.args.place.pid c.args.fd) c.requires.is_open in
     let is : named_at c.args.heap.now c.args.procs.now c.args.place.pid c.args.fd ≡ Some (record { desc = c.clear_number-desc.result; close_on_exec = opened.0.close_on_exec }) =
-    sym c.named_at.ensures ∙ opened.1 ∙ ap (λ key. Some (record { desc = key; close_on_exec = opened.0.close_on_exec })) (sym (c.clear_number-desc.ensures.named opened.0 (sym c.named_at.ensures ∙ opened.1))) in
+    opened.1 ∙ ap (λ key. Some (record { desc = key; close_on_exec = opened.0.close_on_exec })) (sym (c.clear_number-desc.ensures.named opened.0 opened.1)) in
     let held : HeldDescriptor = record { desc = c.clear_number-desc.result; close_on_exec = opened.0.close_on_exec } in
     let at = sym (was_at c.args.heap.now c.clear_number-desc.new.heap c.args.procs.now c.args.place.pid c.args.fd None c.requires.listed c.clear_number-desc.ensures.turns) ∙ is in
     have_closed c.args.heap.now c.clear_number-desc.new.heap c.args.procs.now c.args.place.pid c.args.fd held c.requires.listed c.clear_number-desc.ensures.turns at numbers files have c.requires.owners c.drop_desc.new.heap
@@ -81,9 +51,9 @@ returns-clause-closed c =
 
 pub returns-clause-listed : goal.returns-clause-listed
 returns-clause-listed c =
-    let opened = some_of c.named_at.result (ap not c.is_none.ensures ∙ ap (λ b. not (not b)) c.if-is_none.false) in
+    let opened = some_held (named_at c.args.heap.now c.args.procs.now c.args.place.pid c.args.fd) c.requires.is_open in
     let is : named_at c.args.heap.now c.args.procs.now c.args.place.pid c.args.fd ≡ Some (record { desc = c.clear_number-desc.result; close_on_exec = opened.0.close_on_exec }) =
-    sym c.named_at.ensures ∙ opened.1 ∙ ap (λ key. Some (record { desc = key; close_on_exec = opened.0.close_on_exec })) (sym (c.clear_number-desc.ensures.named opened.0 (sym c.named_at.ensures ∙ opened.1))) in
+    opened.1 ∙ ap (λ key. Some (record { desc = key; close_on_exec = opened.0.close_on_exec })) (sym (c.clear_number-desc.ensures.named opened.0 opened.1)) in
     let held : HeldDescriptor = record { desc = c.clear_number-desc.result; close_on_exec = opened.0.close_on_exec } in
     let at = sym (was_at c.args.heap.now c.clear_number-desc.new.heap c.args.procs.now c.args.place.pid c.args.fd None c.requires.listed c.clear_number-desc.ensures.turns) ∙ is in
     listed_on c.clear_number-desc.new.heap c.drop_desc.new.heap c.args.procs.now (ap (λ (h : Heap). h.procs) c.drop_desc.ensures.kept) (ap (λ (h : Heap). h.leaves) c.drop_desc.ensures.kept)
@@ -91,9 +61,9 @@ returns-clause-listed c =
 
 pub returns-clause-owners : goal.returns-clause-owners
 returns-clause-owners c =
-    let opened = some_of c.named_at.result (ap not c.is_none.ensures ∙ ap (λ b. not (not b)) c.if-is_none.false) in
+    let opened = some_held (named_at c.args.heap.now c.args.procs.now c.args.place.pid c.args.fd) c.requires.is_open in
     let is : named_at c.args.heap.now c.args.procs.now c.args.place.pid c.args.fd ≡ Some (record { desc = c.clear_number-desc.result; close_on_exec = opened.0.close_on_exec }) =
-    sym c.named_at.ensures ∙ opened.1 ∙ ap (λ key. Some (record { desc = key; close_on_exec = opened.0.close_on_exec })) (sym (c.clear_number-desc.ensures.named opened.0 (sym c.named_at.ensures ∙ opened.1))) in
+    opened.1 ∙ ap (λ key. Some (record { desc = key; close_on_exec = opened.0.close_on_exec })) (sym (c.clear_number-desc.ensures.named opened.0 opened.1)) in
     let held : HeldDescriptor = record { desc = c.clear_number-desc.result; close_on_exec = opened.0.close_on_exec } in
     let at = sym (was_at c.args.heap.now c.clear_number-desc.new.heap c.args.procs.now c.args.place.pid c.args.fd None c.requires.listed c.clear_number-desc.ensures.turns) ∙ is in
     c.drop_desc.ensures.owners [] (owners_mid c.args.heap.now c.clear_number-desc.new.heap c.args.procs.now c.args.place.pid c.args.fd held c.requires.listed c.clear_number-desc.ensures.turns at c.requires.owners)
@@ -130,9 +100,9 @@ returns-clause-closes c =
 pub returns-clause-node : goal.returns-clause-node
 returns-clause-node c =
     λ proc found.
-    let opened = some_of c.named_at.result (ap not c.is_none.ensures ∙ ap (λ b. not (not b)) c.if-is_none.false) in
+    let opened = some_held (named_at c.args.heap.now c.args.procs.now c.args.place.pid c.args.fd) c.requires.is_open in
     let is : named_at c.args.heap.now c.args.procs.now c.args.place.pid c.args.fd ≡ Some (record { desc = c.clear_number-desc.result; close_on_exec = opened.0.close_on_exec }) =
-    sym c.named_at.ensures ∙ opened.1 ∙ ap (λ key. Some (record { desc = key; close_on_exec = opened.0.close_on_exec })) (sym (c.clear_number-desc.ensures.named opened.0 (sym c.named_at.ensures ∙ opened.1))) in
+    opened.1 ∙ ap (λ key. Some (record { desc = key; close_on_exec = opened.0.close_on_exec })) (sym (c.clear_number-desc.ensures.named opened.0 opened.1)) in
     let held : HeldDescriptor = record { desc = c.clear_number-desc.result; close_on_exec = opened.0.close_on_exec } in
     let at = sym (was_at c.args.heap.now c.clear_number-desc.new.heap c.args.procs.now c.args.place.pid c.args.fd None c.requires.listed c.clear_number-desc.ensures.turns) ∙ is in
     let desc = desc_between c.args.heap.now c.clear_number-desc.new.heap c.args.procs.now c.args.place.pid c.args.fd held c.requires.listed c.clear_number-desc.ensures.turns at c.requires.owners in
@@ -147,9 +117,9 @@ returns-clause-takes c =
 pub returns-clause-nodes : goal.returns-clause-nodes
 returns-clause-nodes c =
     λ none.
-    let opened = some_of c.named_at.result (ap not c.is_none.ensures ∙ ap (λ b. not (not b)) c.if-is_none.false) in
+    let opened = some_held (named_at c.args.heap.now c.args.procs.now c.args.place.pid c.args.fd) c.requires.is_open in
     let is : named_at c.args.heap.now c.args.procs.now c.args.place.pid c.args.fd ≡ Some (record { desc = c.clear_number-desc.result; close_on_exec = opened.0.close_on_exec }) =
-    sym c.named_at.ensures ∙ opened.1 ∙ ap (λ key. Some (record { desc = key; close_on_exec = opened.0.close_on_exec })) (sym (c.clear_number-desc.ensures.named opened.0 (sym c.named_at.ensures ∙ opened.1))) in
+    opened.1 ∙ ap (λ key. Some (record { desc = key; close_on_exec = opened.0.close_on_exec })) (sym (c.clear_number-desc.ensures.named opened.0 opened.1)) in
     let held : HeldDescriptor = record { desc = c.clear_number-desc.result; close_on_exec = opened.0.close_on_exec } in
     let at = sym (was_at c.args.heap.now c.clear_number-desc.new.heap c.args.procs.now c.args.place.pid c.args.fd None c.requires.listed c.clear_number-desc.ensures.turns) ∙ is in
     let desc = desc_between c.args.heap.now c.clear_number-desc.new.heap c.args.procs.now c.args.place.pid c.args.fd held c.requires.listed c.clear_number-desc.ensures.turns at c.requires.owners in
@@ -158,9 +128,9 @@ returns-clause-nodes c =
 
 pub returns-clause-queues : goal.returns-clause-queues
 returns-clause-queues c =
-    let opened = some_of c.named_at.result (ap not c.is_none.ensures ∙ ap (λ b. not (not b)) c.if-is_none.false) in
+    let opened = some_held (named_at c.args.heap.now c.args.procs.now c.args.place.pid c.args.fd) c.requires.is_open in
     let is : named_at c.args.heap.now c.args.procs.now c.args.place.pid c.args.fd ≡ Some (record { desc = c.clear_number-desc.result; close_on_exec = opened.0.close_on_exec }) =
-    sym c.named_at.ensures ∙ opened.1 ∙ ap (λ key. Some (record { desc = key; close_on_exec = opened.0.close_on_exec })) (sym (c.clear_number-desc.ensures.named opened.0 (sym c.named_at.ensures ∙ opened.1))) in
+    opened.1 ∙ ap (λ key. Some (record { desc = key; close_on_exec = opened.0.close_on_exec })) (sym (c.clear_number-desc.ensures.named opened.0 opened.1)) in
     let held : HeldDescriptor = record { desc = c.clear_number-desc.result; close_on_exec = opened.0.close_on_exec } in
     let at = sym (was_at c.args.heap.now c.clear_number-desc.new.heap c.args.procs.now c.args.place.pid c.args.fd None c.requires.listed c.clear_number-desc.ensures.turns) ∙ is in
     let owners = owners_mid c.args.heap.now c.clear_number-desc.new.heap c.args.procs.now c.args.place.pid c.args.fd held c.requires.listed c.clear_number-desc.ensures.turns at c.requires.owners in

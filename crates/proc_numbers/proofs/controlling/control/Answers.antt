@@ -1,4 +1,4 @@
-use Rattle.std.proofs.Common.{◌≡◌, ◌∙◌, ap, is_some, pos, subst, sym, w64, arith, refl}
+use Rattle.std.proofs.Common.{◌≡◌, ◌∙◌, Some, ap, is_some, pos, subst, sym, w64, arith, refl}
 use Rattle.std.proofs.lemmas.Int.{to_z-of_z}
 use Rattle.kabi_types.specs.Arguments.{count_of}
 use Rattle.kabi_types.specs.declared.errnos.Errno.TheVariants.{EBADF, EINVAL}
@@ -15,7 +15,7 @@ use Rattle.proc_numbers.proofs.NumberCloses.{listed_on, no_some}
 use Rattle.proc_numbers.specs.Answering.{with_flags}
 use Rattle.proc_numbers.proofs.Answered.{answers_as, cloexec_is, fcntl_is, fcntl_unknown, on_nothing, refused}
 use Rattle.proc_numbers.proofs.Changes.{changes_after, changes_nothing}
-use Rattle.proc_numbers.proofs.OpenedBy.{is_counted, is_held, is_none, is_there}
+use Rattle.proc_numbers.proofs.OpenedBy.{is_counted, is_held, is_held_at, is_none, is_there}
 use Rattle.proc_numbers.specs.Found.{held_in}
 use Rattle.kheap_laws.proofs.PaidLemmas.{IsPaid-nothing, IsPaid-refl}
 use Rattle.proc_numbers.proofs.controlling.control.Goals as goal
@@ -70,6 +70,10 @@ returns-in-1-clause-answers c = λ numbers script plain have.
 
 pub returns-in-1-clause-changes : goal.returns-in-1-clause-changes
 returns-in-1-clause-changes c = changes_nothing c.args.heap.now c.args.procs.now c.args.place.pid c.requires.listed (ap is_some c.requires.there)
+
+pub mark_one-requires-clause-names : goal.mark_one-requires-clause-names
+mark_one-requires-clause-names c =
+    is_held_at c.args.heap.now c.args.procs.now c.args.place.pid c.args.on.now c.requires.opened c.in-Some.found c.in-Some.is ∙ ap Some (sym c.descriptor-held.ensures)
 
 pub returns-in-2-clause-answers : goal.returns-in-2-clause-answers
 returns-in-2-clause-answers c = λ numbers script plain have.

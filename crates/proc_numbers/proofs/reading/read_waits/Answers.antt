@@ -3,7 +3,6 @@ use Rattle.std.proofs.lemmas.Bool.{cases_eq}
 use Rattle.std.specs.Int.{cast_unsigned}
 use Rattle.std.proofs.lemmas.Int.{to_z-of_z}
 use Rattle.kabi_types.specs.Arguments.{count_of}
-use Rattle.kabi_types.specs.declared.calls.Call.TheVariants as call
 use Rattle.posix_defs.specs.Machine.{blocks}
 use Rattle.proc_numbers.proofs.EndLemmas.{end_in, open_end}
 use Rattle.proc_numbers.proofs.ReadCall.{asks_with, of_opened, read_asks, read_flows, read_nothing, read_sleeps, read_unmapped, node_flows}

@@ -1,4 +1,4 @@
-use Rattle.std.proofs.Common.{◌≡◌, ◌∙◌, ap, is_some}
+use Rattle.std.proofs.Common.{ap, is_some}
 use Rattle.kabi_types.specs.declared.errnos.Errno.TheVariants.{EBADF}
 use Rattle.open_laws.specs.Described.{counted_in}
 use Rattle.posix_defs.specs.Calls.OnDescriptors.{dup}

@@ -4,7 +4,6 @@ use Rattle.std.specs.Int.{cast_unsigned}
 use Rattle.std.proofs.lemmas.Int.{to_z-of_z}
 use Rattle.chunk_queue.specs.Moving.{would_wait}
 use Rattle.kabi_types.specs.Arguments.{count_of}
-use Rattle.kabi_types.specs.declared.calls.Call.TheVariants as call
 use Rattle.posix_defs.specs.Machine.{blocks}
 use Rattle.proc_numbers.specs.QueueEnds.{write_of}
 use Rattle.proc_numbers.proofs.EndLemmas.{end_in, open_end}

@@ -4,7 +4,7 @@ use Rattle.kabi_types.specs.declared.calls.Call.TheVariants as call
 use Rattle.posix_defs.specs.Calls.Polling.{poll}
 use Rattle.proc_numbers.specs.Standing.{Leads}
 use Rattle.store_objects.specs.Standing.{Performs}
-use Rattle.queue_calls.proofs.Queueing.{is_kept, leaves_rest, runs_alive}
+use Rattle.queue_calls.proofs.Queueing.{is_kept, leaves_rest}
 use Rattle.queue_calls.proofs.Remaining.{poll_leaves}
 use Rattle.queue_calls.proofs.Telling.{follows_done, performs}
 use Rattle.queue_calls.proofs.polling.poll.Goals as goal

@@ -2,7 +2,6 @@ use Rattle.std.proofs.Common.{◌≡◌, ◌∙◌, subst, sym, w64}
 use Rattle.std.proofs.lemmas.Int.{to_z-of_z}
 use Rattle.posix_defs.specs.Calls.Polling.{poll}
 use Rattle.posix_defs.specs.Machine.{blocks}
-use Rattle.store_objects.proofs.RunningProcs.{alive_runs}
 use Rattle.queue_calls.proofs.Blocking.{poll_alike}
 use Rattle.queue_calls.proofs.Queueing.{is_kept}
 use Rattle.queue_calls.proofs.polling.poll_would_block.Goals as goal

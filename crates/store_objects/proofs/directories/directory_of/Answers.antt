@@ -1,4 +1,4 @@
-use Rattle.std.proofs.Common.{ap, sym}
+use Rattle.std.proofs.Common.{ap}
 use Rattle.kheap_slabs.specs.declared.objects.Proc.{Proc}
 use Rattle.proc_table.proofs.PlaceLemmas.{some_same}
 use Rattle.proc_table.specs.Procs.{proc_of}

@@ -1,11 +1,9 @@
-use Rattle.std.proofs.Common.{◌∙◌, ap, is_some, sym}
+use Rattle.std.proofs.Common.{◌∙◌, ap, sym}
 use Rattle.kheap_laws.proofs.PaidLemmas.{TakesNothing-trans}
-use Rattle.proc_table.specs.Procs.{proc_of}
 use Rattle.store_objects.specs.Trees.{pins_in}
 use Rattle.store_objects.specs.Working.{entered_pins}
 use Rattle.store_objects.proofs.Callers.{placed_on}
 use Rattle.store_objects.proofs.Moving.{is_held, it_was, kept_mid, root_held, root_stays_held, runs_new, stands_moved, works_then}
-use Rattle.store_objects.proofs.Pinning.{pinned_procs}
 use Rattle.store_objects.proofs.directories.work_in.Goals as goal
 
 pub directory_of-left-requires-clause-stored : goal.directory_of-left-requires-clause-stored

@@ -1,4 +1,4 @@
-use Rattle.std.proofs.Common.{◌≡◌, ◌∙◌, ap, false, sym, true}
+use Rattle.std.proofs.Common.{◌∙◌, ap, false, sym, true}
 use Rattle.std.specs.Option.{option_map}
 use Rattle.posix_defs.specs.Calls.Opened.{if_writable}
 use Rattle.proc_numbers.specs.Found.{opened_in}

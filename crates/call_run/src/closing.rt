@@ -1,4 +1,4 @@
-//! The calls with which descriptions go: `close` and `dup2`.
+//! The calls with which descriptions go, whatever these are open on: `close` and `dup2`.
 
 ghost use Rattle.std.specs.Prelude.{◌<◌, ◌≤◌, ◌+◌};
 ghost use Rattle.kabi_types.specs.declared.calls.Call.{Call};
@@ -16,12 +16,12 @@ ghost use Rattle.store_objects.specs.Standing.{IsSound, StandsFor};
 ghost use Rattle.store_objects.specs.Uses.{UsesAtMost};
 ghost use Rattle.store_objects.specs.Walking.{Serves};
 
-use crate::replies::{value, zero};
 use kabi_types::Script;
 use kheap_slabs::Purse;
 use posix_defs::Turned;
 use proc_files::{close_number, dup_number};
 use proc_numbers::Named;
+use store_objects::told::{value, zero};
 use store_objects::{Caller, Objects, go_on, kept_back};
 
 /// Closes a number; with the last that names it a description goes, and what it was open on. A file without links goes with the last

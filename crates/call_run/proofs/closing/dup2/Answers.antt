@@ -1,4 +1,4 @@
-use Rattle.std.proofs.Common.{◌≡◌, None, arith, of_z, refl, subst, sym, to_z, w64}
+use Rattle.std.proofs.Common.{◌≡◌, None, arith, refl, subst, sym, w64}
 use Rattle.std.proofs.lemmas.Int.{to_z-of_z}
 use Rattle.kabi_types.specs.declared.calls.Call.TheVariants as call
 use Rattle.posix_defs.specs.Calls.OnDescriptors.{dup2}
@@ -20,7 +20,7 @@ use Rattle.store_objects.proofs.Within.{within_turns}
 use Rattle.file_calls.proofs.CallingOpens.{holds_some_names, kept_mid, mid, runs_mid, serves_naming}
 use Rattle.file_calls.proofs.Purses.{can_pay, may_close, uses_back, room_kept}
 use Rattle.file_calls.proofs.Reached.{leaves_numbers, second_off, stays_replaced}
-use Rattle.file_calls.proofs.closing.dup2.Goals as goal
+use Rattle.call_run.proofs.closing.dup2.Goals as goal
 
 pub dup_number-made-requires-clause-listed : goal.dup_number-made-requires-clause-listed
 dup_number-made-requires-clause-listed c = listed_in c.args.script.now c.args.objects.now c.requires.stands.1.kept

@@ -10,7 +10,7 @@ use Rattle.store_objects.proofs.Within.{within_same}
 use Rattle.file_calls.proofs.CallingOpens.{holds_some_names, kept_mid, mid, runs_mid, serves_naming}
 use Rattle.file_calls.proofs.Purses.{can_pay, may_close, uses_back}
 use Rattle.file_calls.proofs.Reached.{closed_off, first_off, leaves_numbers}
-use Rattle.file_calls.proofs.closing.close.Goals as goal
+use Rattle.call_run.proofs.closing.close.Goals as goal
 
 pub close_number-closed-requires-clause-listed : goal.close_number-closed-requires-clause-listed
 close_number-closed-requires-clause-listed c = listed_in c.args.script.now c.args.objects.now c.requires.stands.1.kept
