@@ -58,7 +58,7 @@ at place = record { program = 0; place = place; regs = replicate 16 (pos 0); don
 
 -- the child, that runs or has ended
 abbrev child : process.Status → Option process.Process
-child status = Some (record { parent = 1; directory = root; status = status; memory = no_memory })
+child status = Some (record { parent = 1; directory = root; status = status; memory = no_memory; ignores = process.ignores_both })
 
 -- the processes that are there
 abbrev pub table_of : Scene → process.Table
