@@ -105,7 +105,7 @@ write_ends_so script plain pid fd addr n done status next is = right (argument_f
     ended ends e = let by = ends_by script plain pid fd addr n done ends in record {
       nothing_moved = zero_is done by.1;
       heeded = by.0;
-      status = (let f = e in cc);
+      signal = (let f = e in cc);
       ended = (let f = e in cc);
     }
 
