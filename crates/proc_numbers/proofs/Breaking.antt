@@ -106,30 +106,29 @@ module _ (script : Script) (numbers : Numbers) (plain : Plain) (pid : ℕ) (fd a
         all true = refl
         all false = refl
 
+-- this is told of whether anybody reads what is put in an end
+abbrev pub TellsUnread : Heap → Bool → QueueEnd → Type 0
+TellsUnread h b which = (behind : Behind which) → StandsBehind h which behind → b ≡ is_unread_behind which behind
+
 -- what the heap tells of who reads is so in the machine
 pub unread_so : (numbers : Numbers) (h : Heap) (kept : TableView) (plain : Plain) (account : Account) (on : QueueEnd) (what : Target) → StandsFor numbers h kept plain account → HasItsOwners h []
-    → IsOpenEnd h on → end_of what ≡ Some on → (b : Bool) → ((behind : Behind on) → StandsBehind h on behind → b ≡ is_unread_behind on behind) → b ≡ is_unread plain.files (target_in numbers what)
+    → IsOpenEnd h on → end_of what ≡ Some on → (b : Bool) → TellsUnread h b on → b ≡ is_unread plain.files (target_in numbers what)
 unread_so numbers h kept plain account on what stands owners is_open is_end b tells = by_target what is_end
   where
-    pipe : (key : ℕ) → IsOpenEnd h (queue.Pipe key) → ((behind : Behind (queue.Pipe key)) → StandsBehind h (queue.Pipe key) behind → b ≡ is_unread_behind (queue.Pipe key) behind)
-        → b ≡ is_unread plain.files (target_in numbers (target.Pipe key))
+    pipe : (key : ℕ) → IsOpenEnd h (queue.Pipe key) → TellsUnread h b (queue.Pipe key) → b ≡ is_unread plain.files (target_in numbers (target.Pipe key))
     pipe key it so =
         let behind : Pipe × ℕ = (it.0, it.1) in
         so behind it.2 ∙ ap (λ (p : Pipe). p.readers == 0) (sym (pipe_there numbers h kept plain.files key it.0 it.1 stands.opened it.2))
 
-    sock : (key : ℕ) → IsOpenEnd h (queue.Sock key) → ((behind : Behind (queue.Sock key)) → StandsBehind h (queue.Sock key) behind → b ≡ is_unread_behind (queue.Sock key) behind)
-        → b ≡ is_unread plain.files (target_in numbers (target.Sock key))
+    sock : (key : ℕ) → IsOpenEnd h (queue.Sock key) → TellsUnread h b (queue.Sock key) → b ≡ is_unread plain.files (target_in numbers (target.Sock key))
     sock key it so =
         let keyed = stands.opened.opened.socketed in
         so keyed.keyed keyed.stands
         ∙ sym (unread_told numbers.socks keyed.keyed plain.files.sockets key keyed.stands.linked keyed.renamed (keyed_there h [] key owners it keyed.keyed keyed.stands))
 
-    abbrev Told : QueueEnd → Type 0
-    Told which = (behind : Behind which) → StandsBehind h which behind → b ≡ is_unread_behind which behind
-
     by_target : (what : Target) → end_of what ≡ Some on → b ≡ is_unread plain.files (target_in numbers what)
     by_target (target.Inode number) e = cc
     by_target (target.Pipe key) e =
-        pipe key (subst (IsOpenEnd h) (sym (same_end (queue.Pipe key) on e)) is_open) (subst Told (sym (same_end (queue.Pipe key) on e)) tells)
+        pipe key (subst (IsOpenEnd h) (sym (same_end (queue.Pipe key) on e)) is_open) (subst (TellsUnread h b) (sym (same_end (queue.Pipe key) on e)) tells)
     by_target (target.Sock key) e =
-        sock key (subst (IsOpenEnd h) (sym (same_end (queue.Sock key) on e)) is_open) (subst Told (sym (same_end (queue.Sock key) on e)) tells)
+        sock key (subst (IsOpenEnd h) (sym (same_end (queue.Sock key) on e)) is_open) (subst (TellsUnread h b) (sym (same_end (queue.Sock key) on e)) tells)
