@@ -23,7 +23,7 @@ import random_scripts
 from copies import TOP, copy_to, files_below, places
 from report import AT_BOOT, KEPT_BACK
 
-CLOSE = ("close", "dup2", "exec", "exit", "kill")  # these may use what is kept back
+CLOSE = ("close", "dup2", "exec", "exit", "kill", "write")  # these may use what is kept back
 KILLED = "a kill for want of heap"  # no call, and it may use what is kept back
 TURNS = ("done", "part", "sleep", "ended")
 RANDOM = range(1, 1001)

@@ -143,6 +143,10 @@ class Follower:
         self.ways = ways[:MOST_WAYS]
         return bool(ways)
 
+    def may_make(self, name):
+        """Whether on some way a call of this name is the next."""
+        return any(way.copy().next_call()[0] == name for way in self.ways)
+
     def answer(self, reply):
         for way in self.ways:
             way.answered(*values_of(reply))

@@ -13,7 +13,8 @@ CONSTANTS = {
     "WHENCE": {"SEEK_SET": 0, "SEEK_CUR": 1, "SEEK_END": 2},
     "COMMAND": {"F_DUPFD": 0, "F_GETFD": 1, "F_SETFD": 2, "F_GETFL": 3, "F_SETFL": 4, "FD_CLOEXEC": 1},
     "OPTIONS": {"WNOHANG": 1},
-    "SIGNAL": {"SIGKILL": 9},
+    "SIGNAL": {"SIGKILL": 9, "SIGPIPE": 13, "SIGTERM": 15},
+    "DISPOSITION": {"SIG_DFL": 0, "SIG_IGN": 1},
     "HOW": {"SHUT_RD": 0, "SHUT_WR": 1, "SHUT_RDWR": 2},
     "EVENTS": {"POLLIN": 1, "POLLOUT": 4, "POLLERR": 8, "POLLHUP": 16, "POLLNVAL": 32},
 }
@@ -26,6 +27,7 @@ CALLS = {name: operands.split() for operands, names in {
     "FD": "close dup fstat listen accept",
     "PID OPTIONS": "waitpid",
     "PID SIGNAL": "kill",
+    "SIGNAL DISPOSITION": "signal",
     "ADDRESS LENGTH": "munmap",
     "ADDRESS COUNT": "load",
     "FD NEW": "dup2",

@@ -70,7 +70,8 @@ class Program:
         return {
             "exit": lambda: str(rng.choice([0, 1, 3, 256])),
             "waitpid": lambda: f"{rng.choice([self.some(['child'], -2, 5), '-1'])} {rng.choice(['0', '0', 'WNOHANG', '2'])}",
-            "kill": lambda: f"{self.some(['child'], -1, 6)} {rng.choice(['SIGKILL', 'SIGKILL', '0', '15'])}",
+            "kill": lambda: f"{self.some(['child'], -1, 6)} {rng.choice(['SIGKILL', 'SIGKILL', 'SIGTERM', 'SIGPIPE', '0', '14'])}",
+            "signal": lambda: f"{rng.choice(['SIGPIPE', 'SIGPIPE', 'SIGTERM', '9'])} {rng.choice(['SIG_DFL', 'SIG_DFL', 'SIG_IGN', '2'])}",
             "mmap": lambda: rng.choice([self.length(), self.length(), "100000", "1044480", "1048577"]),
             "munmap": lambda: f"{self.address()} {self.length()}",
             "store": lambda: f"{self.address()} {self.text()}",

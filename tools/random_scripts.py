@@ -15,7 +15,7 @@ import sys
 import random_programs
 import random_sleepers
 
-PROCESSES = "getpid getppid sched_yield fork waitpid kill exit".split()
+PROCESSES = "getpid getppid sched_yield fork waitpid kill signal exit".split()
 FAMILIES = {
     "memory": "mmap munmap store load".split(),
     "pipes": "pipe close dup dup2 fcntl fstat read write poll pread pwrite lseek readdir ftruncate".split(),

@@ -13,6 +13,7 @@ from controls import Follower
 
 KEPT_BACK = 2176  # bytes that closing and ending may always use
 AT_BOOT = 2816  # what is charged at boot: that reserve, the first process and the root's inode
+BROKEN_PIPE = "signal 13"  # what ends who writes where nobody reads
 
 # An event's line is its number, one of these, and, but for `threads`, what is charged after it.
 SHAPES = (
@@ -203,10 +204,16 @@ class Run:
     def begin(self, event, process):
         """Where threads ran it, a call is first spoken of where it is over, sleeps or has done a part."""
         if process.open_call() is None:
-            # Only an exit says nothing but that its process ends; a kill of oneself ends it by the signal.
-            name = event.call or ("exit" if event.reply.startswith("exit") else "kill")
+            name = event.call or self.ending_call(event, process)
             process.calls.append(Call(process.pid, name, None, event.number))
             self.follow(event, process, name)
+
+    def ending_call(self, event, process):
+        """The call that ended its process, which no report names: an exit says so, a kill of oneself and a write end it by a signal."""
+        if event.reply.startswith("exit"):
+            return "exit"
+        writes = event.reply == BROKEN_PIPE and (process.follower is None or process.follower.may_make("write"))
+        return "write" if writes else "kill"
 
     def take_gone(self, event, process):
         """The process had been ended when its call's turn came."""

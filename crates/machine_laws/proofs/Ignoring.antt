@@ -105,7 +105,7 @@ write_ends_so script plain pid fd addr n done status next is = right (argument_f
     ended ends e = let by = ends_by script plain pid fd addr n done ends in record {
       nothing_moved = zero_is done by.1;
       heeded = by.0;
-      status = (let f = e in cc);
+      signal = (let f = e in cc);
       ended = (let f = e in cc);
     }
 
@@ -223,7 +223,7 @@ left_all : (table : Table) (pid status : ℕ) → AllIn table → AllIn (leaves 
 left_all table pid status all = changed (map (left_behind pid) table) pid (ended_as status (process_at table pid)) (ends status (process_at table pid) ∙ all pid)
     (λ who. ap ignores_in (each_changed (left_behind pid) table who refl) ∙ left pid (process_at table who) (all who))
 
-die_all : (table : Table) (pid status : ℕ) → AllIn table → AllIn (die_in table pid status)
+pub die_all : (table : Table) (pid status : ℕ) → AllIn table → AllIn (die_in table pid status)
 die_all table zero status all = left_all table zero status all
 die_all table (suc zero) status all = λ who. ap ignores_in (each_changed (λ _. None) table who refl)
 die_all table (suc (suc n)) status all = left_all table (suc (suc n)) status all

@@ -53,5 +53,5 @@ machine_before script plain pid call = unless_wrong script plain pid (argument_f
 pub record EndsByPipe (plain : Plain) (pid done status : ℕ) (next : Plain) : Type 0 where
   pub nothing_moved : done ≡ 0
   pub heeded : (ignores_of plain.table pid).broken_pipe ≡ false
-  pub status : status ≡ sigpipe
+  pub signal : status ≡ sigpipe
   pub ended : next ≡ die plain pid sigpipe

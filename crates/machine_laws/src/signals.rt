@@ -5,9 +5,12 @@ ghost use Rattle.kabi_types.specs.Arguments.{count_of};
 ghost use Rattle.kabi_types.specs.declared.calls.Call.{Call};
 ghost use Rattle.kabi_types.specs.declared.calls.Call.TheVariants.{Kill, Signal, Write};
 ghost use Rattle.kabi_types.specs.declared.scripts.Script.{Script};
+ghost use Rattle.kabi_types.specs.declared.errnos.Errno.TheVariants.{ENOMEM};
+ghost use Rattle.kabi_types.specs.declared.replies.Reply.TheVariants.{Fail};
 ghost use Rattle.posix_defs.specs.Answer.{Ended};
+ghost use Rattle.posix_defs.specs.Ending.{die};
 ghost use Rattle.posix_defs.specs.Machine.{machine};
-ghost use Rattle.posix_defs.specs.Plain.{Plain, boot_plain};
+ghost use Rattle.posix_defs.specs.Plain.{Plain, answered, boot_plain};
 ghost use Rattle.posix_defs.specs.Process.{ignores_of, is_alive};
 ghost use Rattle.posix_defs.specs.Signals.{is_ignored};
 ghost use Rattle.machine_laws.specs.FileSteps.{LeadsTo};
@@ -40,6 +43,8 @@ pub fn without_signal_all_is_as_before()
     ensures boot { (script : Script) → AllIgnore (boot_plain script) }
     ensures stays { (script : Script) (plain : Plain) (pid : ℕ) (call : Call) → AllIgnore plain → ((which disposition : ℤ) → call ≢ Signal which disposition)
         → LeadsTo AllIgnore (machine script plain pid call) }
+    ensures refused { (script : Script) (plain : Plain) (pid : ℕ) → AllIgnore plain → AllIgnore (answered script plain pid (Fail ENOMEM)) }
+    ensures killed { (plain : Plain) (pid status : ℕ) → AllIgnore plain → AllIgnore (die plain pid status) }
     ensures same { (script : Script) (plain : Plain) (pid : ℕ) (call : Call) → AllIgnore plain → minds_no_signal call ≡ true
         → machine script plain pid call ≡ machine_before script plain pid call }
 {}
