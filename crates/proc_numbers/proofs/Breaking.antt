@@ -38,13 +38,14 @@ module _ (script : Script) (numbers : Numbers) (plain : Plain) (pid : ℕ) (fd a
       → o ≡ None → false ≡ is_broken plain pid addr n (opened_at plain.files pid fd)
   unwritten_whole o asks none = go (opened_at plain.files pid fd) (asks ∙ ap (λ r. answer_on script plain pid (λ opened. Blocked) (option_map (opened_in numbers) r)) none)
     where
-      by_access : (b : Bool) (rest : Bool) → cond b Blocked (failed script plain pid EBADF) ≡ failed script plain pid EBADF → false ≡ (b && rest)
-      by_access true rest e = cc
-      by_access false rest e = refl
+      by_access : (b mapped some unread : Bool) → cond b Blocked (failed script plain pid EBADF) ≡ failed script plain pid EBADF → false ≡ (b && mapped && some && unread)
+      by_access true mapped some unread e = cc
+      by_access false mapped some unread e = refl
 
       go : (o : Option Opened) → answer_on script plain pid (λ opened. if_writable script plain pid opened Blocked) o ≡ failed script plain pid EBADF → false ≡ is_broken plain pid addr n o
       go None e = refl
-      go (Some opened) e = by_access (may_write opened.is.access) (is_mapped_range (memory_of plain.table pid) (count_of addr) (count_of n) && not (count_of n == 0) && is_unread plain.files opened.is.target) e
+      go (Some opened) e =
+          by_access (may_write opened.is.access) (is_mapped_range (memory_of plain.table pid) (count_of addr) (count_of n)) (not (count_of n == 0)) (is_unread plain.files opened.is.target) e
 
   -- what was found may be written
   pub may_be_written : (found : Found) → opened_at plain.files pid fd ≡ Some (opened_in numbers found) → (o : Option Found)
