@@ -13,6 +13,8 @@ mod crew;
 #[cfg(test)]
 mod desk;
 #[cfg(test)]
+mod groups;
+#[cfg(test)]
 mod one_pid;
 #[cfg(test)]
 mod one_thread;
