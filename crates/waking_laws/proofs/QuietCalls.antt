@@ -1,37 +1,35 @@
 -- The calls that change nothing which another process's call may wait for.
-use Rattle.std.proofs.Common.{◌≡◌, ◌≢◌, ℕ, ◌+◌, ◌/◌, ◌≤◌, ◌==◌, ◌&&◌, ◌++◌, [], ◌∷◌, nat_lt, ℤ, pos, negsuc, ◌+ℤ◌, Bool, true, false, cond, List, length, Option, None, Some, Result, Ok, Err, refl, ap, sym, subst, ◌∙◌}
+use Rattle.std.proofs.Common.{◌≡◌, ◌≢◌, ℕ, ◌+◌, ◌/◌, ◌≤◌, ◌==◌, ◌&&◌, ◌++◌, [], ◌∷◌, nat_lt, ℤ, pos, negsuc, ◌+ℤ◌, Bool, true, false, cond, List, length, Option, None, Some, Result, Ok, Err, refl}
 use Rattle.kabi_types.specs.Arguments.{argument_fault, count_of, is_minus_one, page_size}
 use Rattle.kabi_types.specs.declared.calls.Call.{Call}
 use Rattle.kabi_types.specs.declared.calls.Call.TheVariants as call
 use Rattle.kabi_types.specs.declared.errnos.Errno.{Errno}
-use Rattle.kabi_types.specs.declared.replies.Reply.{Reply}
 use Rattle.kabi_types.specs.declared.replies.StatInfo.{StatInfo}
 use Rattle.kabi_types.specs.declared.short_lists.PollEntry.{PollEntry}
 use Rattle.kabi_types.specs.declared.scripts.Script.{Script}
 use Rattle.machine_laws.specs.FileSteps.{LeadsTo}
 use Rattle.machine_laws.proofs.Places.{naming}
-use Rattle.posix_defs.specs.Answer.{Answer, failed, replied}
+use Rattle.posix_defs.specs.Answer.{Answer}
 use Rattle.posix_defs.specs.Calls.OnDescriptors.{dup, duplicated, shared_at}
 use Rattle.posix_defs.specs.Calls.OnFiles.{description_for, fstat, ftruncate, greatest_offset, is_between_entries, lseek, open_at, open_file, opened_node_as, opening_of, origin, resized_to, seek_target, seek_to, truncate_target}
 use Rattle.posix_defs.specs.Calls.OnNames.{chdir, freed_in, is_busy, link, made_directory, mkdir, rename, renamed, retreed, rmdir, stat, told_of, unlink, works_from}
 use Rattle.posix_defs.specs.Calls.OnPipes.{pipe, piped, piped_under}
-use Rattle.posix_defs.specs.Calls.OnSockets.{bind, bind_at, description_of, bound_to, on_socket, socket, socket_target, socketed, socketed_under, unless_fault}
-use Rattle.posix_defs.specs.Calls.Opened.{Opened, answer_on, if_readable, if_writable, moved_to, on_open, opened_at}
+use Rattle.posix_defs.specs.Calls.OnSockets.{bind, bind_at, description_of, bound_to, socket, socket_target, socketed, socketed_under, unless_fault}
+use Rattle.posix_defs.specs.Calls.Opened.{Opened, answer_on, on_open, opened_at}
 use Rattle.posix_defs.specs.Calls.Polling.{hits_of, poll, revents_of}
-use Rattle.posix_defs.specs.Calls.Reading.{list_directory, list_target, of_bytes, pread, pread_target, readdir}
+use Rattle.posix_defs.specs.Calls.Reading.{list_target, of_bytes, pread, pread_target, readdir}
 use Rattle.posix_defs.specs.Calls.Writing.{bytes_left, pwrite, pwrite_target, wrote_at}
 use Rattle.posix_defs.specs.Files.Descriptors.{Two, lowest_free, two_lowest_free}
 use Rattle.posix_defs.specs.Files.Descriptions.{Description, Target, OnNode, OnPipe, OnSocket, ReadOnly, WriteOnly, at_offset, has_flag, may_read, may_write, new_description, o_cloexec}
-use Rattle.posix_defs.specs.Files.SocketNames.{after_freeing}
 use Rattle.posix_defs.specs.Files.State.{Files, described_as, descriptors_of, opened_as, opens, with_heir, with_pipes, with_sockets, with_tree}
-use Rattle.posix_defs.specs.Forking.{child_of, fork, is_full, with_child}
+use Rattle.posix_defs.specs.Forking.{fork, is_full}
 use Rattle.posix_defs.specs.Machine.{answer_to, machine, unless_wrong}
 use Rattle.posix_defs.specs.Memory.{Memory, is_mapped_range, lowest_run, stored, with_pages, without_pages}
-use Rattle.posix_defs.specs.MemoryCalls.{in_range, mapped_from, mmap, munmap, remembered}
+use Rattle.posix_defs.specs.MemoryCalls.{in_range, mapped_from, mmap}
 use Rattle.posix_defs.specs.Needs.{pages_in, pages_touched}
 use Rattle.posix_defs.specs.PathCalls.{bind_path, enter_path, link_path, list_node, read_node, mkdir_path, open_path, rename_path, rmdir_path, stat_path, unlink_path}
 use Rattle.posix_defs.specs.Pipe.{new_pipe}
-use Rattle.posix_defs.specs.Plain.{Plain, answered, with_files, with_table}
+use Rattle.posix_defs.specs.Plain.{Plain}
 use Rattle.posix_defs.specs.Process.{Ignores, Process, directory_of, ignoring, memory_of, process_at, remembering, with_memory, working_in}
 use Rattle.posix_defs.specs.Socket.{bind_fault}
 use Rattle.posix_defs.specs.Sockets.{socket_at, with_name, with_new}
