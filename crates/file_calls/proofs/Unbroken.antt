@@ -6,13 +6,16 @@ use Rattle.kabi_types.specs.declared.scripts.Script.{Script}
 use Rattle.kheap_slabs.specs.Heap.{Heap}
 use Rattle.kheap_slabs.specs.declared.objects.Target.{Target}
 use Rattle.kheap_slabs.specs.declared.objects.Target.TheVariants as target
-use Rattle.open_laws.specs.Described.{node_in, target_in}
+use Rattle.kabi_types.specs.Arguments.{count_of}
+use Rattle.open_laws.specs.Described.{access_in, node_in, target_in}
 use Rattle.open_laws.specs.Placed.{Numbers}
 use Rattle.posix_defs.proofs.SignalLemmas.{write_goes_on}
 use Rattle.posix_defs.specs.Calls.Opened.{opened_at}
 use Rattle.posix_defs.specs.Calls.Writing.{is_broken, is_unread, write, write_ends, write_ignoring}
 use Rattle.posix_defs.specs.Plain.{Plain}
-use Rattle.posix_defs.specs.Process.{ignores_of}
+use Rattle.posix_defs.specs.Files.Descriptions.{may_write}
+use Rattle.posix_defs.specs.Memory.{is_mapped_range}
+use Rattle.posix_defs.specs.Process.{ignores_of, memory_of}
 use Rattle.posix_defs.specs.World.{World}
 use Rattle.posix_defs.specs.declared.turner.Turned.{Turned}
 use Rattle.proc_numbers.specs.Found.{IsOnNode, IsOpened, held_in, opened_in}
@@ -45,7 +48,8 @@ module _ (h : Heap) (kept : TableView) (pid : ℕ) (on : Named) (opened : IsOpen
       by_found : (o : Option Found) → on.found ≡ o → is_broken plain pid addr n (option_map (opened_in numbers) o) ≡ false
       by_found None is = refl
       by_found (Some found) is =
-          never _ _ _ _ (node_is_read numbers plain found.desc.target (node (held_in found) found.desc (is_held h kept pid on opened found is) (is_there h kept pid on opened found is)))
+          never (may_write (access_in found.desc.access)) (is_mapped_range (memory_of plain.table pid) (count_of addr) (count_of n)) (not (count_of n == 0))
+          (is_unread plain.files (target_in numbers found.desc.target)) (node_is_read numbers plain found.desc.target (node (held_in found) found.desc (is_held h kept pid on opened found is) (is_there h kept pid on opened found is)))
 
   pub never_ends : (done : ℕ) → write_ends plain pid on.fd addr n done ≡ false
   never_ends done = ap (λ b. not (ignores_of plain.table pid).broken_pipe && (done == 0) && b) whole ∙ none (not (ignores_of plain.table pid).broken_pipe) (done == 0)

@@ -44,7 +44,7 @@ module _ (script : Script) (numbers : Numbers) (plain : Plain) (pid : ℕ) (fd a
 
       go : (o : Option Opened) → answer_on script plain pid (λ opened. if_writable script plain pid opened Blocked) o ≡ failed script plain pid EBADF → false ≡ is_broken plain pid addr n o
       go None e = refl
-      go (Some opened) e = by_access (may_write opened.is.access) _ e
+      go (Some opened) e = by_access (may_write opened.is.access) (is_mapped_range (memory_of plain.table pid) (count_of addr) (count_of n) && not (count_of n == 0) && is_unread plain.files opened.is.target) e
 
   -- what was found may be written
   pub may_be_written : (found : Found) → opened_at plain.files pid fd ≡ Some (opened_in numbers found) → (o : Option Found)
