@@ -1,0 +1,5 @@
+pub mod Places
+pub mod Meaning
+pub mod Shape
+pub mod Unique
+pub mod Conflicts
