@@ -1,12 +1,14 @@
 -- A range that is in the way, and a place that two can't hold.
-use Rattle.std.proofs.Common.{◌≡◌, ℕ, ◌+◌, ◌<◌, ◌≤◌, max, Bool, true, false, ◌&&◌, cond, leb, List, [], ◌∷◌, Option, None, Some, IsSome, is_some, refl, ap, sym, ◌∙◌, subst, inl, inr, ◌⊎◌, arith}
+use Rattle.std.proofs.Common.{◌≡◌, ℕ, ◌+◌, ◌<◌, ◌≤◌, max, Bool, true, false, ◌&&◌, cond, leb, suc, get_or, drop, length, List, [], ◌∷◌, Option, None, Some, IsSome, is_some, refl, ap, sym, ◌∙◌, subst, inl, inr, ◌⊎◌, arith}
 use Rattle.std.specs.List.{AllByRecursion}
+use Rattle.std.proofs.Math.Seq.{drop-cons}
 use Rattle.std.proofs.lemmas.Bool.{and_from, and_parts, cases_Bool, leb-true, le-leb}
 use Rattle.lock_ranges.specs.declared.range.Kind.{Kind}
+use Rattle.lock_ranges.specs.declared.range.Kind.TheVariants.{Shared, Exclusive}
 use Rattle.lock_ranges.specs.declared.range.Range.{Range}
-use Rattle.lock_ranges.specs.Ranges.{IsCanonical, clashes, conflicts, covers, first_conflict, kind_at}
+use Rattle.lock_ranges.specs.Ranges.{AreApart, IsCanonical, clashes, conflicts, covers, first_conflict, greatest, kind_at, set}
 use Rattle.lock_ranges.proofs.Places.{cases_covers, covers-inside, kind_here, kind_later}
-use Rattle.lock_ranges.proofs.Shape.{BeginBehind, later_behind}
+use Rattle.lock_ranges.proofs.Shape.{BeginBehind, kind_at-set, later_behind}
 use Rattle.lock_ranges.proofs.Unique.{none_up_to}
 
 -- a place of what is asked for that is held so that both can't be
@@ -112,3 +114,53 @@ first_is_least (range ∷ ranges) asked first canonical found = elim (cases_Bool
     first_is_least ranges asked first canonical.3 (sym (conflict_later range ranges asked free) ∙ found),
   )
 ]
+
+-- the one that is found among those from an index on
+pub found_first : (ranges : List Range) (asked : Range) (index : ℕ) (none : Range) → index < length ranges → first_conflict (drop index ranges) asked ≡ first_conflict ranges asked
+    → conflicts (get_or ranges index none) asked ≡ true → first_conflict ranges asked ≡ Some (get_or ranges index none)
+found_first ranges asked index none within rest conflict =
+    sym rest ∙ ap (λ (l : List Range). first_conflict l asked) (drop-cons ranges index none within)
+    ∙ conflict_here (get_or ranges index none) (drop (suc index) ranges) asked conflict
+
+-- ---- holders that stay apart
+
+clash_swapped : (kind other : Option Kind) → clashes kind other ≡ clashes other kind
+clash_swapped None None = refl
+clash_swapped None (Some other) = refl
+clash_swapped (Some kind) None = refl
+clash_swapped (Some Shared) (Some Shared) = refl
+clash_swapped (Some Shared) (Some Exclusive) = refl
+clash_swapped (Some Exclusive) (Some Shared) = refl
+clash_swapped (Some Exclusive) (Some Exclusive) = refl
+
+pub apart_both : (ranges others : List Range) → AreApart ranges others → AreApart others ranges
+apart_both ranges others apart place = clash_swapped (kind_at others place) (kind_at ranges place) ∙ apart place
+
+-- where each place has a kind that was there before, or one that is free
+apart_chosen : (inside : Bool) (kind was other : Option Kind) → (inside ≡ true → clashes kind other ≡ false) → clashes was other ≡ false → clashes (cond inside kind was) other ≡ false
+apart_chosen true kind was other free apart = free refl
+apart_chosen false kind was other free apart = apart
+
+apart_set : (ranges others : List Range) (kind : Option Kind) (start last : ℕ) → IsCanonical ranges → start ≤ last → last ≤ greatest
+    → ((place : ℕ) → covers start last place ≡ true → clashes kind (kind_at others place) ≡ false)
+    → AreApart ranges others → AreApart (set ranges kind start last) others
+apart_set ranges others kind start last canonical order within free apart place =
+    ap (λ k. clashes k (kind_at others place)) (kind_at-set ranges kind start last place canonical order within)
+    ∙ apart_chosen (covers start last place) kind (kind_at ranges place) (kind_at others place) (free place) (apart place)
+
+pub apart_held : (ranges others : List Range) (asked : Range) → IsCanonical ranges → asked.start ≤ asked.last → asked.last ≤ greatest
+    → AreApart ranges others → first_conflict others asked ≡ None → AreApart (set ranges (Some asked.kind) asked.start asked.last) others
+apart_held ranges others asked canonical order within apart none =
+    apart_set ranges others (Some asked.kind) asked.start asked.last canonical order within (λ place inside.
+    elim (cases_Bool (clashes (kind_at others place) (Some asked.kind))) [
+      | inl clash ↦
+          let some : IsSome (first_conflict others asked) = conflict_at_place others asked place (inside, clash) in
+          let wrong : false ≡ true = sym (ap (λ (o : Option Range). is_some o) none) ∙ some in
+          cc
+      | inr free ↦ clash_swapped (Some asked.kind) (kind_at others place) ∙ free
+    ]) apart
+
+pub apart_let_go : (ranges others : List Range) (start last : ℕ) → IsCanonical ranges → start ≤ last → last ≤ greatest
+    → AreApart ranges others → AreApart (set ranges None start last) others
+apart_let_go ranges others start last canonical order within apart =
+    apart_set ranges others None start last canonical order within (λ place inside. refl) apart

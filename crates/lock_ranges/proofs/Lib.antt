@@ -1,4 +1,5 @@
 pub mod Places
+pub mod Joining
 pub mod Meaning
 pub mod Shape
 pub mod Unique

@@ -96,3 +96,7 @@ conflicts range asked = (nat_le range.start asked.last && nat_le asked.start ran
 abbrev pub first_conflict : List Range → Range → Option Range
 first_conflict [] asked = None
 first_conflict (range ∷ ranges) asked = if conflicts range asked then Some range else first_conflict ranges asked
+
+-- two holders: there is no place that they can't hold as they do
+abbrev pub AreApart : List Range → List Range → Type 0
+AreApart ranges others = (place : ℕ) → clashes (kind_at ranges place) (kind_at others place) ≡ false

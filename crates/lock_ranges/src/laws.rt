@@ -1,7 +1,7 @@
 //! Laws of setting ranges, and of what they say of places. Each is the contract of a function that does nothing.
 
 ghost use Rattle.std.specs.Prelude.{◌≡◌, ℕ, ◌+◌, ◌≤◌, List, [], Option, None, Some, IsSome, IsTrue, ◌↔◌, if◌then◌else◌, length};
-ghost use Rattle.lock_ranges.specs.Ranges.{IsCanonical, clashes, covers, first_conflict, greatest, kind_at, set};
+ghost use Rattle.lock_ranges.specs.Ranges.{AreApart, IsCanonical, clashes, covers, first_conflict, greatest, kind_at, set};
 ghost use Rattle.lock_ranges.specs.declared.range.Kind.{Kind};
 ghost use Rattle.lock_ranges.specs.declared.range.Range.{Range};
 
@@ -40,4 +40,14 @@ pub fn letting_all_go_leaves_none()
 pub fn a_conflict_is_at_a_place()
     ensures { (ranges : List Range) (asked : Range) → IsCanonical ranges → asked.start ≤ asked.last
         → (IsSome (first_conflict ranges asked) ↔ ((place : ℕ) × IsTrue (covers asked.start asked.last place) × IsTrue (clashes (kind_at ranges place) (Some asked.kind)))) }
+{}
+
+/// Where nothing of another holder is in the way of what is asked for, nothing of its is once that is set, and none where places
+/// are let go: they go on without a place that both can't hold.
+pub fn holders_stay_apart()
+    ensures held { (ranges others : List Range) (asked : Range) → IsCanonical ranges → asked.start ≤ asked.last → asked.last ≤ greatest
+        → AreApart ranges others → first_conflict others asked ≡ None → AreApart (set ranges (Some asked.kind) asked.start asked.last) others }
+    ensures let_go { (ranges others : List Range) (start last : ℕ) → IsCanonical ranges → start ≤ last → last ≤ greatest
+        → AreApart ranges others → AreApart (set ranges None start last) others }
+    ensures both { (ranges others : List Range) → AreApart ranges others → AreApart others ranges }
 {}

@@ -1,12 +1,30 @@
 ghost use Rattle.std.specs.Prelude.{◌≡◌, IfOk, OnOk};
-ghost use Rattle.lock_ranges.specs.Ranges.{added, before, behind, joined};
+ghost use Rattle.lock_ranges.specs.Ranges.{added, before, behind, joined, set};
 
-use crate::range::Range;
+use crate::range::{Kind, Range};
 use kabi_types::Memory;
 use std::alloc::Global;
 
+/// Some ranges once the places from the start to the last one are held with a kind, or let go.
+pub(crate) fn after_setting(
+    alloc: Global,
+    ranges: &[Range],
+    kind: Option<Kind>,
+    start: u64,
+    last: u64,
+) -> Result<Vec<Range>, Memory>
+    ensures { IfOk result (λ after. after.items ≡ set ranges.now kind start last) }
+{
+    let mut after = before(alloc, ranges, start)?;
+    if let Some(kind) = kind {
+        add(&mut after, Range { kind, start, last })?;
+    }
+    add_behind(&mut after, ranges, last)?;
+    Ok(after)
+}
+
 /// What of some ranges lies before a place.
-pub(crate) fn before(alloc: Global, ranges: &[Range], start: u64) -> Result<Vec<Range>, Memory>
+fn before(alloc: Global, ranges: &[Range], start: u64) -> Result<Vec<Range>, Memory>
     ensures { IfOk result (λ pieces. pieces.items ≡ before start ranges.now) }
 {
     let mut pieces = Vec::new(alloc);
@@ -22,7 +40,7 @@ pub(crate) fn before(alloc: Global, ranges: &[Range], start: u64) -> Result<Vec<
 }
 
 /// Puts what of other ranges lies behind a place behind these, one after the other.
-pub(crate) fn add_behind(ranges: &mut Vec<Range>, others: &[Range], last: u64) -> Result<(), Memory>
+fn add_behind(ranges: &mut Vec<Range>, others: &[Range], last: u64) -> Result<(), Memory>
     ensures { OnOk result (ranges.new.items ≡ joined ranges.old.items (behind last others.now)) }
 {
     for other in others {
@@ -35,12 +53,13 @@ pub(crate) fn add_behind(ranges: &mut Vec<Range>, others: &[Range], last: u64) -
 }
 
 /// Puts one more range behind others. Where it touches the last of them, and is of its kind, this one grows instead.
-pub(crate) fn add(ranges: &mut Vec<Range>, new: Range) -> Result<(), Memory>
+fn add(ranges: &mut Vec<Range>, new: Range) -> Result<(), Memory>
     ensures { OnOk result (ranges.new.items ≡ added ranges.old.items new) }
 {
     match ranges.last_mut() {
         Some(end) if end.touches(&new) => end.last = new.last,
-        _ => ranges.push(new)?,
+        Some(_) => ranges.push(new)?,
+        None => ranges.push(new)?,
     }
     Ok(())
 }

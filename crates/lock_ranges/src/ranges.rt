@@ -2,7 +2,7 @@ ghost use Rattle.std.specs.Prelude.{◌≡◌, ℕ, ◌≤◌, [], IfSome, IsTru
 ghost use Rattle.std.specs.List.{AllByRecursion};
 ghost use Rattle.lock_ranges.specs.Ranges.{IsCanonical, conflicts, covers, first_conflict, greatest, kind_at, set};
 
-use crate::pieces::{add, add_behind, before};
+use crate::pieces::after_setting;
 use crate::range::{Kind, Range};
 use kabi_types::Memory;
 use std::alloc::Global;
@@ -79,12 +79,8 @@ impl Ranges {
         ensures canonical { IsCanonical self.new }
         ensures kept { OnErr result (self.new ≡ self.old) }
     {
-        let mut ranges = before(*self.ranges.allocator(), &self.ranges, start)?;
-        if let Some(kind) = kind {
-            add(&mut ranges, Range { kind, start, last })?;
-        }
-        add_behind(&mut ranges, &self.ranges, last)?;
-        self.ranges = ranges;
+        let alloc = *self.ranges.allocator();
+        self.ranges = after_setting(alloc, &self.ranges, kind, start, last)?;
         Ok(())
     }
 }
