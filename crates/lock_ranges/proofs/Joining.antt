@@ -1,5 +1,6 @@
 -- One more range behind others, as it is put there.
 use Rattle.std.proofs.Common.{◌≡◌, ℕ, zero, suc, ◌+◌, ◌<◌, Bool, true, false, List, [], ◌∷◌, ◌++◌, length, get_or, set, refl, ap, sym, ◌∙◌, subst, arith}
+use Rattle.std.proofs.lemmas.List.{set-get_or}
 use Rattle.lock_ranges.specs.declared.range.Range.{Range}
 use Rattle.lock_ranges.specs.Ranges.{added, touch}
 use Rattle.lock_ranges.proofs.Places.{added_behind, added_grown, grown}
@@ -25,3 +26,7 @@ added_last (range ∷ []) (suc index) new end is_last is apart = absurd (omega a
 added_last (range ∷ next ∷ ranges) zero new end is_last is apart = absurd (omega arith)
 added_last (range ∷ next ∷ ranges) (suc index) new end is_last is apart =
     ap (λ (l : List Range). range ∷ l) (added_last (next ∷ ranges) index new end (omega arith) is apart)
+
+-- what was lent and is as it was
+pub as_it_was : (ranges : List Range) (index : ℕ) (end : Range) → end ≡ get_or ranges index end → set ranges index end ≡ ranges
+as_it_was ranges index end is = subst (λ (r : Range). set ranges index r ≡ ranges) (sym is) (set-get_or ranges index end)

@@ -5,13 +5,13 @@ ghost use Rattle.lock_ranges.specs.Ranges.{AreApart, IsCanonical, clashes, cover
 ghost use Rattle.lock_ranges.specs.declared.range.Kind.{Kind};
 ghost use Rattle.lock_ranges.specs.declared.range.Range.{Range};
 
-/// Lists that lie apart, none of whose ranges go on with their kind, and that say the same of each place are one list.
+/// Two canonical lists that say the same of each place are one.
 pub fn a_canonical_list_is_the_only_one_that_says_so()
     ensures { (ranges others : List Range) → IsCanonical ranges → IsCanonical others
         → ((place : ℕ) → place ≤ greatest → kind_at ranges place ≡ kind_at others place) → ranges ≡ others }
 {}
 
-/// What is set is what the places inside have then, and the others keep what they had.
+/// The places inside have then what is set, and the others what they had; the list is canonical.
 pub fn setting_changes_the_places_inside()
     ensures meaning { (ranges : List Range) (kind : Option Kind) (start last place : ℕ) → IsCanonical ranges → start ≤ last → last ≤ greatest
         → kind_at (set ranges kind start last) place ≡ (if covers start last place then kind else kind_at ranges place) }
@@ -36,14 +36,14 @@ pub fn letting_all_go_leaves_none()
     ensures { (ranges : List Range) → IsCanonical ranges → set ranges None 0 greatest ≡ [] }
 {}
 
-/// A range is in the way exactly where a place of what is asked for is held so that both can't be.
+/// A range is in the way exactly where a place that is asked for is held so that both can't hold it.
 pub fn a_conflict_is_at_a_place()
     ensures { (ranges : List Range) (asked : Range) → IsCanonical ranges → asked.start ≤ asked.last
         → (IsSome (first_conflict ranges asked) ↔ ((place : ℕ) × IsTrue (covers asked.start asked.last place) × IsTrue (clashes (kind_at ranges place) (Some asked.kind)))) }
 {}
 
-/// Where nothing of another holder is in the way of what is asked for, nothing of its is once that is set, and none where places
-/// are let go: they go on without a place that both can't hold.
+/// Two holders without a place that both can't hold stay so where one sets what nothing of the other is in the way of, and
+/// where one lets places go.
 pub fn holders_stay_apart()
     ensures held { (ranges others : List Range) (asked : Range) → IsCanonical ranges → asked.start ≤ asked.last → asked.last ≤ greatest
         → AreApart ranges others → first_conflict others asked ≡ None → AreApart (set ranges (Some asked.kind) asked.start asked.last) others }

@@ -79,6 +79,7 @@ impl Ranges {
         ensures canonical { IsCanonical self.new }
         ensures kept { OnErr result (self.new ≡ self.old) }
     {
+        // In a list of its own: the old one stays where memory runs out in between.
         let alloc = *self.ranges.allocator();
         self.ranges = after_setting(alloc, &self.ranges, kind, start, last)?;
         Ok(())

@@ -1,4 +1,4 @@
-use Rattle.std.proofs.Common.{◌≡◌, ◌∙◌, sym, subst, List, slice_index_or}
+use Rattle.std.proofs.Common.{◌∙◌, sym, subst, List, slice_index_or}
 use Rattle.lock_ranges.specs.declared.range.Kind.TheVariants.{Shared}
 use Rattle.lock_ranges.specs.declared.range.Range.{Range}
 use Rattle.lock_ranges.specs.Ranges.{IsCanonical}
