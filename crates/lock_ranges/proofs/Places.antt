@@ -1,6 +1,6 @@
 -- Kinds, and whether a place is in a range.
-use Rattle.std.proofs.Common.{◌≡◌, ◌≢◌, ℕ, ◌+◌, ◌<◌, ◌≤◌, Bool, true, false, ◌&&◌, cond, eqb, leb, List, [], ◌∷◌, Option, None, Some, ap, ◌∙◌, inl, inr, ◌⊎◌, refl, arith}
-use Rattle.std.proofs.lemmas.Bool.{and_left, and_right, and_from, and_parts, cases_lt, cases_Bool, le-leb, lt-leb, eqb-true}
+use Rattle.std.proofs.Common.{◌≡◌, ℕ, ◌+◌, ◌<◌, ◌≤◌, true, false, cond, eqb, leb, List, [], ◌∷◌, Some, ap, inl, inr, ◌⊎◌, refl}
+use Rattle.std.proofs.lemmas.Bool.{and_left, and_right, and_from, and_parts, cases_lt, le-leb, lt-leb, eqb-true}
 use Rattle.lock_ranges.specs.declared.range.Kind.{Kind}
 use Rattle.lock_ranges.specs.declared.range.Kind.TheVariants.{Shared, Exclusive}
 use Rattle.lock_ranges.specs.declared.range.Range.{Range}

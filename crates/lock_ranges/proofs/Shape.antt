@@ -1,12 +1,12 @@
 -- Ranges that lie apart stay so through cuts and joins.
-use Rattle.std.proofs.Common.{◌≡◌, if◌then◌else◌, ℕ, ◌+◌, ◌-◌, ◌<◌, ◌≤◌, min, max, Bool, true, false, ◌&&◌, eqb, List, [], ◌∷◌, ◌++◌, length, Option, None, Some, refl, ap, sym, subst, ◌∙◌, inl, inr, ◌⊎◌, arith}
+use Rattle.std.proofs.Common.{◌≡◌, if◌then◌else◌, ℕ, ◌+◌, ◌<◌, ◌≤◌, ◌&&◌, eqb, List, [], ◌∷◌, ◌++◌, length, Option, None, Some, refl, ap, sym, subst, ◌∙◌, inl, inr, arith}
 use Rattle.std.specs.List.{AllByRecursion}
 use Rattle.std.proofs.lemmas.Bool.{and_right, cases_eq, cases_lt, cases_Bool, ne_eqb}
 use Rattle.std.proofs.lemmas.List.{length-append}
 use Rattle.lock_ranges.specs.declared.range.Kind.{Kind}
 use Rattle.lock_ranges.specs.declared.range.Range.{Range}
-use Rattle.lock_ranges.specs.Ranges.{IsCanonical, LiesBefore, added, before, behind, beyond, covers, greatest, held, joined, kind_at, same_kind, set, touch, until}
-use Rattle.lock_ranges.proofs.Places.{added_behind, added_grown, grown, touch_parts}
+use Rattle.lock_ranges.specs.Ranges.{IsCanonical, LiesBefore, added, before, behind, covers, greatest, held, joined, kind_at, same_kind, set, touch, until}
+use Rattle.lock_ranges.proofs.Places.{added_behind, added_grown}
 use Rattle.lock_ranges.proofs.Meaning.{AreFull, before_cut, before_out, behind_cut, behind_out, kind_set}
 
 -- ---- facts of each range

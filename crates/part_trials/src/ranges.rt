@@ -7,8 +7,11 @@ use std::process::Abort;
 use std::test::Fail;
 
 const LAST: u64 = 9223372036854775807;
+
 const GONE: Option<Kind> = None;
+
 const SHARED: Option<Kind> = Some(Kind::Shared);
+
 const EXCLUSIVE: Option<Kind> = Some(Kind::Exclusive);
 
 // What is set, one after the other, and the ranges that are held then.
@@ -34,45 +37,112 @@ const ROWS: &[(&[(Option<Kind>, u64, u64)], &[(Kind, u64, u64)])] = &[
     ),
     (
         &[(EXCLUSIVE, 0, 9), (SHARED, 4, 5)],
-        &[(Kind::Exclusive, 0, 3), (Kind::Shared, 4, 5), (Kind::Exclusive, 6, 9)],
+        &[
+            (Kind::Exclusive, 0, 3),
+            (Kind::Shared, 4, 5),
+            (Kind::Exclusive, 6, 9),
+        ],
     ),
     // cuts at the start, at the end, and beyond both
-    (&[(EXCLUSIVE, 5, 9), (GONE, 5, 6)], &[(Kind::Exclusive, 7, 9)]),
-    (&[(EXCLUSIVE, 5, 9), (GONE, 0, 6)], &[(Kind::Exclusive, 7, 9)]),
-    (&[(EXCLUSIVE, 5, 9), (GONE, 8, 9)], &[(Kind::Exclusive, 5, 7)]),
-    (&[(EXCLUSIVE, 5, 9), (GONE, 8, 20)], &[(Kind::Exclusive, 5, 7)]),
+    (
+        &[(EXCLUSIVE, 5, 9), (GONE, 5, 6)],
+        &[(Kind::Exclusive, 7, 9)],
+    ),
+    (
+        &[(EXCLUSIVE, 5, 9), (GONE, 0, 6)],
+        &[(Kind::Exclusive, 7, 9)],
+    ),
+    (
+        &[(EXCLUSIVE, 5, 9), (GONE, 8, 9)],
+        &[(Kind::Exclusive, 5, 7)],
+    ),
+    (
+        &[(EXCLUSIVE, 5, 9), (GONE, 8, 20)],
+        &[(Kind::Exclusive, 5, 7)],
+    ),
     (&[(EXCLUSIVE, 5, 9), (GONE, 4, 10)], &[]),
-    (&[(EXCLUSIVE, 5, 9), (GONE, 0, 4), (GONE, 10, LAST)], &[(Kind::Exclusive, 5, 9)]),
+    (
+        &[(EXCLUSIVE, 5, 9), (GONE, 0, 4), (GONE, 10, LAST)],
+        &[(Kind::Exclusive, 5, 9)],
+    ),
     // the same kind inside, and the same range again
     (&[(SHARED, 0, 9), (SHARED, 4, 5)], &[(Kind::Shared, 0, 9)]),
     (&[(SHARED, 4, 5), (SHARED, 4, 5)], &[(Kind::Shared, 4, 5)]),
-    (&[(SHARED, 0, 9), (EXCLUSIVE, 4, 5), (SHARED, 4, 5)], &[(Kind::Shared, 0, 9)]),
+    (
+        &[(SHARED, 0, 9), (EXCLUSIVE, 4, 5), (SHARED, 4, 5)],
+        &[(Kind::Shared, 0, 9)],
+    ),
     // ranges of one kind that touch before, behind and on both sides
     (&[(SHARED, 0, 4), (SHARED, 5, 9)], &[(Kind::Shared, 0, 9)]),
     (&[(SHARED, 5, 9), (SHARED, 0, 4)], &[(Kind::Shared, 0, 9)]),
-    (&[(SHARED, 0, 3), (SHARED, 6, 9), (SHARED, 4, 5)], &[(Kind::Shared, 0, 9)]),
+    (
+        &[(SHARED, 0, 3), (SHARED, 6, 9), (SHARED, 4, 5)],
+        &[(Kind::Shared, 0, 9)],
+    ),
     // of two kinds, and with a place between them
-    (&[(SHARED, 0, 4), (EXCLUSIVE, 5, 9)], &[(Kind::Shared, 0, 4), (Kind::Exclusive, 5, 9)]),
-    (&[(SHARED, 5, 9), (SHARED, 0, 3)], &[(Kind::Shared, 0, 3), (Kind::Shared, 5, 9)]),
+    (
+        &[(SHARED, 0, 4), (EXCLUSIVE, 5, 9)],
+        &[(Kind::Shared, 0, 4), (Kind::Exclusive, 5, 9)],
+    ),
+    (
+        &[(SHARED, 5, 9), (SHARED, 0, 3)],
+        &[(Kind::Shared, 0, 3), (Kind::Shared, 5, 9)],
+    ),
     // the part of a range that is changed joins the one before it alone
     (
-        &[(SHARED, 0, 3), (EXCLUSIVE, 4, 6), (EXCLUSIVE, 8, 9), (SHARED, 4, 5)],
-        &[(Kind::Shared, 0, 5), (Kind::Exclusive, 6, 6), (Kind::Exclusive, 8, 9)],
+        &[
+            (SHARED, 0, 3),
+            (EXCLUSIVE, 4, 6),
+            (EXCLUSIVE, 8, 9),
+            (SHARED, 4, 5),
+        ],
+        &[
+            (Kind::Shared, 0, 5),
+            (Kind::Exclusive, 6, 6),
+            (Kind::Exclusive, 8, 9),
+        ],
     ),
     // over three ranges, from inside the first to inside the last, and over all
     (
-        &[(SHARED, 0, 2), (EXCLUSIVE, 4, 6), (SHARED, 8, 10), (EXCLUSIVE, 1, 9)],
-        &[(Kind::Shared, 0, 0), (Kind::Exclusive, 1, 9), (Kind::Shared, 10, 10)],
+        &[
+            (SHARED, 0, 2),
+            (EXCLUSIVE, 4, 6),
+            (SHARED, 8, 10),
+            (EXCLUSIVE, 1, 9),
+        ],
+        &[
+            (Kind::Shared, 0, 0),
+            (Kind::Exclusive, 1, 9),
+            (Kind::Shared, 10, 10),
+        ],
     ),
     (
-        &[(SHARED, 0, 2), (EXCLUSIVE, 4, 6), (SHARED, 8, 10), (GONE, 1, 9)],
+        &[
+            (SHARED, 0, 2),
+            (EXCLUSIVE, 4, 6),
+            (SHARED, 8, 10),
+            (GONE, 1, 9),
+        ],
         &[(Kind::Shared, 0, 0), (Kind::Shared, 10, 10)],
     ),
     (
-        &[(SHARED, 0, 2), (EXCLUSIVE, 4, 6), (SHARED, 8, 10), (SHARED, 1, 9)],
+        &[
+            (SHARED, 0, 2),
+            (EXCLUSIVE, 4, 6),
+            (SHARED, 8, 10),
+            (SHARED, 1, 9),
+        ],
         &[(Kind::Shared, 0, 10)],
     ),
-    (&[(SHARED, 0, 2), (EXCLUSIVE, 4, 6), (SHARED, 8, 10), (GONE, 0, LAST)], &[]),
+    (
+        &[
+            (SHARED, 0, 2),
+            (EXCLUSIVE, 4, 6),
+            (SHARED, 8, 10),
+            (GONE, 0, LAST),
+        ],
+        &[],
+    ),
 ];
 
 // With which kind a place is held where 2 and 3 are shared and 4 to 6 are held by one alone.
@@ -115,10 +185,9 @@ fn held(alloc: Global, settings: &[(Option<Kind>, u64, u64)]) -> Result<Ranges, 
 /// Whether these are the ranges, in this order.
 fn are(ranges: &[Range], wanted: &[(Kind, u64, u64)]) -> bool {
     ranges.len() == wanted.len()
-        && ranges
-            .iter()
-            .zip(wanted)
-            .all(|(range, it)| range.kind == it.0 && range.start == it.1 && range.last == it.2)
+        && ranges.iter().zip(wanted).all(|(range, it)| range.kind == it.0
+            && range.start == it.1
+            && range.last == it.2)
 }
 
 fn is_held(rt: &impl Abort, ranges: &Ranges, wanted: &[(Kind, u64, u64)]) {
@@ -144,7 +213,10 @@ fn each_place_has_its_kind(rt: HostRuntime) -> Result<(), Fail> {
 
 #[test]
 fn the_first_that_is_in_the_way_is_told(rt: HostRuntime) -> Result<(), Fail> {
-    let ranges = held(rt.alloc(), &[(SHARED, 8, 9), (EXCLUSIVE, 5, 6), (SHARED, 2, 3)])?;
+    let ranges = held(
+        rt.alloc(),
+        &[(SHARED, 8, 9), (EXCLUSIVE, 5, 6), (SHARED, 2, 3)],
+    )?;
     for (kind, start, last, wanted) in CONFLICTS {
         let asked = Range {
             kind: *kind,
