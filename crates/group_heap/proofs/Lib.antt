@@ -6,3 +6,4 @@ pub mod OneReading
 pub mod ValidSections
 pub mod Running
 pub mod Telling
+pub mod Holding

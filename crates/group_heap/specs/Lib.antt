@@ -5,4 +5,5 @@ pub mod Outcomes
 pub mod Reports
 pub mod Runs
 pub mod Seats
+pub mod Held
 pub mod Telling

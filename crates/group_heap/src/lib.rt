@@ -15,7 +15,7 @@ mod splits;
 
 pub use faults::GroupFault;
 pub use groups::{Group, GroupEnd};
-pub use laws::{groups_keep_the_headline, groups_read_in_one_way};
+pub use laws::{groups_keep_the_headline, groups_read_in_one_way, heaps_stay_within_the_whole};
 pub use lists::GroupList;
 pub use reports::report_groups;
 pub use runs::{run_groups, run_one};

@@ -1,11 +1,11 @@
 -- What signals that may be ignored do to processes, by the shapes of answers.
-use Rattle.std.proofs.Common.{◌≡◌, ◌≢◌, ℕ, zero, suc, ◌+◌, ◌==◌, ◌&&◌, ◌||◌, ℤ, pos, negsuc, Bool, true, false, not, cond, List, [], ◌∷◌, ◌++◌, map, Option, None, Some, refl, ap, sym, ◌∙◌, subst, inl, inr, arith}
+use Rattle.std.proofs.Common.{◌≡◌, ◌≢◌, ℕ, zero, suc, ◌==◌, ◌&&◌, ◌||◌, ℤ, pos, negsuc, Bool, true, false, not, cond, [], ◌∷◌, ◌++◌, map, Option, None, Some, refl, ap, sym, ◌∙◌, subst, inl, inr}
 use Rattle.std.proofs.lemmas.Bool.Decides.{eqb_tells}
 use Rattle.kabi_types.specs.Arguments.{argument_fault, count_of, is_number}
 use Rattle.kabi_types.specs.declared.calls.Call.{Call}
 use Rattle.kabi_types.specs.declared.calls.Call.TheVariants as calls
 use Rattle.kabi_types.specs.declared.errnos.Errno.{Errno}
-use Rattle.kabi_types.specs.declared.errnos.Errno.TheVariants.{EPERM, ESRCH}
+use Rattle.kabi_types.specs.declared.errnos.Errno.TheVariants.{EPERM}
 use Rattle.kabi_types.specs.declared.replies.Reply.{Reply}
 use Rattle.kabi_types.specs.declared.replies.Reply.TheVariants.{Val}
 use Rattle.kabi_types.specs.declared.scripts.Script.{Script}
@@ -19,8 +19,8 @@ use Rattle.posix_defs.specs.Machine.{answer_to, machine, unless_wrong}
 use Rattle.posix_defs.specs.Memory.{Memory, no_memory}
 use Rattle.posix_defs.specs.Plain.{Plain, boot_plain, first_process}
 use Rattle.posix_defs.specs.Process.{Alive, Ended as HasEnded, Ignores, Process, Status, Table, ignores_both, ignores_in, ignores_of, is_alive, process_at, remembering, runs, working_in}
-use Rattle.posix_defs.specs.Signals.{ignores_signal, is_ignored, sigpipe}
-use Rattle.posix_defs.specs.Calls.Writing.{write, write_ends, write_ignoring}
+use Rattle.posix_defs.specs.Signals.{is_ignored, sigpipe}
+use Rattle.posix_defs.specs.Calls.Writing.{write, write_ends}
 use Rattle.posix_defs.proofs.SignalLemmas.{ends_by, ignoring_goes_on, of_write, write_goes_on}
 use Rattle.answer_laws.specs.Shapes as shape
 use Rattle.answer_laws.specs.Shapes.{HasShape}

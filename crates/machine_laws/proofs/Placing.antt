@@ -17,7 +17,7 @@ use Rattle.posix_defs.specs.Forking.{child_of, is_full, with_child}
 use Rattle.posix_defs.specs.Memory.{no_memory}
 use Rattle.posix_defs.specs.Plain.{Plain, answered, boot_plain, control_of, last_pid}
 use Rattle.posix_defs.specs.Machine.{machine}
-use Rattle.posix_defs.specs.Process.{Alive, Process, Table, is_alive, is_alive_in, process_at, with_directory, with_ignores, working_in}
+use Rattle.posix_defs.specs.Process.{Alive, Process, Table, is_alive, is_alive_in, process_at, with_directory, working_in}
 use Rattle.posix_defs.specs.Files.Descriptors.{none_open}
 use Rattle.posix_defs.specs.Files.Descriptions.{Description}
 use Rattle.posix_defs.specs.Files.State.{Files, boot_files, descriptors_of, opened_as, with_heir, with_open}

@@ -1,6 +1,6 @@
-//! Values, what is left of a write, victims, places in order, chains of waits, a line of a report and what lines claim; objects of
-//! the heap; the disk and the nodes, files and directories on it, with the blocks that each call reads and writes; the order of use
-//! and each cache, by hand. Tests alone.
+//! Values, what is left of a write, victims, places in order, chains of waits, ranges that are held, a line of a report and what
+//! lines claim; objects of the heap; the disk and the nodes, files and directories on it, with the blocks that each call reads and
+//! writes; the order of use and each cache, by hand. Tests alone.
 #![tactic(auto)]
 
 #[cfg(test)]
@@ -21,6 +21,8 @@ mod lists;
 mod places;
 #[cfg(test)]
 mod prices;
+#[cfg(test)]
+mod ranges;
 #[cfg(test)]
 mod values;
 #[cfg(test)]

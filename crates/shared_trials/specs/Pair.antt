@@ -10,6 +10,7 @@ use Rattle.kabi_types.specs.declared.scripts.Control.{Control}
 use Rattle.kabi_types.specs.declared.scripts.Operand.TheVariants.{Number}
 use Rattle.kabi_types.specs.declared.scripts.Policy.TheVariants.{Heaviest}
 use Rattle.kabi_types.specs.declared.scripts.Script.{Script}
+use Rattle.kabi_types.specs.declared.scripts.Statement.{Statement}
 use Rattle.kabi_types.specs.declared.scripts.Statement.TheVariants.{Invoke}
 use Rattle.kabi_types.specs.declared.errnos.Errno.TheVariants.{ENOENT}
 use Rattle.kabi_types.specs.declared.replies.Reply.TheVariants.{Fail, Val}
@@ -30,7 +31,11 @@ use Rattle.shared_trials.specs.declared.scenes.Scene.TheVariants as scene
 use Rattle.shared_trials.specs.declared.scenes.Who.{Who}
 use Rattle.shared_trials.specs.declared.scenes.Who.TheVariants as one
 
--- `fork`, `open "/d" O_RDONLY` where there is no such file, and the end, on so much heap
+-- `fork`, and `open "/d" O_RDONLY`, where there is no such file
+abbrev pub pair_body : List Statement
+pair_body = Invoke kind.Fork [] [] None None ∷ Invoke kind.OpenFile (Number (pos 0) ∷ []) (codes "/d" ∷ []) None None ∷ []
+
+-- these, and the end, on so much heap
 abbrev pub pair : ℕ → Script
 pair heap = record {
   heap = heap;
@@ -38,7 +43,7 @@ pair heap = record {
   steps = 1000;
   policy = Heaviest;
   chooser = Plain;
-  programs = record { name = codes "init"; body = Invoke kind.Fork [] [] None None ∷ Invoke kind.OpenFile (Number (pos 0) ∷ []) (codes "/d" ∷ []) None None ∷ [] } ∷ [];
+  programs = record { name = codes "init"; body = pair_body } ∷ [];
 }
 
 -- which process a pid names

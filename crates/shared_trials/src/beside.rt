@@ -72,7 +72,7 @@ fn tells_what_is_outstanding<L: RunName>(
 }
 
 /// Reserves where no other thread steps and there is room.
-fn reserve(word: &Charge, seat: &mut ChargeSeat, n: u64) -> Result<(), Fail>
+pub(crate) fn reserve(word: &Charge, seat: &mut ChargeSeat, n: u64) -> Result<(), Fail>
     requires { seat.old.charge ≡ word.now }
     ensures charge { seat.new.charge ≡ seat.old.charge }
     ensures holds { OnOk result (seat.new.known.holds ≡ seat.old.known.holds + n) }

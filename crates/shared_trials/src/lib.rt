@@ -1,5 +1,6 @@
 //! Who chooses among events; turns by tickets; the shared kernel over a store of two processes, by tables and beside a seat that holds a
-//! part of the charge word; and workers over a store of one. Tests alone, and what there is of the processes.
+//! part of the charge word; workers over a store of one; and texts of groups, and groups of the two processes. Tests alone, and what
+//! there is of the processes.
 #![tactic(auto)]
 
 #[cfg(test)]
@@ -12,6 +13,8 @@ mod choosing;
 mod crew;
 #[cfg(test)]
 mod desk;
+#[cfg(test)]
+mod groups;
 #[cfg(test)]
 mod one_pid;
 #[cfg(test)]

@@ -1,0 +1,6 @@
+pub mod Places
+pub mod Joining
+pub mod Meaning
+pub mod Shape
+pub mod Unique
+pub mod Conflicts

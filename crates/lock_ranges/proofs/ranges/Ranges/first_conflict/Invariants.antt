@@ -1,0 +1,7 @@
+use Rattle.std.proofs.Common.{◌≡◌, drop}
+use Rattle.lock_ranges.specs.Ranges.{first_conflict}
+use Rattle.lock_ranges.proofs.ranges.Ranges.first_conflict.Given as goal
+
+-- the first of what is left is the first of all
+abbrev pub invariant-loop-range : goal.invariant-loop-range
+invariant-loop-range l = first_conflict (drop l.range-index l.range-items) l.asked ≡ first_conflict l.range-items l.asked
