@@ -1,5 +1,5 @@
 -- Whether a write ends its caller, by what it ignores, what was moved before, and who reads.
-use Rattle.std.proofs.Common.{◌≡◌, ℕ, ◌==◌, ◌&&◌, ℤ, not, Bool, true, false, refl, ap, sym, ◌∙◌}
+use Rattle.std.proofs.Common.{◌≡◌, ℕ, zero, suc, ◌<◌, ◌≤◌, ◌==◌, ◌&&◌, ℤ, not, Bool, true, false, refl, ap, sym, ◌∙◌, arith}
 use Rattle.kabi_types.specs.declared.scripts.Script.{Script}
 use Rattle.posix_defs.specs.Calls.Opened.{opened_at}
 use Rattle.posix_defs.specs.Calls.Writing.{is_broken, write_ends}
@@ -10,6 +10,14 @@ use Rattle.store_objects.specs.declared.objects.Objects.{Objects}
 use Rattle.store_objects.specs.Objects.{IsCaller}
 use Rattle.store_objects.specs.Standing.{StandsFor}
 use Rattle.store_objects.proofs.Dispositions.{ignores_are}
+
+not_none : (n : ℕ) → 0 < n → (n == 0) ≡ false
+not_none zero some = absurd (omega (arith, some))
+not_none (suc n) some = refl
+
+not_some : (n : ℕ) → n ≤ 0 → (n == 0) ≡ true
+not_some zero none = refl
+not_some (suc n) none = absurd (omega (arith, none))
 
 module _ (script : Script) (objects : Objects) (world : World) (pid : ℕ) (caller : Caller) (is : IsCaller objects pid caller) (stands : StandsFor script objects world)
     (fd addr n : ℤ) (done : ℕ) where
@@ -28,10 +36,10 @@ module _ (script : Script) (objects : Objects) (world : World) (pid : ℕ) (call
   pub who_ignores : caller.ignores_pipe ≡ true → false ≡ write_ends world.plain pid fd addr n done
   who_ignores e = sym (ends_by true (done == 0) e refl)
 
-  pub who_moved : caller.ignores_pipe ≡ false → (done == 0) ≡ false → false ≡ write_ends world.plain pid fd addr n done
-  who_moved e f = sym (ends_by false false e f)
+  pub who_moved : caller.ignores_pipe ≡ false → 0 < done → false ≡ write_ends world.plain pid fd addr n done
+  who_moved e some = sym (ends_by false false e (not_none done some))
 
-  pub who_breaks : (told : Bool) → caller.ignores_pipe ≡ false → (done == 0) ≡ true → told ≡ is_broken world.plain pid addr n (opened_at world.plain.files pid fd)
+  pub who_breaks : (told : Bool) → caller.ignores_pipe ≡ false → done ≤ 0 → told ≡ is_broken world.plain pid addr n (opened_at world.plain.files pid fd)
       → told ≡ write_ends world.plain pid fd addr n done
   unfolding broken
-  who_breaks told e f tells = tells ∙ sym (ends_by false true e f)
+  who_breaks told e none tells = tells ∙ sym (ends_by false true e (not_some done none))

@@ -1,12 +1,31 @@
-use Rattle.std.proofs.Common.{◌≡◌, ◌∙◌, ◌<◌, ◌==◌, false, true, sym, subst, ne_eqb, eq-eqb, arith, w64}
+use Rattle.std.proofs.Common.{◌≡◌, ◌≤◌, arith, refl, w64}
 use Rattle.std.proofs.lemmas.Int.{to_z-of_z}
 use Rattle.posix_defs.specs.Calls.Opened.{opened_at}
 use Rattle.posix_defs.specs.Calls.Writing.{is_broken}
 use Rattle.store_objects.proofs.Callers.{caller_lives}
 use Rattle.queue_calls.proofs.Breaking.{who_breaks, who_ignores, who_moved}
+use Rattle.queue_calls.proofs.MovedNumbers.{of_three}
 use Rattle.queue_calls.proofs.Queueing.{is_kept, queues_stand}
 use Rattle.queue_calls.proofs.writing.write_breaks.Goals as goal
 
 pub returns-then-ignores_pipe : goal.returns-then-ignores_pipe
 returns-then-ignores_pipe c = λ script world stands.
     who_ignores script c.args.objects.now world c.args.caller.now.place.pid c.args.caller.now c.requires.caller stands c.args.on.now.fd c.args.addr c.args.n c.args.done c.if-ignores_pipe.true
+
+pub returns-then-done-gt0 : goal.returns-then-done-gt0
+returns-then-done-gt0 c = λ script world stands.
+    who_moved script c.args.objects.now world c.args.caller.now.place.pid c.args.caller.now c.requires.caller stands c.args.on.now.fd c.args.addr c.args.n c.args.done c.if-ignores_pipe.false c.if-done-gt0.true
+
+pub write_breaks-requires-clause-kept : goal.write_breaks-requires-clause-kept
+write_breaks-requires-clause-kept c = let some = c.requires.stands in is_kept some.0 c.args.objects.now some.2.kept
+
+pub write_breaks-requires-clause-alive : goal.write_breaks-requires-clause-alive
+write_breaks-requires-clause-alive c = caller_lives c.args.objects.now c.args.caller.now.place.pid c.args.caller.now c.requires.caller
+
+pub returns : goal.returns
+returns c = λ script world stands.
+    let none : c.args.done ≤ 0 = (let least = c.if-done-gt0.false in omega (arith, least)) in
+    who_breaks script c.args.objects.now world c.args.caller.now.place.pid c.args.caller.now c.requires.caller stands c.args.on.now.fd c.args.addr c.args.n c.args.done c.write_breaks.result c.if-ignores_pipe.false none
+    (of_three (λ fd addr n. c.write_breaks.result ≡ is_broken world.plain c.args.caller.now.place.pid addr n (opened_at world.plain.files c.args.caller.now.place.pid c.args.on.now.fd))
+    c.args.on.now.fd _ _ c.args.on.now.fd c.args.addr c.args.n refl (to_z-of_z w64 c.args.addr c.ranges.addr) (to_z-of_z w64 c.args.n c.ranges.n)
+    (c.write_breaks.ensures script stands.files.numbers world.plain world.account (queues_stand script c.args.objects.now world stands)))
