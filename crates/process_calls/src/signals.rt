@@ -1,6 +1,6 @@
 //! The call `signal`.
 
-ghost use Rattle.std.specs.Prelude.{◌≡◌};
+ghost use Rattle.std.specs.Prelude.{◌≡◌, pos};
 ghost use Rattle.kabi_types.specs.declared.calls.Call.{Call};
 ghost use Rattle.kabi_types.specs.declared.scripts.Script.{Script};
 ghost use Rattle.kheap_slabs.specs.Paid.{TakesNothing};
@@ -21,7 +21,7 @@ pub fn signal(
     script: &Script,
     objects: &mut Objects,
     caller: &Caller,
-    signal: i64,
+    which: i64,
     disposition: i64,
 ) -> Turned
     requires kept { AreKept script.now objects.old }
@@ -29,9 +29,9 @@ pub fn signal(
     requires placed { IsPlaced objects.old.procs caller.now.place }
     ensures kept { AreKept script.now objects.new }
     ensures takes { TakesNothing objects.old.heap objects.new.heap }
-    ensures does { Performs script.now objects.old caller.now.place.pid (Call.Signal signal disposition) (λ plain. signal script.now plain caller.now.place.pid signal disposition) result objects.new }
+    ensures does { Performs script.now objects.old caller.now.place.pid (Call.Signal which disposition) (λ plain. signal script.now plain caller.now.place.pid which disposition) result objects.new }
 {
-    let before = dispose(objects, caller.place, signal, is_ignoring(disposition));
+    let before = dispose(objects, caller.place, which, is_ignoring(disposition));
     go_on(script, objects, caller, Reply::Val(disposition_of(before)))
 }
 

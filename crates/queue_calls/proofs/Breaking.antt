@@ -1,5 +1,5 @@
 -- Whether a write ends its caller, by what it ignores, what was moved before, and who reads.
-use Rattle.std.proofs.Common.{◌≡◌, ℕ, zero, suc, ◌<◌, ◌≤◌, ◌==◌, ◌&&◌, ℤ, not, Bool, true, false, refl, ap, sym, ◌∙◌, arith}
+use Rattle.std.proofs.Common.{◌≡◌, ℕ, ◌<◌, ◌≤◌, ◌==◌, ◌&&◌, ℤ, not, Bool, true, false, refl, ap, sym, ◌∙◌, arith, eq-eqb, ne_eqb}
 use Rattle.kabi_types.specs.declared.scripts.Script.{Script}
 use Rattle.posix_defs.specs.Calls.Opened.{opened_at}
 use Rattle.posix_defs.specs.Calls.Writing.{is_broken, write_ends}
@@ -12,12 +12,10 @@ use Rattle.store_objects.specs.Standing.{StandsFor}
 use Rattle.store_objects.proofs.Dispositions.{ignores_are}
 
 not_none : (n : ℕ) → 0 < n → (n == 0) ≡ false
-not_none zero some = absurd (omega (arith, some))
-not_none (suc n) some = refl
+not_none n some = ne_eqb n 0 (λ same. omega (arith, some, same))
 
 not_some : (n : ℕ) → n ≤ 0 → (n == 0) ≡ true
-not_some zero none = refl
-not_some (suc n) none = absurd (omega (arith, none))
+not_some n none = eq-eqb n 0 (omega (arith, none))
 
 module _ (script : Script) (objects : Objects) (world : World) (pid : ℕ) (caller : Caller) (is : IsCaller objects pid caller) (stands : StandsFor script objects world)
     (fd addr n : ℤ) (done : ℕ) where
