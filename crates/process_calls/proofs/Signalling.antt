@@ -1,5 +1,6 @@
 -- The call `signal`.
-use Rattle.std.proofs.Common.{◌≡◌, ℕ, ℤ, pos, Bool, refl, ap, ◌∙◌, subst}
+use Rattle.std.proofs.Common.{◌≡◌, ℕ, ℤ, pos, Bool, true, false, refl, ap, ◌∙◌, subst, w64}
+use mir.Val.{of_z, to_z}
 use Rattle.kabi_types.specs.Arguments.{count_of}
 use Rattle.kabi_types.specs.declared.calls.Call.TheVariants as call
 use Rattle.kabi_types.specs.declared.replies.Reply.TheVariants.{Val}
@@ -14,6 +15,11 @@ use Rattle.store_objects.specs.declared.objects.Objects.{Objects}
 use Rattle.store_objects.specs.Standing.{Performs, StandsFor, WorldAfter, disposed_in}
 use Rattle.store_objects.proofs.Leading.{led_on}
 use Rattle.store_objects.proofs.Replies.{GoesOn}
+
+-- a disposition is told as it is
+pub told_whole : (ignored : Bool) → to_z w64 (of_z w64 (pos (disposition_of ignored))) ≡ pos (disposition_of ignored)
+told_whole true = refl
+told_whole false = refl
 
 -- the caller ignores the signal or doesn't, and goes on with what it did before
 pub does_signal : (script : Script) (old mid new : Objects) (pid : ℕ) (which disposition : ℤ) (ignored before : Bool) (said : ℤ) (told : Turned)
