@@ -517,18 +517,15 @@ write-requires-in-Queue-target-clause-off c =
 pub write-requires-in-Queue-target-clause-stands : goal.write-requires-in-Queue-target-clause-stands
 write-requires-in-Queue-target-clause-stands c = (c.requires.stands.0, c.requires.stands.1)
 
-pub returns-in-Queue-target-clause-uses : goal.returns-in-Queue-target-clause-uses
-returns-in-Queue-target-clause-uses c =
+pub returns-else-write_breaks-clause-uses : goal.returns-else-write_breaks-clause-uses
+returns-else-write_breaks-clause-uses c =
     uses_paid _ _ _ _ _ _ c.write-in-Queue-target.ensures.paid (c.purse_for-paid.ensures.within c.args.call.now c.requires.needed)
 
-pub returns-in-Queue-target-clause-does : goal.returns-in-Queue-target-clause-does
-returns-in-Queue-target-clause-does c =
+pub returns-else-write_breaks-clause-does : goal.returns-else-write_breaks-clause-does
+returns-else-write_breaks-clause-does c =
     performs_that (named_three c.named_by-named.ensures.number (λ x y z. call.Write x y z c.in-Write.done) c.in-Write.is refl (search (rules, to_z-of_z)) (search (rules, to_z-of_z))) refl
     (performs_write c.args.script.now c.args.objects.now c.write-in-Queue-target.new.objects c.args.caller.now.place.pid _ _ _ c.in-Write.done c.write-in-Queue-target.result
     (λ world stands. sym c.if-write_breaks.false ∙ c.write_breaks.ensures c.args.script.now world stands) c.write-in-Queue-target.ensures.does)
-
-pub returns-in-Queue-target-clause-cached : goal.returns-in-Queue-target-clause-cached
-returns-in-Queue-target-clause-cached c = cached_that _ _ _ _ c.in-Write.is tt
 
 -- ---- Pread
 
