@@ -527,6 +527,9 @@ returns-else-write_breaks-clause-does c =
     (performs_write c.args.script.now c.args.objects.now c.write-in-Queue-target.new.objects c.args.caller.now.place.pid _ _ _ c.in-Write.done c.write-in-Queue-target.result
     (λ world stands. sym c.if-write_breaks.false ∙ c.write_breaks.ensures c.args.script.now world stands) c.write-in-Queue-target.ensures.does)
 
+pub returns-else-write_breaks-clause-cached : goal.returns-else-write_breaks-clause-cached
+returns-else-write_breaks-clause-cached c = cached_that _ _ _ _ c.in-Write.is tt
+
 -- ---- Pread
 
 pub pread-requires-clause-right : goal.pread-requires-clause-right
