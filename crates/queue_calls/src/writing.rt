@@ -90,7 +90,8 @@ pub fn write_breaks(
     ensures { (script : Script) (world : World) → StandsFor script objects.now world
         → result ≡ write_ends world.plain caller.now.place.pid on.now.fd addr n done }
 {
-    if caller.ignores_pipe {
+    let proc = objects.procs.at(&objects.heap, caller.place);
+    if proc.ignores_pipe {
         return false;
     }
     if done > 0 {

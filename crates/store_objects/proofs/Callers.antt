@@ -17,7 +17,6 @@ caller_of objects pid caller is = record {
   found = ap (proc_of (procs_of objects)) is.same ∙ is.found;
   up = is.up;
   parent = is.parent;
-  ignores = is.ignores;
   control = is.control;
 }
 

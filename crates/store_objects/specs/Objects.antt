@@ -61,7 +61,6 @@ pub record IsCaller (objects : Objects) (pid : ℕ) (caller : Caller) : Type 0 w
   pub found : proc_of (procs_of objects) pid ≡ Some proc
   pub up : proc.status ≡ None
   pub parent : caller.parent ≡ proc.parent
-  pub ignores : caller.ignores_pipe ≡ proc.ignores_pipe
   pub control : caller.control ≡ proc.control
 
 -- A process that runs stands at its next call: the local statements before it are done.

@@ -34,8 +34,6 @@ pub struct Caller {
     pub place: Place,
     /// Its parent's pid; 0 for the first process.
     pub parent: u32,
-    /// Whether it ignores SIGPIPE.
-    pub ignores_pipe: bool,
     /// Where it stands in its program: at its call.
     pub control: Control,
 }
@@ -77,7 +75,6 @@ impl Objects {
         Some(Caller {
             place: Place { pid, key },
             parent: proc.parent,
-            ignores_pipe: proc.ignores_pipe,
             control: proc.control,
         })
     }

@@ -33,6 +33,5 @@ returns-clause-some c =
       found = named.3 ∙ sym named.1 ∙ c.get_proc-proc.ensures;
       up = no_status c.get_proc-proc.result.now.status (sym c.is_some.ensures ∙ c.if-is_some.false);
       parent = refl;
-      ignores = refl;
       control = refl;
     }
