@@ -8,11 +8,11 @@ use Rattle.queue_calls.proofs.MovedNumbers.{of_three}
 use Rattle.queue_calls.proofs.Queueing.{is_kept, queues_stand}
 use Rattle.queue_calls.proofs.writing.write_breaks.Goals as goal
 
-pub at-requires-clause-stored : goal.at-requires-clause-stored
-at-requires-clause-stored c = let some = c.requires.stands in let kept = is_kept some.0 c.args.objects.now some.2.kept in kept.holds.stored
+pub at-proc-requires-clause-stored : goal.at-proc-requires-clause-stored
+at-proc-requires-clause-stored c = let some = c.requires.stands in let kept = is_kept some.0 c.args.objects.now some.2.kept in kept.holds.stored
 
-pub at-requires-clause-there : goal.at-requires-clause-there
-at-requires-clause-there c = let is = c.requires.caller in is.placed
+pub at-proc-requires-clause-there : goal.at-proc-requires-clause-there
+at-proc-requires-clause-there c = let is = c.requires.caller in is.placed
 
 pub returns-then-proc : goal.returns-then-proc
 returns-then-proc c = λ script world stands.
