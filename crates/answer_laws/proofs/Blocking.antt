@@ -1,4 +1,4 @@
--- Of all calls five may block.
+-- Of all calls six may block.
 use Rattle.std.proofs.Common.{◌≡◌, ℕ, true, sym, ◌∙◌}
 use Rattle.kabi_types.specs.declared.calls.Call.{Call}
 use Rattle.kabi_types.specs.declared.replies.Reply.{Reply}
@@ -27,6 +27,7 @@ by_shape script plain pid which given (shape.puts files memory said is_said what
 by_shape script plain pid which given (shape.moves path directory called led is) e = absurd (not_done _ _ (sym is ∙ e))
 by_shape script plain pid which given (shape.disposes signal disposition ignores before called is) e = absurd (not_done _ _ (sym is ∙ e))
 by_shape script plain pid which given (shape.parts files moved part is) e = absurd (not_part _ _ (sym is ∙ e))
+by_shape script plain pid which given (shape.awaits files begun is) e = absurd (not_part _ _ (sym is ∙ e))
 by_shape script plain pid which given (shape.starts place is) e = absurd (not_done _ _ (sym is ∙ e))
 by_shape script plain pid which given (shape.forks is) e = absurd (not_done _ _ (sym is ∙ e))
 by_shape script plain pid which given (shape.reaps child status ended is) e = absurd (not_done _ _ (sym is ∙ e))

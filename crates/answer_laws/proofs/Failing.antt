@@ -35,6 +35,7 @@ by_shape script plain pid which given (shape.puts files memory said is_said put 
 by_shape script plain pid which given (shape.moves path directory of entered is) = subst (FailsAlone script plain pid) (sym is) tt
 by_shape script plain pid which given (shape.disposes signal disposition ignores before of is) = subst (FailsAlone script plain pid) (sym is) tt
 by_shape script plain pid which given (shape.parts files moved part is) = subst (FailsAlone script plain pid) (sym is) tt
+by_shape script plain pid which given (shape.awaits files begun is) = subst (FailsAlone script plain pid) (sym is) tt
 by_shape script plain pid which given (shape.starts place is) = subst (FailsAlone script plain pid) (sym is) tt
 by_shape script plain pid which given (shape.forks is) = subst (FailsAlone script plain pid) (sym is) tt
 by_shape script plain pid which given (shape.reaps child status ended is) = subst (FailsAlone script plain pid) (sym is) tt

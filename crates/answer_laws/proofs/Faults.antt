@@ -76,4 +76,5 @@ fault_no (call.Connect _ path) = path_no_want path
 fault_no (call.Shutdown _ how) = invalid_no_want (is_within 0 2 how)
 fault_no (call.Poll timeout _) = invalid_no_want (is_number 0 timeout || is_minus_one timeout)
 fault_no (call.Signal signal disposition) = invalid_no_want (may_be_ignored signal && is_within 0 1 disposition)
+fault_no (call.Mkfifo path) = path_no_want path
 fault_no _ = tt

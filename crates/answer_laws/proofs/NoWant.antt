@@ -1,5 +1,5 @@
 -- What the tree and the queues refuse is never ENOMEM.
-use Rattle.std.proofs.Common.{◌≢◌, ℕ, ◌==◌, ◌&&◌, ◌||◌, not, nat_le, nat_lt, Bool, true, false, cond, List, [], ◌∷◌, length, Option, None, Some, is_some, is_none, Result, Ok, Err}
+use Rattle.std.proofs.Common.{◌≢◌, ℕ, ◌==◌, ◌&&◌, ◌||◌, not, nat_le, nat_lt, ℤ, Bool, true, false, cond, List, [], ◌∷◌, length, Option, None, Some, is_some, is_none, Result, Ok, Err}
 use Rattle.std.specs.Str.{bytes_eq}
 use Rattle.std.specs.Option.{ok_or}
 use Rattle.kabi_types.specs.PathParts.{components}
@@ -11,11 +11,13 @@ use Rattle.posix_defs.specs.declared.walked.Walked.TheVariants as walked
 use Rattle.posix_defs.specs.DiskContents.{own_name, parent_name}
 use Rattle.posix_defs.specs.DiskFormat.{blocks_of, greatest_size}
 use Rattle.posix_defs.specs.FileBytes.{fitting}
-use Rattle.posix_defs.specs.Tree.{Content, File, Directory, SocketName, Tree, found, free_node, is_directory, links_at, parent_at, size_of}
+use Rattle.posix_defs.specs.Tree.{Content, File, Directory, SocketName, Fifo, Tree, found, free_node, is_directory, links_at, parent_at, size_of}
 use Rattle.posix_defs.specs.TreeChanges.{blocks_for, link, make, make_at, most_links, resize, takes_entry, write}
 use Rattle.posix_defs.specs.Paths.{begins_at, ends_in_slash, go_on, last_leads, leads, name_leads, on_from, resolve, step}
-use Rattle.posix_defs.specs.PathCalls.{Opening, bind_led, bind_path, ends_in, enter_path, entered, exec_found, exec_path, find_socket, goes_below, is_empty, is_socket, link_from, link_path, link_to, mkdir_led, mkdir_path, node_led, open_led, open_path, open_there, rename_away, rename_led, rename_named, rename_onto, rename_path, rename_root, rmdir_led, rmdir_path, socket_found, stat_found, stat_path, unless, unlink_led, unlink_path}
-use Rattle.posix_defs.specs.Pipe.{Fails, Moving, Pipe, free_in, not_now, pipe_read, pipe_write, whole}
+use Rattle.posix_defs.specs.PathCalls.{Opening, bind_led, bind_path, ends_in, enter_path, entered, exec_found, exec_path, find_socket, goes_below, is_empty, is_fifo, is_socket, link_from, link_path, link_to, mkdir_led, mkdir_path, mkfifo_led, mkfifo_path, node_led, open_led, open_path, open_there, rename_away, rename_led, rename_named, rename_onto, rename_path, rename_root, rmdir_led, rmdir_path, socket_found, stat_found, stat_path, unless, unlink_led, unlink_path}
+use Rattle.posix_defs.specs.Calls.OnFiles.{fifo_fault, is_for_both, most_opens}
+use Rattle.posix_defs.specs.Files.Descriptions.{access_of, has_flag, may_write, o_nonblock}
+use Rattle.posix_defs.specs.Pipe.{Fails, Moving, Pipe, free_in, not_now, opens_of, pipe_read, pipe_write, whole}
 use Rattle.posix_defs.specs.Socket.{Accepting, Connected, Idle, Listening, Refuses, Socket, Stage, accept, bind_fault, connect_fault, first_waiting, is_connected, is_shut_read, listen_fault, shutdown_fault}
 use Rattle.posix_defs.specs.Sockets.{Sockets, free_at, read_in_stage, sock_read, sock_write, socket_at, stage_at, write_in_stage, write_to, write_within, writes_no_more}
 
@@ -157,6 +159,15 @@ open_no tree cwd path how = go (resolve tree cwd path) (walk_no tree cwd path)
     go (walked.Free dir name slashed) fine = no_unless (not how.creates || slashed) errno.ENOENT (make tree dir name (File [])) (λ e. cc) (make_no tree dir name (File []))
     go (walked.Fail e) fine = fine
 
+pub fifo_fault_no : (pipe : Pipe) (flags : ℤ) → IsNoWantFault (fifo_fault pipe flags)
+fifo_fault_no pipe flags = go (is_for_both (access_of flags)) (may_write (access_of flags) && has_flag flags o_nonblock && (pipe.readers == 0)) (nat_le most_opens (opens_of pipe (may_write (access_of flags))))
+  where
+    go : (both nobody often : Bool) → IsNoWantFault (cond both (Some errno.EINVAL) (cond nobody (Some errno.ENXIO) (cond often (Some errno.EAGAIN) None)))
+    go true nobody often = λ e. cc
+    go false true often = λ e. cc
+    go false false true = λ e. cc
+    go false false false = tt
+
 pub mkdir_no : (tree : Tree) (cwd : ℕ) (path : List ℕ) → IsNoWant (mkdir_path tree cwd path)
 mkdir_no tree cwd path = go (resolve tree cwd path) (walk_no tree cwd path)
   where
@@ -173,6 +184,15 @@ bind_no tree cwd path = go (resolve tree cwd path) (walk_no tree cwd path)
     go (walked.Node number) fine = λ e. cc
     go (walked.Named dir name number slashed) fine = λ e. cc
     go (walked.Free dir name slashed) fine = no_unless slashed errno.ENOENT (make tree dir name SocketName) (λ e. cc) (make_no tree dir name SocketName)
+    go (walked.Fail e) fine = fine
+
+pub mkfifo_no : (tree : Tree) (cwd : ℕ) (path : List ℕ) → IsNoWant (mkfifo_path tree cwd path)
+mkfifo_no tree cwd path = go (resolve tree cwd path) (walk_no tree cwd path)
+  where
+    go : (led : Walked) → IsNoWantWalk led → IsNoWant (mkfifo_led tree led)
+    go (walked.Node number) fine = λ e. cc
+    go (walked.Named dir name number slashed) fine = λ e. cc
+    go (walked.Free dir name slashed) fine = no_unless slashed errno.ENOENT (make tree dir name Fifo) (λ e. cc) (make_no tree dir name Fifo)
     go (walked.Fail e) fine = fine
 
 pub rmdir_no : (tree : Tree) (cwd : ℕ) (path : List ℕ) (busy : ℕ → Bool) → IsNoWant (rmdir_path tree cwd path busy)
@@ -252,7 +272,7 @@ exec_no tree cwd path programs = go (node_led (resolve tree cwd path)) (node_no 
     placed (Some place) = tt
 
     go : (r : Result ℕ Errno) → IsNoWant r → IsNoWant (exec_found tree programs r)
-    go (Ok number) fine = no_unless (is_directory tree number || is_socket tree number) errno.EACCES _ (λ e. cc) (placed _)
+    go (Ok number) fine = no_unless (is_directory tree number || is_socket tree number || is_fifo tree number) errno.EACCES _ (λ e. cc) (placed _)
     go (Err e) fine = fine
 
 -- ---- queues

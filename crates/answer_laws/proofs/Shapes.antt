@@ -29,19 +29,19 @@ use Rattle.posix_defs.specs.Signals.{sigpipe}
 use Rattle.posix_defs.specs.Socket.{Accepting, is_connected}
 use Rattle.posix_defs.specs.Socket as socket
 use Rattle.posix_defs.specs.Sockets.{stage_at, socket_at, is_refused}
-use Rattle.posix_defs.specs.PathCalls.{enter_path}
+use Rattle.posix_defs.specs.PathCalls.{enter_path, is_fifo, open_path}
 use Rattle.posix_defs.specs.Tree.{Tree, is_directory}
 use Rattle.posix_defs.specs.Waiting.{Exited, any_from, exited_from, is_nohang, waited_for, waitpid}
 use Rattle.posix_defs.specs.Files.Descriptors.{Two, lowest_free, lowest_free_from, two_lowest_free}
 use Rattle.posix_defs.specs.Files.Descriptions.{Target, OnNode, OnPipe, OnSocket, may_read, may_write}
-use Rattle.posix_defs.specs.Files.State.{Files, descriptors_of, opens, pipe_at}
+use Rattle.posix_defs.specs.Files.State.{Files, HalfOpen, descriptors_of, opening_at, opens, pipe_at}
 use Rattle.posix_defs.specs.Files.Whole.{is_queue}
 use Rattle.posix_defs.specs.Calls.Opened.{Opened, answer_on, if_readable, if_writable, on_open, opened_at}
 use Rattle.posix_defs.specs.Calls.OnDescriptors.{close, controlled, dup, dup2, duplicated, duplicated_to, fcntl}
 use Rattle.posix_defs.specs.Calls.Reading.{is_directory_target, list_target, of_bytes, pread, pread_target, read, read_from_pipe, read_from_socket, read_target, readdir}
-use Rattle.posix_defs.specs.Calls.Writing.{bytes_left, place_of_write, put_in_socket, pwrite, pwrite_target, stopped, write, write_ignoring, write_queue, write_target, wrote, wrote_at}
-use Rattle.posix_defs.specs.Calls.OnFiles.{fstat, ftruncate, greatest_offset, is_between_entries, lseek, open_at, open_file, opened_node_as, opening_of, origin, resized_to, seek_target, seek_to, truncate_target}
-use Rattle.posix_defs.specs.Calls.OnNames.{chdir, freed_in, is_busy, link, made_directory, mkdir, rename, retreed, rmdir, stat, told_of, unlink, works_from}
+use Rattle.posix_defs.specs.Calls.Writing.{bytes_left, did_part, place_of_write, put_in_socket, pwrite, pwrite_target, stopped, write, write_ignoring, write_queue, write_target, wrote, wrote_at}
+use Rattle.posix_defs.specs.Calls.OnFiles.{end_awaits, end_opened, fifo_fault, fifo_pipe, fifo_waits, fstat, ftruncate, greatest_offset, is_between_entries, is_met, lseek, open_at, open_by, open_end, open_fifo, open_file, open_node, opened_node_as, opening_of, origin, resized_to, seek_target, seek_to, truncate_target}
+use Rattle.posix_defs.specs.Calls.OnNames.{chdir, freed_in, is_busy, link, made_node, mkdir, mkfifo, rename, retreed, rmdir, stat, told_of, unlink, works_from}
 use Rattle.posix_defs.specs.Calls.Starting.{exec, starts}
 use Rattle.posix_defs.specs.Calls.OnPipes.{pipe, piped_under}
 use Rattle.posix_defs.specs.Calls.OnSockets.{accept, accept_at, accepted_under, bind, bind_at, bound_to, connect, connect_at, connected_by, connected_under, listen, listen_at, listener_under, on_socket, paired_under, resocketed, shutdown, shutdown_at, socket_target, socketed_under, socketpair, unless_fault}
@@ -51,8 +51,8 @@ use Rattle.posix_defs.proofs.SignalLemmas.{of_write}
 use Rattle.answer_laws.proofs.Exits.{exited_has_ended}
 use Rattle.answer_laws.proofs.Faults.{fault_no}
 use Rattle.answer_laws.specs.Shapes as shape
-use Rattle.answer_laws.specs.Shapes.{HasShape, IsPart, IsPut, may_block}
-use Rattle.answer_laws.proofs.NoWant.{IsNoWant, IsNoWantAccept, IsNoWantFault, IsNoWantMove, IsOther, accept_no, bind_fault_no, bind_no, connect_fault_no, enter_no, exec_no, find_no, links_no, listen_fault_no, mkdir_no, open_no, pipe_read_no, pipe_write_no, rename_no, resize_no, rmdir_no, shutdown_fault_no, sock_read_no, sock_write_no, stat_no, unlink_no, write_no}
+use Rattle.answer_laws.specs.Shapes.{HasShape, IsBegun, IsPart, IsPut, may_block}
+use Rattle.answer_laws.proofs.NoWant.{IsNoWant, IsNoWantAccept, IsNoWantFault, IsNoWantMove, IsOther, accept_no, bind_fault_no, bind_no, connect_fault_no, enter_no, exec_no, fifo_fault_no, find_no, links_no, listen_fault_no, mkdir_no, mkfifo_no, open_no, pipe_read_no, pipe_write_no, rename_no, resize_no, rmdir_no, shutdown_fault_no, sock_read_no, sock_write_no, stat_no, unlink_no, write_no}
 
 -- what is asked of an answer
 abbrev Shaped : Script → Plain → ℕ → Call → Answer → Type 0
@@ -235,17 +235,52 @@ module _ (script : Script) (plain : Plain) (pid : ℕ) (asked : Call) where
 
   -- ---- files
 
-  opens_file : (path : List ℕ) (flags : ℤ) → Shaped script plain pid asked (open_file script plain pid path flags)
+  opens_file : (path : List ℕ) (flags : ℤ) → asked ≡ call.OpenFile path flags → Shaped script plain pid asked (open_file script plain pid path flags)
   unfolding open_file
-  opens_file path flags = go (lowest_free (descriptors_of plain.files pid))
+  opens_file path flags called = go (opening_at plain.files pid) refl
     where
-      there : (fd : ℕ) (r : Result (ℕ × Tree) Errno) → IsNoWant r → Shaped script plain pid asked (opened_node_as script plain pid flags fd r)
-      there fd (Ok found) fine = tells _ _ refl
-      there fd (Err e) fine = fails e fine
+      -- a FIFO
+      ends : (fd : ℕ) (found : ℕ × Tree) (fault : Option Errno) → opening_at plain.files pid ≡ None → lowest_free (descriptors_of plain.files pid) ≡ Some fd
+          → open_path plain.files.tree (directory_of plain.table pid) path (opening_of flags) ≡ Ok found → is_fifo found.1 found.0 ≡ true
+          → fifo_fault (fifo_pipe plain.files found.0) flags ≡ fault → IsNoWantFault fault → Shaped script plain pid asked (open_end script plain pid flags fd found.0 fault)
+      ends fd found (Some e) begins free led fifo is fine = fails e fine
+      ends fd found None begins free led fifo is fine = waiting (fifo_waits (fifo_pipe plain.files found.0) flags) refl
+        where
+          waiting : (b : Bool) → fifo_waits (fifo_pipe plain.files found.0) flags ≡ b
+              → Shaped script plain pid asked (cond b (did_part (with_files plain (end_awaits plain.files pid flags fd found.0)) pid 1)
+              (replied script (with_files plain (end_opened plain.files pid flags fd found.0)) pid (reply.Val (pos fd))))
+          waiting true waits = shape.awaits _ (record {
+            path = path;
+            flags = flags;
+            fd = fd;
+            there = found;
+            which = called;
+            begins = begins;
+            free = free;
+            led = led;
+            fifo = fifo;
+            right = is;
+            waits = waits;
+            is = refl;
+          }) refl
+          waiting false waits = tells _ _ refl
 
-      go : (o : Option ℕ) → Shaped script plain pid asked (open_at script plain pid path flags o)
-      go None = fails errno.EMFILE (λ e. cc)
-      go (Some fd) = there fd _ (open_no plain.files.tree (directory_of plain.table pid) path (opening_of flags))
+      there : (fd : ℕ) (r : Result (ℕ × Tree) Errno) → opening_at plain.files pid ≡ None → lowest_free (descriptors_of plain.files pid) ≡ Some fd
+          → open_path plain.files.tree (directory_of plain.table pid) path (opening_of flags) ≡ r → IsNoWant r → Shaped script plain pid asked (opened_node_as script plain pid flags fd r)
+      there fd (Ok found) begins free led fine = kind (is_fifo found.1 found.0) refl
+        where
+          kind : (b : Bool) → is_fifo found.1 found.0 ≡ b → Shaped script plain pid asked (cond b (open_fifo script plain pid flags fd found.0) (open_node script plain pid flags fd found.0 found.1))
+          kind true fifo = ends fd found _ begins free led fifo refl (fifo_fault_no (fifo_pipe plain.files found.0) flags)
+          kind false fifo = tells _ _ refl
+      there fd (Err e) begins free led fine = fails e fine
+
+      at : (o : Option ℕ) → opening_at plain.files pid ≡ None → lowest_free (descriptors_of plain.files pid) ≡ o → Shaped script plain pid asked (open_at script plain pid path flags o)
+      at None begins free = fails errno.EMFILE (λ e. cc)
+      at (Some fd) begins free = there fd _ begins free refl (open_no plain.files.tree (directory_of plain.table pid) path (opening_of flags))
+
+      go : (o : Option HalfOpen) → opening_at plain.files pid ≡ o → Shaped script plain pid asked (open_by script plain pid path flags o)
+      go None begins = at _ begins refl
+      go (Some opening) begun = either (is_met plain.files pid opening) _ answer.Blocked (tells _ _ refl) (shape.blocks (ap may_block called) refl)
 
   seeks : (fd offset whence : ℤ) → Shaped script plain pid asked (lseek script plain pid fd offset whence)
   unfolding lseek
@@ -307,7 +342,15 @@ module _ (script : Script) (plain : Plain) (pid : ℕ) (asked : Call) where
   unfolding mkdir
   makes path = go _ (mkdir_no plain.files.tree (directory_of plain.table pid) path)
     where
-      go : (r : Result (ℕ × Tree) Errno) → IsNoWant r → Shaped script plain pid asked (made_directory script plain pid r)
+      go : (r : Result (ℕ × Tree) Errno) → IsNoWant r → Shaped script plain pid asked (made_node script plain pid r)
+      go (Ok made) fine = tells _ _ refl
+      go (Err e) fine = fails e fine
+
+  makes_fifo : (path : List ℕ) → Shaped script plain pid asked (mkfifo script plain pid path)
+  unfolding mkfifo
+  makes_fifo path = go _ (mkfifo_no plain.files.tree (directory_of plain.table pid) path)
+    where
+      go : (r : Result (ℕ × Tree) Errno) → IsNoWant r → Shaped script plain pid asked (made_node script plain pid r)
       go (Ok made) fine = tells _ _ refl
       go (Err e) fine = fails e fine
 
@@ -501,7 +544,7 @@ module _ (script : Script) (plain : Plain) (pid : ℕ) (asked : Call) where
   right (call.Munmap addr size) called = keeps plain.files _ _ refl (shape.unmaps (count_of addr / page_size) (pages_touched (count_of addr) (count_of size)) refl)
   right (call.Store addr bytes) called = ranged addr (length bytes) _ (keeps plain.files _ _ refl (shape.stores addr bytes called refl))
   right (call.Load addr n) called = ranged addr (count_of n) _ (says _ refl)
-  right (call.OpenFile path flags) called = opens_file path flags
+  right (call.OpenFile path flags) called = opens_file path flags called
   right (call.Close fd) called = closes fd
   right (call.Dup fd) called = dups fd
   right (call.Dup2 fd to) called = dups_to fd to
@@ -531,6 +574,7 @@ module _ (script : Script) (plain : Plain) (pid : ℕ) (asked : Call) where
   right (call.Shutdown fd how) called = shuts fd how
   right (call.Poll timeout entries) called = polls timeout entries (ap may_block called)
   right (call.Signal which disposition) called = shape.disposes which disposition _ _ called refl
+  right (call.Mkfifo path) called = makes_fifo path
 
 -- a wrong operand is told
 pub wrong : (script : Script) (plain : Plain) (pid : ℕ) (which : Call) (e : Errno) → argument_fault which ≡ Some e → Shaped script plain pid which (failed script plain pid e)

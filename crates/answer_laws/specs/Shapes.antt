@@ -1,5 +1,5 @@
 -- The shapes of answers: what a call does to processes, whatever it does to files.
-use Rattle.std.specs.Prelude.{ℕ, ◌≡◌, ◌≢◌, ◌+◌, ℤ, pos, Bool, true, false, List, take, Ok, Some}
+use Rattle.std.specs.Prelude.{ℕ, ◌≡◌, ◌≢◌, ◌+◌, ℤ, pos, Bool, true, false, List, take, Ok, Option, None, Some}
 use Rattle.kabi_types.specs.Arguments.{count_of}
 use Rattle.kabi_types.specs.declared.calls.Call.{Call}
 use Rattle.kabi_types.specs.declared.calls.Call.TheVariants as calls
@@ -10,7 +10,7 @@ use Rattle.kabi_types.specs.declared.replies.Reply.TheVariants.{Val, Waited}
 use Rattle.kabi_types.specs.declared.scripts.Script.{Script}
 use Rattle.posix_defs.specs.Memory.{Memory, stored, with_pages, without_pages}
 use Rattle.posix_defs.specs.MemoryCalls.{remembered}
-use Rattle.posix_defs.specs.PathCalls.{enter_path, list_node, read_node}
+use Rattle.posix_defs.specs.PathCalls.{enter_path, is_fifo, list_node, open_path, read_node}
 use Rattle.posix_defs.specs.Process.{Ignores, directory_of, is_alive, memory_of, with_directory, with_ignores}
 use Rattle.posix_defs.specs.Plain.{Plain, last_pid, with_files, with_table}
 use Rattle.posix_defs.specs.Answer.{Answer, Blocked, Done, Ended, failed, replied}
@@ -19,14 +19,18 @@ use Rattle.posix_defs.specs.Forking.{with_child}
 use Rattle.posix_defs.specs.Waiting.{reaped}
 use Rattle.posix_defs.specs.Reaching.{is_reply}
 use Rattle.posix_defs.specs.Sockets.{socket_at}
-use Rattle.posix_defs.specs.Files.State.{Files, pipe_at}
+use Rattle.posix_defs.specs.Tree.{Tree}
+use Rattle.posix_defs.specs.Files.Descriptors.{lowest_free}
+use Rattle.posix_defs.specs.Files.State.{Files, descriptors_of, opening_at, pipe_at}
 use Rattle.posix_defs.specs.Files.Whole.{is_queue}
 use Rattle.posix_defs.specs.Calls.Opened.{Opened, opened_at}
+use Rattle.posix_defs.specs.Calls.OnFiles.{end_awaits, fifo_fault, fifo_pipe, fifo_waits, opening_of}
 use Rattle.posix_defs.specs.Calls.Writing.{did_part}
 use Rattle.posix_defs.specs.Calls.Starting.{started}
 
 -- the calls that may block
 abbrev pub may_block : Call → Bool
+may_block (calls.OpenFile path flags) = true
 may_block (calls.Waitpid which options) = true
 may_block (calls.Read fd addr n) = true
 may_block (calls.Write fd addr n done) = true
@@ -62,6 +66,21 @@ pub record IsPart (plain : Plain) (pid : ℕ) (call : Call) (files : Files) : Ty
   pub descriptors : files.descriptors ≡ plain.files.descriptors
   pub descriptions : files.descriptions ≡ plain.files.descriptions
 
+-- An open of a FIFO whose other side has no end makes its own, which the lowest descriptor that was free names, and waits.
+pub record IsBegun (plain : Plain) (pid : ℕ) (call : Call) (files : Files) : Type 0 where
+  pub path : List ℕ
+  pub flags : ℤ
+  pub fd : ℕ
+  pub there : ℕ × Tree
+  pub which : call ≡ calls.OpenFile path flags
+  pub begins : opening_at plain.files pid ≡ None
+  pub free : lowest_free (descriptors_of plain.files pid) ≡ Some fd
+  pub led : open_path plain.files.tree (directory_of plain.table pid) path (opening_of flags) ≡ Ok there
+  pub fifo : is_fifo there.1 there.0 ≡ true
+  pub right : fifo_fault (fifo_pipe plain.files there.0) flags ≡ None
+  pub waits : fifo_waits (fifo_pipe plain.files there.0) flags ≡ true
+  pub is : files ≡ end_awaits plain.files pid flags fd there.0
+
 -- An answer to a call has one of these shapes.
 pub data HasShape (script : Script) (plain : Plain) (pid : ℕ) (call : Call) (answer : Answer) : Type 0 where
   -- the call would block
@@ -83,6 +102,8 @@ pub data HasShape (script : Script) (plain : Plain) (pid : ℕ) (call : Call) (a
       → answer ≡ replied script (with_table plain (with_ignores plain.table pid ignores)) pid (Val (pos before)) → HasShape script plain pid call answer
   -- a part of a write was done
   parts : (files : Files) (moved : ℕ) → IsPart plain pid call files → answer ≡ did_part (with_files plain files) pid moved → HasShape script plain pid call answer
+  -- an open of a FIFO waits for the other side
+  awaits : (files : Files) → IsBegun plain pid call files → answer ≡ did_part (with_files plain files) pid 1 → HasShape script plain pid call answer
   -- its caller starts a program
   starts : (place : ℕ) → answer ≡ Done (Val (pos 0)) (started script plain pid place) → HasShape script plain pid call answer
   -- its caller has a child

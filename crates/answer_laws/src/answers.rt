@@ -1,4 +1,4 @@
-//! Laws of what all forty-two calls are answered. Each is the contract of a function that does nothing.
+//! Laws of what all forty-three calls are answered. Each is the contract of a function that does nothing.
 
 ghost use Rattle.std.specs.Prelude.{◌≡◌, ◌≢◌, ℕ, true};
 ghost use Rattle.kabi_types.specs.declared.calls.Call.{Call};
@@ -12,10 +12,10 @@ ghost use Rattle.posix_defs.specs.Answer.{Blocked, Done};
 ghost use Rattle.posix_defs.specs.Machine.{machine};
 ghost use Rattle.answer_laws.specs.Shapes.{HasShape, may_block};
 
-/// Whatever a call is answered, it has one of twelve shapes: of processes nothing changes but its caller's control, memory,
+/// Whatever a call is answered, it has one of thirteen shapes: of processes nothing changes but its caller's control, memory,
 /// directory or the signals that it ignores, but for a child that is made or reaped, for a program that is started, and for a
 /// process that ends. A directory changes by `chdir` alone, which signals are ignored by `signal` alone, a part is done of a
-/// `write` alone, and another process is ended by `kill` alone.
+/// `write` alone, or of an `open` of a FIFO that waits for the other side, and another process is ended by `kill` alone.
 pub fn every_answer_has_a_shape()
     ensures { (script : Script) (plain : Plain) (pid : ℕ) (call : Call) → HasShape script plain pid call (machine script plain pid call) }
 {}
@@ -33,8 +33,8 @@ pub fn no_reply_of_any_call_wants_memory()
         → machine script plain pid call ≡ Done reply next → reply ≢ Fail ENOMEM }
 {}
 
-/// Of all calls `waitpid`, `read`, `write`, `accept` and `poll` alone may block. A `connect` never does: its peer waits for it.
-pub fn five_calls_alone_may_block()
+/// Of all calls `waitpid`, `read`, `write`, `accept`, `poll` and `open` alone may block. A `connect` never does: its peer waits for it.
+pub fn six_calls_alone_may_block()
     ensures { (script : Script) (plain : Plain) (pid : ℕ) (call : Call)
         → machine script plain pid call ≡ Blocked → may_block call ≡ true }
 {}

@@ -54,6 +54,7 @@ of_kind blocks size old new valid kind most fields =
     let was = valid.kind in
     let not_free : old.kind ≢ 0 = λ none. elim kind [ inl is ↦ omega (arith, is, none) | inr is ↦ omega (arith, is.0, none) ] in
     let not_name : old.kind ≢ 3 = λ name. elim kind [ inl is ↦ omega (arith, is, name) | inr is ↦ omega (arith, is.0, name) ] in
+    let not_fifo : old.kind ≢ 4 = λ fifo. elim kind [ inl is ↦ omega (arith, is, fifo) | inr is ↦ omega (arith, is.0, fifo) ] in
     record {
       kind = omega (arith, fields.0, was.kind);
       links = omega (arith, fields.1, was.links);
@@ -64,6 +65,7 @@ of_kind blocks size old new valid kind most fields =
         | inr directory ↦ ap (λ (n : ℕ). n % 32) fields.2 ∙ directory.1
       ];
       name = λ is. absurd (not_name (sym fields.0 ∙ is));
+      fifo = λ is. absurd (not_fifo (sym fields.0 ∙ is));
     }
 
 fits : (blocks size : ℕ) (old new : Inode) → blocks ≤ 4096 → IsInode blocks old → data_blocks size ≤ most_blocks → (new.kind ≡ old.kind) × (new.nlink ≡ old.nlink) × (new.size ≡ size) → Points blocks size new → Fits new

@@ -5,7 +5,7 @@ use Rattle.kabi_types.specs.declared.inodes.Inode.{Inode}
 use Rattle.posix_defs.specs.DiskFormat.{IsName}
 use Rattle.posix_defs.specs.DiskContents.{own_name, parent_name}
 use Rattle.posix_defs.specs.IsTree.{IsEntryName}
-use Rattle.posix_defs.specs.Tree.{Content, File, Directory, SocketName, Node, Tree, IsInodeAt, IsInodeIn, node_at, is_directory, is_directory_in, is_directory_content, kind_of}
+use Rattle.posix_defs.specs.Tree.{Content, File, Directory, SocketName, Fifo, Node, Tree, IsInodeAt, IsInodeIn, node_at, is_directory, is_directory_in, is_directory_content, kind_of}
 
 letter_fits : (letter : ℕ) → letter < 256 → (k : ℕ) → slice_index (letter ∷ []) k < 256
 letter_fits letter fits zero = fits
@@ -27,6 +27,7 @@ directory_content : (content : Content) → kind_of content ≡ 2 → is_directo
 directory_content (File bytes) is = absurd (omega (arith, is))
 directory_content (Directory parent entries) is = refl
 directory_content SocketName is = absurd (omega (arith, is))
+directory_content Fifo is = absurd (omega (arith, is))
 
 directory_node : (there : Option Node) (inode : Inode) → IsInodeIn there inode → inode.kind ≡ 2 → is_directory_in there ≡ true
 directory_node None inode is kind = absurd is

@@ -27,11 +27,11 @@ ghost use Rattle.call_run.specs.Families.{HasDone, HasHalf, HasPaths};
 use crate::closing::{close, dup2};
 use crate::numbers::{named_by, target_of};
 use file_calls::{
-    bind, connect, exec, fstat, ftruncate, lseek, open, pread, pwrite, read as read_file, readdir,
-    write as write_file,
+    bind, connect, exec, fstat, ftruncate, lseek, open, open_would_block, pread, pwrite,
+    read as read_file, readdir, write as write_file,
 };
 use kabi_types::{Call, Errno, Memory, Need, Reply, Script, may_wait};
-use path_calls::{chdir, link, mkdir, rename, rmdir, stat, unlink};
+use path_calls::{chdir, link, mkdir, mkfifo, rename, rmdir, stat, unlink};
 use posix_defs::Turned;
 use proc_files::{FileBuffer, MOST_MOVED};
 use proc_table::Place;
@@ -191,6 +191,7 @@ fn run_right(
             signal: which,
             disposition,
         } => signal(script, objects, caller, *which, *disposition),
+        Call::Mkfifo { path } => mkfifo(script, objects, purse, caller, path.items()),
     }
 }
 
@@ -257,5 +258,6 @@ pub fn would_block(objects: &Objects, pid: u32, wait: Option<Awaited>) -> bool
         Awaited::Events { timeout, entries } => {
             poll_would_block(objects, place, timeout, &entries)
         }
+        Awaited::OtherSide => open_would_block(objects, place),
     }
 }

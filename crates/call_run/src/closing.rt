@@ -49,6 +49,7 @@ pub fn close(script: &Script, objects: &mut Objects, caller: &Caller, on: &Named
         &objects.procs,
         &mut objects.tree,
         &mut objects.names,
+        &mut objects.fifos,
         caller.place,
         on,
     );
@@ -91,6 +92,7 @@ pub fn dup2(
         &objects.procs,
         &mut objects.tree,
         &mut objects.names,
+        &mut objects.fifos,
         caller.place,
         on,
         to,

@@ -108,10 +108,13 @@ impl Model for Sleepers {
 }
 
 /// Whether a turn of this call, whatever it came to, changes nothing that another process's call may wait for: no queue, no child that
-/// is there, and of a description nothing but its offset.
-fn wakes_nobody(call: &Call) -> bool
-    ensures { result ≡ wakes_nobody call.now }
+/// is there, and of a description nothing but its offset. An open may have opened a FIFO, unless none is open behind it.
+fn wakes_nobody(call: &Call, no_fifo: bool) -> bool
+    ensures { result ≡ wakes_nobody no_fifo call.now }
 {
+    if let Call::OpenFile { .. } = call {
+        return no_fifo;
+    }
     matches!(
         call,
         Call::Getpid
@@ -122,7 +125,6 @@ fn wakes_nobody(call: &Call) -> bool
             | Call::Munmap { .. }
             | Call::Store { .. }
             | Call::Load { .. }
-            | Call::OpenFile { .. }
             | Call::Dup { .. }
             | Call::Pread { .. }
             | Call::Pwrite { .. }
@@ -142,6 +144,7 @@ fn wakes_nobody(call: &Call) -> bool
             | Call::Bind { .. }
             | Call::Poll { .. }
             | Call::Signal { .. }
+            | Call::Mkfifo { .. }
     )
 }
 
@@ -182,13 +185,13 @@ fn came_of(turned: &Turned) -> Came
 
 /// Whom a turn of this call, which came to this, may have woken, or kept from going on. This is the one place that says so: what makes a
 /// sleeper depend on more than queues, children and descriptions has its line here.
-fn stirs_of(call: &Call, came: Came) -> Stirs
-    ensures { result ≡ stirs_of call.now came }
+fn stirs_of(call: &Call, came: Came, no_fifo: bool) -> Stirs
+    ensures { result ≡ stirs_of no_fifo call.now came }
 {
     match came {
         Came::Nothing | Came::Sleep => Stirs::Nobody,
         Came::Part => stirs_by(call, false),
-        Came::Done => stirs_by(call, wakes_nobody(call)),
+        Came::Done => stirs_by(call, wakes_nobody(call, no_fifo)),
         Came::End => Stirs::Everybody,
     }
 }
@@ -640,7 +643,7 @@ impl Sleepers {
         ensures named { NamesMore self.old.told self.old.stirred self.new.told self.new.stirred }
         ensures room { length self.new.stirred ≤ 65 }
     {
-        match stirs_of(call, came) {
+        match stirs_of(call, came, objects.fifos.is_empty()) {
             Stirs::Nobody => {
                 if gives_number(call) {
                     self.forget_channels();

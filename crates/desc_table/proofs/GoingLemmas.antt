@@ -6,8 +6,9 @@ use Rattle.kheap_slabs.specs.Heap.{Heap}
 use Rattle.open_laws.specs.Owned.{HasItsOwners, all_namings, desc_count, desc_count_at}
 use Rattle.open_laws.proofs.GoingLemmas.{droppable}
 use Rattle.open_laws.proofs.OwnerLemmas.{owners_dropped, owners_shared}
+use Rattle.open_laws.proofs.RelinkedLemmas.{owners_relinked}
 use Rattle.open_laws.proofs.ShareLemmas.{owners_all}
-use Rattle.desc_table.specs.Going.{AreAlike, Goes, begins, closes, dups, forks}
+use Rattle.desc_table.specs.Going.{AreAlike, Goes, begins, closes, dups, forks, relinks}
 
 -- the order of what is in hand says nothing
 pub owners_alike : (h : Heap) (hand others : List ℕ) → AreAlike hand others → HasItsOwners h hand → HasItsOwners h others
@@ -24,6 +25,7 @@ owners_on (forks old new hand places goes can same) owners = rw same (owners_all
 owners_on (closes old new hand left key desc goes alike is drops procs leaves owns) owners =
     let before : HasItsOwners old (key ∷ left) = owners_alike old hand (key ∷ left) alike (owners_on goes owners) in
     owners_dropped old new left key desc is (droppable old left key before) drops procs leaves owns before
+owners_on (relinks old new hand goes relinked) owners = owners_relinked old new relinked hand (owners_on goes owners)
 
 -- what counts a descriptor is there
 pub counted_there : (h : Heap) (key : ℕ) → 0 < desc_count_at h.descs key → InUse h.descs key

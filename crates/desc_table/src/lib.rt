@@ -3,7 +3,7 @@
 //! numbers is open.
 //!
 //! A description counts the descriptors that name it. With the last one it goes, and what it was open on is closed: an end
-//! of a pipe, or a socket with those that wait for it. A node is closed by the caller, who is told its number.
+//! of a pipe, or a socket with those that wait for it. A node is closed by the caller, who is told its number, that of a FIFO too.
 #![tactic(auto)]
 
 mod descriptions;
@@ -11,7 +11,7 @@ mod descriptors;
 mod laws;
 mod leaves;
 
-pub use descriptions::{drop_desc, share_desc, share_descs};
+pub use descriptions::{close_desc, drop_desc, share_desc, share_descs};
 pub use descriptors::{Descs, descriptor_of, lowest_of, open_count, polled};
 pub use laws::descriptions_count_their_descriptors;
 pub use leaves::copy_numbers;

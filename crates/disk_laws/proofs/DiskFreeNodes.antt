@@ -6,7 +6,7 @@ use Rattle.std.proofs.lemmas.Option.{same_Some, none-some}
 use Rattle.kabi_types.specs.declared.inodes.Inode.{Inode}
 use Rattle.posix_defs.specs.DiskFormat.{table_nodes}
 use Rattle.posix_defs.specs.SoundDisk.{IsFreeNode, IsLowestFreeNode}
-use Rattle.posix_defs.specs.Tree.{Content, File, Directory, SocketName, Node, Tree, node_at, kind_of, is_in_use, free_node}
+use Rattle.posix_defs.specs.Tree.{Content, File, Directory, SocketName, Fifo, Node, Tree, node_at, kind_of, is_in_use, free_node}
 use Rattle.posix_defs.specs.DiskTree.{HasThere, StandsFor}
 use Rattle.posix_defs.proofs.TreeNodes.{free_is}
 use Rattle.disk_laws.proofs.FormattedDisk.{one_inode}
@@ -29,6 +29,7 @@ pub used_kind : (content : Content) → kind_of content ≢ 0
 used_kind (File bytes) none = omega (arith, none)
 used_kind (Directory parent entries) none = omega (arith, none)
 used_kind SocketName none = omega (arith, none)
+used_kind Fifo none = omega (arith, none)
 
 -- a node in use isn't free
 used_not_free : (disk : List (List ℕ)) (number : ℕ) (there : Option Node) → HasThere disk number there → is_some there ≡ true → IsFreeNode disk number → ⊥

@@ -11,7 +11,7 @@ use Rattle.posix_defs.specs.DiskFormat.{table_nodes}
 use Rattle.posix_defs.specs.SoundDisk.{HasInode}
 use Rattle.posix_defs.specs.DiskContents.{Finds, HasEntries, entry_for, own_name, parent_name}
 use Rattle.disk_laws.specs.TrueCaches.{HasName}
-use Rattle.posix_defs.specs.Tree.{Content, File, Directory, SocketName, Node, Tree, node_at, entries_in, entries_at, parent_in, has_name, found_among, found}
+use Rattle.posix_defs.specs.Tree.{Content, File, Directory, SocketName, Fifo, Node, Tree, node_at, entries_in, entries_at, parent_in, has_name, found_among, found}
 use Rattle.posix_defs.specs.DiskTree.{HasNodeOf, HasThere, StandsFor}
 use Rattle.disk_laws.proofs.FormattedDisk.{one_inode}
 use Rattle.disk_laws.proofs.DirectoryEntries.{one_list}
@@ -55,6 +55,9 @@ content_entries disk dir links (Directory parent es) inode entries has at list =
 content_entries disk dir links SocketName inode entries has at list =
     let same : inode.kind ≡ has.inode.kind = ap (λ (i : Inode). i.kind) (one_inode disk dir inode has.inode at has.has) in
     absurd (omega (arith, same, has.shows.kind, list.kind))
+content_entries disk dir links Fifo inode entries has at list =
+    let same : inode.kind ≡ has.inode.kind = ap (λ (i : Inode). i.kind) (one_inode disk dir inode has.inode at has.has) in
+    absurd (omega (arith, same, has.shows.kind, list.kind))
 
 there_entries : (disk : List (List ℕ)) (dir : ℕ) (there : Option Node) (inode : Inode) (entries : List DirEntry) → HasThere disk dir there → HasInode disk dir inode → HasEntries disk inode entries → entries ≡ all_entries dir there
 there_entries disk dir None inode entries free at list =
@@ -78,6 +81,7 @@ directory_there disk dir (Some there) name node has at not_own not_parent = by_c
       found = inr (λ same. not_own (sym same), inr (λ same. not_parent (sym same), finds entries name node at));
     }
     by_content links SocketName has at = absurd (none-some node at)
+    by_content links Fifo has at = absurd (none-some node at)
 
 pub names_agree : (disk : List (List ℕ)) (tree : Tree) (dir : ℕ) (name : List ℕ) (node : ℕ) → StandsFor disk tree → name ≢ own_name → name ≢ parent_name → (found tree dir name ≡ Some node) ↔ HasName disk dir name node
 names_agree disk tree dir name node stands not_own not_parent = (

@@ -9,7 +9,7 @@ use Rattle.posix_defs.specs.DiskFormat.{table_nodes}
 use Rattle.posix_defs.specs.SoundDisk.{HasInode, HasNode, IsFreeNode, IsLowestFreeNode}
 use Rattle.posix_defs.specs.DiskContents.{HasEntries, entry_for, own_name, parent_name}
 use Rattle.posix_defs.specs.DiskTree.{HasContent, HasNodeOf, HasThere, StandsFor}
-use Rattle.posix_defs.specs.Tree.{Content, File, Directory, SocketName, Node, Tree, node_at, free_node, kind_of, IsInodeOf}
+use Rattle.posix_defs.specs.Tree.{Content, File, Directory, SocketName, Fifo, Node, Tree, node_at, free_node, kind_of, IsInodeOf}
 use Rattle.posix_defs.proofs.TreeNodes.{IsNumber, is_number}
 use Rattle.disk_laws.specs.NodesInUse.{IsNodeIn, HasNodeIn}
 use Rattle.disk_laws.proofs.FormattedDisk.{one_inode}
@@ -89,12 +89,19 @@ same_content disk number inode (Directory parent entries) (Directory above other
     let behind : entries ≡ others = ap (drop 2) same in
     ap (λ (n : ℕ). Directory n entries) parents ∙ ap (Directory above) behind
 same_content disk number inode SocketName SocketName kind also has at = refl
+same_content disk number inode Fifo Fifo kind also has at = refl
 same_content disk number inode (File bytes) (Directory above others) kind also has at = absurd (omega (arith, kind, also))
 same_content disk number inode (File bytes) SocketName kind also has at = absurd (omega (arith, kind, also))
 same_content disk number inode (Directory parent entries) (File others) kind also has at = absurd (omega (arith, kind, also))
 same_content disk number inode (Directory parent entries) SocketName kind also has at = absurd (omega (arith, kind, also))
 same_content disk number inode SocketName (File others) kind also has at = absurd (omega (arith, kind, also))
 same_content disk number inode SocketName (Directory above others) kind also has at = absurd (omega (arith, kind, also))
+same_content disk number inode (File bytes) Fifo kind also has at = absurd (omega (arith, kind, also))
+same_content disk number inode (Directory parent entries) Fifo kind also has at = absurd (omega (arith, kind, also))
+same_content disk number inode SocketName Fifo kind also has at = absurd (omega (arith, kind, also))
+same_content disk number inode Fifo (File others) kind also has at = absurd (omega (arith, kind, also))
+same_content disk number inode Fifo (Directory above others) kind also has at = absurd (omega (arith, kind, also))
+same_content disk number inode Fifo SocketName kind also has at = absurd (omega (arith, kind, also))
 
 same_node : (disk : List (List ℕ)) (number : ℕ) (one other : Node) → HasNodeOf disk number one → HasNodeOf disk number other → one ≡ other
 same_node disk number one other has at =

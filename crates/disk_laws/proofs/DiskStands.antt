@@ -9,7 +9,7 @@ use Rattle.posix_defs.specs.DiskFormat.{table_end, table_nodes, blocks_of}
 use Rattle.posix_defs.specs.SoundDisk as disks
 use Rattle.posix_defs.specs.SoundDisk.{HasInode, IsFreeNode, IsTable, Sound, free_in_map}
 use Rattle.posix_defs.specs.DiskContents.{node_bytes, IsFormatted, new_root}
-use Rattle.posix_defs.specs.Tree.{Content, File, Directory, SocketName, Node, Tree, root, node_at, with_node, new_tree, new_root_node, blocks_in, used_blocks, free_blocks}
+use Rattle.posix_defs.specs.Tree.{Content, File, Directory, SocketName, Fifo, Node, Tree, root, node_at, with_node, new_tree, new_root_node, blocks_in, used_blocks, free_blocks}
 use Rattle.posix_defs.specs.DiskTree.{HasContent, HasNodeOf, HasThere, StandsFor, ChangesNode}
 use Rattle.posix_defs.proofs.TreeNodes.{IsNumber, node_at-with_node, node_at-with_node_other, blocks-with_node, length-with_node, none_in}
 use Rattle.disk_laws.proofs.FormattedDisk.{no_inode, no_kind, new_node, one_inode, new_is_sound, new_root_is_empty}
@@ -69,6 +69,7 @@ content_stays : (old new : List (List ℕ)) (number : ℕ) (inode : Inode) (cont
 content_stays old new number inode (File bytes) same has = same ∙ has
 content_stays old new number inode (Directory parent entries) same has = record { kind = has.kind; each = has.each; bytes = same ∙ has.bytes }
 content_stays old new number inode SocketName same has = tt
+content_stays old new number inode Fifo same has = tt
 
 there_stays : (old new : List (List ℕ)) (number other : ℕ) (there : Option Node) → ChangesNode old new number → other ≢ number → HasThere old other there → HasThere new other there
 there_stays old new number other None changes off has = (has.0, changes.inodes other has.0 off has.1, has.2)

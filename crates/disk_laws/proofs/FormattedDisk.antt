@@ -62,7 +62,7 @@ no_inode_is blocks =
         indirect = omega arith;
         double = omega arith;
       };
-      kind = record { kind = omega arith; links = omega arith; size = omega arith; free = λ _. (refl, refl); entries = λ _. refl; name = λ _. refl };
+      kind = record { kind = omega arith; links = omega arith; size = omega arith; free = λ _. (refl, refl); entries = λ _. refl; name = λ _. refl; fifo = λ _. refl };
       pointers = record {
         direct = λ k lt. subst (λ (needed : Bool). IsPointer blocks needed (get_or (replicate 10 0) k 0)) (sym (le-ltb (k * block_size) 0 (omega arith))) (zero_at 10 k);
         indirect = refl;
@@ -90,7 +90,7 @@ new_root_is blocks enough most =
         indirect = omega arith;
         double = omega arith;
       };
-      kind = record { kind = omega arith; links = omega arith; size = omega arith; free = λ e. absurd (omega (arith, e)); entries = λ _. refl; name = λ e. absurd (omega (arith, e)) };
+      kind = record { kind = omega arith; links = omega arith; size = omega arith; free = λ e. absurd (omega (arith, e)); entries = λ _. refl; name = λ e. absurd (omega (arith, e)); fifo = λ e. absurd (omega (arith, e)) };
       pointers = record { direct = λ k lt. root_pointer blocks k enough; indirect = refl; double = refl };
     }
 

@@ -79,7 +79,7 @@ fn is_of_kind(inode: &Inode) -> bool
         0 => inode.nlink == 0 && inode.size == 0,
         1 => true,
         2 => inode.size % 32 == 0,
-        3 => inode.size == 0,
+        3 | 4 => inode.size == 0,
         _ => false,
     }
 }

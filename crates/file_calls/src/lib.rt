@@ -16,7 +16,7 @@ mod writing;
 pub use binding::bind;
 pub use connecting::connect;
 pub use offsets::{ftruncate, lseek};
-pub use opening::open;
+pub use opening::{open, open_would_block};
 pub use reading::{pread, read, readdir};
 pub use starting::exec;
 pub use telling::fstat;

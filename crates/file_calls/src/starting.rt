@@ -130,6 +130,7 @@ fn shed(script: &Script, objects: &mut Objects, place: Place)
         &objects.procs,
         &mut objects.tree,
         &mut objects.names,
+        &mut objects.fifos,
         place,
     );
 }

@@ -150,3 +150,4 @@ argument_fault (call.Accept _) = None
 argument_fault (call.Shutdown _ how) = invalid_unless (is_within 0 2 how)
 argument_fault (call.Poll timeout _) = invalid_unless (is_number 0 timeout || is_minus_one timeout)
 argument_fault (call.Signal signal disposition) = invalid_unless (may_be_ignored signal && is_within 0 1 disposition)
+argument_fault (call.Mkfifo path) = path_fault path

@@ -8,6 +8,7 @@ abbrev pub number_of : Errno → ℕ
 number_of errno.EPERM = 1
 number_of errno.ENOENT = 2
 number_of errno.ESRCH = 3
+number_of errno.ENXIO = 6
 number_of errno.ENOEXEC = 8
 number_of errno.EBADF = 9
 number_of errno.ECHILD = 10
@@ -42,6 +43,7 @@ abbrev pub name_of : Errno → List ℕ
 name_of errno.EPERM = codes "EPERM"
 name_of errno.ENOENT = codes "ENOENT"
 name_of errno.ESRCH = codes "ESRCH"
+name_of errno.ENXIO = codes "ENXIO"
 name_of errno.ENOEXEC = codes "ENOEXEC"
 name_of errno.EBADF = codes "EBADF"
 name_of errno.ECHILD = codes "ECHILD"

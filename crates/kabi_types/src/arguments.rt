@@ -222,7 +222,8 @@ impl Call {
             | Call::Rmdir { path }
             | Call::Unlink { path }
             | Call::Bind { path, .. }
-            | Call::Connect { path, .. } => check_path(path),
+            | Call::Connect { path, .. }
+            | Call::Mkfifo { path } => check_path(path),
             Call::Link { old, new } => check_paths(old, new),
             Call::Rename { old, new } => check_renamed(old, new),
             // The others take any operands.

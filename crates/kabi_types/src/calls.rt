@@ -151,6 +151,9 @@ pub enum Call {
         signal: i64,
         disposition: i64,
     },
+    Mkfifo {
+        path: Path,
+    },
 }
 
 /// Which call it is, without its operands.
@@ -198,11 +201,12 @@ pub enum CallKind {
     Shutdown,
     Poll,
     Signal,
+    Mkfifo,
 }
 
 impl CallKind {
     /// Every call, in the order of `Call`.
-    pub const ALL: [CallKind; 42] = [
+    pub const ALL: [CallKind; 43] = [
         CallKind::Getpid,
         CallKind::Getppid,
         CallKind::SchedYield,
@@ -245,6 +249,7 @@ impl CallKind {
         CallKind::Shutdown,
         CallKind::Poll,
         CallKind::Signal,
+        CallKind::Mkfifo,
     ];
 }
 
@@ -298,6 +303,7 @@ impl Call {
             Call::Shutdown { .. } => CallKind::Shutdown,
             Call::Poll { .. } => CallKind::Poll,
             Call::Signal { .. } => CallKind::Signal,
+            Call::Mkfifo { .. } => CallKind::Mkfifo,
         }
     }
 }

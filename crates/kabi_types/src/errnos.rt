@@ -12,6 +12,8 @@ pub enum Errno {
     ENOENT,
     #[error("no such process")]
     ESRCH,
+    #[error("no such device or address")]
+    ENXIO,
     #[error("executable file format error")]
     ENOEXEC,
     #[error("bad file descriptor")]
@@ -79,6 +81,7 @@ impl Errno {
             Errno::EPERM => 1,
             Errno::ENOENT => 2,
             Errno::ESRCH => 3,
+            Errno::ENXIO => 6,
             Errno::ENOEXEC => 8,
             Errno::EBADF => 9,
             Errno::ECHILD => 10,
@@ -118,6 +121,7 @@ impl Errno {
             Errno::EPERM => "EPERM",
             Errno::ENOENT => "ENOENT",
             Errno::ESRCH => "ESRCH",
+            Errno::ENXIO => "ENXIO",
             Errno::ENOEXEC => "ENOEXEC",
             Errno::EBADF => "EBADF",
             Errno::ECHILD => "ECHILD",

@@ -10,6 +10,7 @@ pub enum NodeKind {
     Dir,
     Sock,
     Pipe,
+    Fifo,
 }
 
 /// What `stat` and `fstat` tell: the node's number, its links and its size in bytes. A pipe or a socket that has no

@@ -51,6 +51,7 @@ impl CallKind {
             CallKind::Shutdown => "shutdown",
             CallKind::Poll => "poll",
             CallKind::Signal => "signal",
+            CallKind::Mkfifo => "mkfifo",
         }
     }
 }

@@ -5,7 +5,7 @@ use Rattle.kabi_types.specs.Arguments.{most_descriptors}
 use Rattle.posix_defs.specs.Plain.{Plain}
 use Rattle.posix_defs.specs.Ending.{closed_by, die}
 use Rattle.posix_defs.specs.Files.Descriptors.{Descriptor, Descriptors, descriptor_at, none_open}
-use Rattle.posix_defs.specs.Files.State.{Files, boot_files, descriptors_of, with_heir}
+use Rattle.posix_defs.specs.Files.State.{Files, boot_files, descriptors_of, with_heir, with_opening}
 use Rattle.posix_defs.specs.Files.Closing.{after_close, after_closes, after_end_of, after_ends_of, all_numbers, close_in}
 use Rattle.posix_defs.specs.Files.Bare.{IsBare}
 
@@ -30,22 +30,31 @@ closes_unopened files pid [] none = refl
 closes_unopened files pid (fd ∷ fds) none =
     ap (λ closed. after_closes closed pid fds) (close_unopened files pid fd none) ∙ closes_unopened files pid fds none
 
-pub end_unopened : (files : Files) (pid : ℕ) → descriptors_of files pid ≡ none_open → after_end_of files pid ≡ files
+pub end_unopened : (files : Files) (pid : ℕ) → descriptors_of files pid ≡ none_open → after_end_of files pid ≡ with_opening files pid None
 unfolding after_end_of
-end_unopened files pid none = closes_unopened files pid all_numbers none
+end_unopened files pid none = ap (λ closed. with_opening closed pid None) (closes_unopened files pid all_numbers none)
 
-ends_unopened : (files : Files) (pids : List ℕ) → ((pid : ℕ) → descriptors_of files pid ≡ none_open) → after_ends_of files pids ≡ files
-ends_unopened files [] none = refl
-ends_unopened files (pid ∷ pids) none = ap (λ closed. after_ends_of closed pids) (end_unopened files pid (none pid)) ∙ ends_unopened files pids none
+-- a process that ends has nothing to close
+end_bare : (files : Files) (pid : ℕ) → IsBare files → IsBare (after_end_of files pid)
+end_bare files pid bare = subst IsBare (sym (end_unopened files pid (bare.descriptors pid))) (record {
+  descriptors = bare.descriptors;
+  descriptions = bare.descriptions;
+  tree = bare.tree;
+  pipes = bare.pipes;
+  sockets = bare.sockets;
+})
 
--- a process that ends leaves the files as they are
-pub closed_by_bare : (files : Files) (pid : ℕ) → IsBare files → closed_by files pid ≡ files
-closed_by_bare files zero bare = end_unopened files zero (bare.descriptors zero)
-closed_by_bare files (suc zero) bare = ends_unopened files (range_with_len 1 (length files.descriptors)) bare.descriptors
-closed_by_bare files (suc (suc n)) bare = end_unopened files (suc (suc n)) (bare.descriptors (suc (suc n)))
+ends_bare : (files : Files) (pids : List ℕ) → IsBare files → IsBare (after_ends_of files pids)
+ends_bare files [] bare = bare
+ends_bare files (pid ∷ pids) bare = ends_bare (after_end_of files pid) pids (end_bare files pid bare)
+
+pub closed_by_bare : (files : Files) (pid : ℕ) → IsBare files → IsBare (closed_by files pid)
+closed_by_bare files zero bare = end_bare files zero bare
+closed_by_bare files (suc zero) bare = ends_bare files (range_with_len 1 (length files.descriptors)) bare
+closed_by_bare files (suc (suc n)) bare = end_bare files (suc (suc n)) bare
 
 pub die_bare : (plain : Plain) (pid status : ℕ) → IsBare plain.files → IsBare (die plain pid status).files
-die_bare plain pid status bare = subst IsBare (sym (closed_by_bare plain.files pid bare)) bare
+die_bare plain pid status bare = closed_by_bare plain.files pid bare
 
 -- ---- a child, and the first process
 

@@ -417,6 +417,8 @@ by_shape script plain pid which given kept alive (shape.disposes signal disposit
     subst (KeepsOn plain) (sym is) (replied_leads script plain (with_table plain (with_ignores plain.table pid ignores)) pid (Val (pos before)) (disposes_on plain pid ignores kept))
 by_shape script plain pid which given kept alive (shape.parts files moved part is) =
     subst (KeepsOn plain) (sym is) (control_leads plain plain files pid (after_part (control_of (with_files plain files) pid) moved) (stays_put plain kept))
+by_shape script plain pid which given kept alive (shape.awaits files begun is) =
+    subst (KeepsOn plain) (sym is) (control_leads plain plain files pid (after_part (control_of (with_files plain files) pid) 1) (stays_put plain kept))
 by_shape script plain pid which given kept alive (shape.starts place is) =
     subst (KeepsOn plain) (sym is) (control_leads plain (remembered plain pid no_memory) (after_exec_of plain.files pid) pid
     (restarted (settled script (control_of plain pid)) place) (remembers_on plain pid no_memory kept))

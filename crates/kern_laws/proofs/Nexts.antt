@@ -366,6 +366,12 @@ by_shape script plain pid which given made alive (shape.parts files moved part i
           (with_files_next plain plain files pid (same_next plain pid made)),
       alive,
     )
+by_shape script plain pid which given made alive (shape.awaits files begun is) =
+    subst (AnswerGoes plain pid) (sym is) (
+      controlled_next plain (with_files plain files) pid (after_part (control_of (with_files plain files) pid) 1)
+          (with_files_next plain plain files pid (same_next plain pid made)),
+      alive,
+    )
 by_shape script plain pid which given made alive (shape.starts place is) =
     subst (AnswerGoes plain pid) (sym is) (
       controlled_next plain (with_files (remembered plain pid no_memory) (after_exec_of plain.files pid)) pid

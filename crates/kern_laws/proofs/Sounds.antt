@@ -119,6 +119,18 @@ part_costs script old next pid moved some within is = go (machine_shape script o
         let two = ap bound of in
         omega arith
 
+    -- the call of an open is the same
+    opens_on : (path : List ℕ) (flags : ℤ) (k : ℕ) (files : Files) → call_of script old pid ≡ call.OpenFile path flags
+        → with_control (with_files old files) pid (after_part (control_of old pid) k) ≡ next → bound (call_of script next pid) ≤ bound (call_of script old pid)
+    opens_on path flags k files of next_is =
+        let control : control_of next pid ≡ after_part (control_of old pid) k =
+        ap (λ p. control_of p pid) (sym next_is) ∙ ap (λ found. unwrap_or found (at_start 0)) (at_own old.controls pid (after_part (control_of old pid) k) some within) in
+        let goes_on : call_of script next pid ≡ call.OpenFile path flags =
+        ap (program.call_of script) control ∙ call_part script (control_of old pid) k ∙ ap (further k) of in
+        let one = ap bound goes_on in
+        let two = ap bound of in
+        omega arith
+
     go : HasShape script old pid (call_of script old pid) (machine script old pid (call_of script old pid)) → bound (call_of script next pid) ≤ bound (call_of script old pid)
     go (shape.blocks may e) = absurd (blocked_no_part moved next (sym e ∙ is))
     go (shape.fails errno other e) = absurd (done_no_part _ _ moved next (sym e ∙ is))
@@ -128,6 +140,8 @@ part_costs script old next pid moved some within is = go (machine_shape script o
     go (shape.disposes signal disposition ignores before of e) = absurd (done_no_part _ _ moved next (sym e ∙ is))
     go (shape.parts files k part e) =
         further_on part.fd part.addr part.n part.done k files part.which (same_part k moved (with_control (with_files old files) pid (after_part (control_of old pid) k)) next (sym e ∙ is))
+    go (shape.awaits files begun e) =
+        opens_on begun.path begun.flags 1 files begun.which (same_part 1 moved (with_control (with_files old files) pid (after_part (control_of old pid) 1)) next (sym e ∙ is))
     go (shape.starts place e) = absurd (done_no_part _ _ moved next (sym e ∙ is))
     go (shape.forks e) = absurd (done_no_part _ _ moved next (sym e ∙ is))
     go (shape.reaps child status ended e) = absurd (done_no_part _ _ moved next (sym e ∙ is))

@@ -48,6 +48,7 @@ by_shape script plain pid which given calm (shape.puts files memory reply said p
 by_shape script plain pid which given calm (shape.moves path directory of entered is) = subst (Stays plain) (sym is) (λ other alive. alive_working plain.table pid other directory ∙ alive)
 by_shape script plain pid which given calm (shape.disposes signal disposition ignores before of is) = subst (Stays plain) (sym is) (λ other alive. alive_ignoring plain.table pid other ignores ∙ alive)
 by_shape script plain pid which given calm (shape.parts files moved part is) = subst (Stays plain) (sym is) (λ other alive. alive)
+by_shape script plain pid which given calm (shape.awaits files begun is) = subst (Stays plain) (sym is) (λ other alive. alive)
 by_shape script plain pid which given calm (shape.starts place is) = subst (Stays plain) (sym is) (λ other alive. alive_still plain.table pid other no_memory ∙ alive)
 by_shape script plain pid which given calm (shape.forks is) = subst (Stays plain) (sym is) (λ other alive. still_alive plain.table (child_of pid (process_at plain.table pid)) other alive)
 by_shape script plain pid which given calm (shape.reaps child status ended is) = subst (Stays plain) (sym is) (λ other alive. reaped_keeps plain.table child other ended alive)

@@ -32,6 +32,10 @@ fn pipe_of(readers: u32) -> Pipe
         queue,
         readers,
         writers: 1,
+        node: 0,
+        read_opens: 0,
+        write_opens: 0,
+        next: None,
     }
 }
 

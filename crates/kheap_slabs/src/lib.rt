@@ -10,7 +10,7 @@ mod shelf;
 
 pub use kheap::KHeap;
 pub use objects::{
-    Access, Block, Chunk, Desc, DescFlags, Descriptor, Leaf, Name, Node, Page, PageEntry, Pipe,
-    Proc, QueueParts, Sock, SockState, Target, Vnode,
+    Access, Block, Chunk, Desc, DescFlags, Descriptor, HalfOpen, Leaf, Name, Node, Page, PageEntry,
+    Pipe, Proc, QueueParts, Sock, SockState, Target, Vnode,
 };
 pub use purse::Purse;

@@ -16,12 +16,23 @@ pub struct Proc {
     /// Whether it ignores SIGTERM.
     pub ignores_term: bool,
     pub control: Control,
+    /// The open of a FIFO in which it sleeps, if it sleeps in one.
+    pub opening: Option<HalfOpen>,
     /// The open descriptors of the first 32 numbers.
     pub descriptors: [Option<Descriptor>; 32],
     /// The keys of its Nodes; None where none of those 64 pages is mapped.
     pub nodes: [Option<u32>; 4],
     /// The keys of its Leaves: of the numbers from 32, from 64 and from 96 on; None where none of those 32 is open.
     pub leaves: [Option<u32>; 3],
+}
+
+/// An open of a FIFO that has made its end, and waits for the other side.
+#[derive(Clone, Copy)]
+pub struct HalfOpen {
+    /// The descriptor that it will tell.
+    pub fd: u32,
+    /// How often the other side had been opened by then.
+    pub seen: u32,
 }
 
 /// An open descriptor of a process.
@@ -139,6 +150,14 @@ pub struct Pipe {
     pub readers: u32,
     /// How many descriptions have its write end.
     pub writers: u32,
+    /// The node of the FIFO whose pipe it is; 0 of a pipe that `pipe` made.
+    pub node: u32,
+    /// How often the FIFO was opened to read so far.
+    pub read_opens: u32,
+    /// How often it was opened to write so far.
+    pub write_opens: u32,
+    /// The key of the next FIFO's Pipe.
+    pub next: Option<u32>,
 }
 
 /// A queue of bytes, as its owner in the heap keeps it. The empty queue is None, None, 0, 0.

@@ -53,6 +53,7 @@ left_alone pid who old new parts described = record {
     ignores = (let process = parts.process in process.ignores);
     control = parts.control;
     numbers = (let files = parts.files in files.numbers);
+    waits = (let files = parts.files in files.waits);
     names = names_still pid who old.files new.files parts.files described;
   };
   unshared = λ fd was named none. names_same pid who old.files new.files parts.files described fd was named none;
@@ -85,7 +86,7 @@ module _ (script : Script) (plain : Plain) (pid who : ℕ) (apart : who ≢ pid)
   nothing = record {
     process = same_place who plain.table plain.table refl;
     control = refl;
-    files = leaves_spare pid who plain.files plain.files (record { numbers = refl; each = λ place was is. inl is });
+    files = leaves_spare pid who plain.files plain.files (record { numbers = refl; each = λ place was is. inl is; waits = refl });
   }
 
   with_new : (files : Files) → Spares pid who plain.files files → Parts pid who plain (with_files plain files)
@@ -104,7 +105,8 @@ module _ (script : Script) (plain : Plain) (pid who : ℕ) (apart : who ≢ pid)
       process = same_place who plain.table (with_child script plain pid).table (same_in_front plain.table (child_of pid (process_at plain.table pid)) who made);
       control = ap (λ found. unwrap_or found (at_start 0)) (at_front plain.controls (program.after script (control_of plain pid) (Val (pos 0)) ∷ []) who (let h = made in let c : length plain.table ≡ last_pid plain = placed.counted in omega arith));
       files = leaves_spare pid who plain.files (with_heir plain.files pid) (has_heir who pid plain.files
-          (let h = made in let c : length plain.table ≡ last_pid plain = placed.counted in let d : length plain.files.descriptors ≡ last_pid plain = (let places = placed.places in places.counted) in omega arith));
+          (let h = made in let c : length plain.table ≡ last_pid plain = placed.counted in let d : length plain.files.descriptors ≡ last_pid plain = (let places = placed.places in places.counted) in omega arith)
+          (let h = made in let c : length plain.table ≡ last_pid plain = placed.counted in let d : length plain.files.openings ≡ last_pid plain = (let places = placed.places in places.openings) in omega arith));
     })
 
     -- a process is ended, by its own call or by another's
@@ -139,6 +141,11 @@ module _ (script : Script) (plain : Plain) (pid who : ℕ) (apart : who ≢ pid)
           files = (let none = nothing in none.files);
         }))
     by_shape call lives given spared stepped (shape.parts files moved part is) = subst Sparing (sym is) (λ still. record {
+      process = same_place who plain.table plain.table refl;
+      control = other_control plain (with_files plain files) pid who _ apart refl;
+      files = spared files (subst (Steps plain pid call) is stepped);
+    })
+    by_shape call lives given spared stepped (shape.awaits files begun is) = subst Sparing (sym is) (λ still. record {
       process = same_place who plain.table plain.table refl;
       control = other_control plain (with_files plain files) pid who _ apart refl;
       files = spared files (subst (Steps plain pid call) is stepped);

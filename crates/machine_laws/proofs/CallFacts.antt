@@ -9,8 +9,8 @@ use Rattle.kabi_types.specs.declared.errnos.Errno.{Errno}
 use Rattle.kabi_types.specs.declared.errnos.Errno.TheVariants.{EFBIG, ENOSPC, ENOTDIR}
 use Rattle.posix_defs.specs.DiskFormat.{blocks_of, greatest_size}
 use Rattle.posix_defs.specs.FileBytes.{resized}
-use Rattle.posix_defs.specs.PathCalls.{entered, is_socket, is_socket_kind, kind_in, unless}
-use Rattle.posix_defs.specs.Tree.{Content, File, Directory, SocketName, Node, Tree, is_directory, is_directory_in, is_in_use, node_at}
+use Rattle.posix_defs.specs.PathCalls.{entered, is_fifo, is_fifo_kind, is_socket, is_socket_kind, kind_in, unless}
+use Rattle.posix_defs.specs.Tree.{Content, File, Directory, SocketName, Fifo, Node, Tree, is_directory, is_directory_in, is_in_use, node_at}
 use Rattle.posix_defs.specs.TreeChanges.{blocks_for, resize, with_bytes}
 use Rattle.posix_defs.specs.Files.Descriptions.{Access, ReadOnly, WriteOnly, ReadWrite, access_of, has_flag, may_write}
 use Rattle.machine_laws.proofs.Places.{not_some}
@@ -51,6 +51,7 @@ file_at tree access offset number opened may = go (node_at tree number) refl
     of_content links (File bytes) is = (links, bytes, is)
     of_content links (Directory parent entries) is = absurd (not_dir (ap is_directory_in is))
     of_content links SocketName is = absurd (true_false (is_socket tree number) (ap (λ o. is_socket_kind (kind_in o)) is) opened.socket)
+    of_content links Fifo is = absurd (true_false (is_fifo tree number) (ap (λ o. is_fifo_kind (kind_in o)) is) opened.fifo)
 
     go : (o : Option Node) → node_at tree number ≡ o → (links : ℕ) × (bytes : List ℕ) × (node_at tree number ≡ Some (record { links = links; content = File bytes }))
     go None is = absurd (true_false (is_in_use tree number) opened.used (ap is_some is))

@@ -4,16 +4,18 @@ use Rattle.std.specs.List.{range_with_len, filter}
 use Rattle.posix_defs.specs.Ending.{closed_by}
 use Rattle.posix_defs.specs.Files.Descriptors.{Descriptor, descriptor_at, is_named, is_cloexec}
 use Rattle.posix_defs.specs.Files.Descriptions.{Description, description_at, with_description}
-use Rattle.posix_defs.specs.Files.State.{Files, descriptors_of, with_descriptions, with_open}
+use Rattle.posix_defs.specs.Files.State.{Files, descriptors_of, with_descriptions, with_open, with_opening}
 use Rattle.posix_defs.specs.Files.Closing.{after_close, after_closes, after_end_of, after_ends_of, after_exec_of, all_numbers, close_in, description_gone, gone_in, released, target_closed}
 
 -- the files after a description has gone, which was open on something
 abbrev pub without : Files → ℕ → Description → Files
 without files place description = target_closed (with_descriptions files (with_description files.descriptions place None)) description.access description.target
 
--- It holds still when such a process closes a descriptor, and when a description goes that nobody names.
+-- It holds still when such a process closes a descriptor, when it waits for no other side of a FIFO any more, and when a description
+-- goes that nobody names.
 pub record IsClosedUnder (Who : ℕ → Type 0) (Holds : Files → Type 0) : Type 0 where
   pub shut : (files : Files) (pid fd : ℕ) → Who pid → Holds files → Holds (with_open files pid fd None)
+  pub wakes : (files : Files) (pid : ℕ) → Who pid → Holds files → Holds (with_opening files pid None)
   pub gone : (files : Files) (place : ℕ) (description : Description) → Holds files → description_at files.descriptions place ≡ Some description
       → is_named files.descriptors place ≡ false → Holds (without files place description)
 
@@ -50,7 +52,7 @@ module _ (Who : ℕ → Type 0) (Holds : Files → Type 0) (closed : IsClosedUnd
 
   pub end_holds : (files : Files) (pid : ℕ) → Who pid → Holds files → Holds (after_end_of files pid)
   unfolding after_end_of
-  end_holds files pid who holds = closes_hold files pid all_numbers who holds
+  end_holds files pid who holds = closed.wakes (after_closes files pid all_numbers) pid who (closes_hold files pid all_numbers who holds)
 
   -- one that isn't the first ends alone
   pub one_end_holds : (files : Files) (pid : ℕ) → pid ≢ 1 → Who pid → Holds files → Holds (closed_by files pid)

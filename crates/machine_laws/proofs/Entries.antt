@@ -39,7 +39,7 @@ use Rattle.machine_laws.proofs.Tables.{die_dead, reaped_dead, true_false}
 -- ---- an entry
 
 own_same : (who : ℕ) (plain : Plain) → KeepsOwn who plain plain
-own_same who plain = record { memory = refl; directory = refl; ignores = refl; control = refl; numbers = refl; names = λ fd was is. (was, is, record { place = refl; target = refl; access = refl }) }
+own_same who plain = record { memory = refl; directory = refl; ignores = refl; control = refl; numbers = refl; waits = refl; names = λ fd was is. (was, is, record { place = refl; target = refl; access = refl }) }
 
 own_on : (who : ℕ) (old between new : Plain) → KeepsOwn who old between → KeepsOwn who between new → KeepsOwn who old new
 own_on who old between new one two = record {
@@ -48,6 +48,7 @@ own_on who old between new one two = record {
   ignores = two.ignores ∙ one.ignores;
   control = two.control ∙ one.control;
   numbers = two.numbers ∙ one.numbers;
+  waits = two.waits ∙ one.waits;
   names = λ fd was is. let first = one.names fd was is in let second = two.names fd first.0 first.1 in (
     second.0,
     second.1,
@@ -115,6 +116,7 @@ module _ (script : Script) (plain : Plain) (pid who : ℕ) (made : who ≤ lengt
   answers_dead call given (shape.moves path directory called led is) = subst Dead (sym is) (alive_working plain.table pid who directory ∙ dead)
   answers_dead call given (shape.disposes signal disposition ignores before called is) = subst Dead (sym is) (alive_ignoring plain.table pid who ignores ∙ dead)
   answers_dead call given (shape.parts files moved part is) = subst Dead (sym is) dead
+  answers_dead call given (shape.awaits files begun is) = subst Dead (sym is) dead
   answers_dead call given (shape.starts place is) = subst Dead (sym is) (alive_still plain.table pid who no_memory ∙ dead)
   answers_dead call given (shape.forks is) = subst Dead (sym is) (ap is_alive_in (same_in_front plain.table (child_of pid (process_at plain.table pid)) who made) ∙ dead)
   answers_dead call given (shape.reaps child status over is) = subst Dead (sym is) (reaped_dead plain.table child who dead)

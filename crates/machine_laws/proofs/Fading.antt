@@ -7,11 +7,14 @@ use Rattle.std.proofs.lemmas.List.Folds.{list_any_at}
 use Rattle.std.proofs.lemmas.List.FromFn.{length-range_with_len, get_or-range_with_len}
 use Rattle.posix_defs.specs.Ending.{closed_by}
 use Rattle.posix_defs.specs.Reaching.{ends_at, ends_node}
+use Rattle.posix_defs.specs.Pipe.{after_close as after_close_pipe}
+use Rattle.posix_defs.specs.Tree.{Tree}
 use Rattle.posix_defs.specs.TreeChanges.{closed}
 use Rattle.posix_defs.specs.Files.Descriptors.{Descriptor, descriptor_at, is_named, is_cloexec}
-use Rattle.posix_defs.specs.Files.Descriptions.{Target, OnNode, OnPipe, OnSocket, Description, Descriptions, description_at, with_description}
-use Rattle.posix_defs.specs.Files.State.{Files, descriptors_of, node_of, opened_node, opens, with_descriptions, with_open, with_tree}
-use Rattle.posix_defs.specs.Files.Closing.{after_close, after_closes, after_end_of, after_ends_of, after_exec_of, all_numbers, close_in, description_gone, gone_in, released, target_closed}
+use Rattle.posix_defs.specs.Files.Descriptions.{Target, OnNode, OnPipe, OnSocket, Description, Descriptions, description_at, may_write, with_description}
+use Rattle.posix_defs.specs.Files.State.{Files, descriptors_of, node_of, opened_node, opens, pipe_at, with_descriptions, with_open, with_opening, with_pipe, with_tree}
+use Rattle.posix_defs.specs.Files.Closing.{after_close, after_closes, after_end_of, after_ends_of, after_exec_of, all_numbers, close_in, description_gone, gone_in, left_fifo, released, target_closed}
+use Rattle.machine_laws.proofs.FifoPlaces.{closed_fifo, fifo_in}
 use Rattle.kern_laws.proofs.TablePlaces.{below_or_not}
 
 -- some description has gone
@@ -21,24 +24,34 @@ pub record HasLost (old new : Files) : Type 0 where
   pub was : description_at old.descriptions place ≡ Some description
   pub gone : description_at new.descriptions place ≡ None
 
--- descriptions stay or go; a tree that changes has lost the description of a node, and pipes that change have lost one
+-- descriptions stay or go; a tree that changes has lost the description of a node, and pipes that change have lost one; a pipe that is
+-- a FIFO's was that before
 pub record Fades (old new : Files) : Type 0 where
   pub each : (place : ℕ) → (description_at new.descriptions place ≡ description_at old.descriptions place) ⊎ (description_at new.descriptions place ≡ None)
   pub tree : (new.tree ≡ old.tree) ⊎ ((place : ℕ) × (ends_at old new place ≡ true))
   pub pipes : (new.pipes ≡ old.pipes) ⊎ HasLost old new
+  pub nodes : (place number : ℕ) → fifo_in new.pipes place ≡ Some number → fifo_in old.pipes place ≡ Some number
 
 pub fades_not : (files : Files) → Fades files files
-fades_not files = record { each = λ place. inl refl; tree = inl refl; pipes = inl refl }
+fades_not files = record { each = λ place. inl refl; tree = inl refl; pipes = inl refl; nodes = λ place number is. is }
 
--- the node that a description opens is the same, whatever there is of files
-same_node : (one other : Files) (o : Option Description) → opened_node one o ≡ opened_node other o
-same_node one other None = refl
-same_node one other (Some description) = go description.target
+-- a description that opens a node did so before, if pipes that are a FIFO's were
+was_node : (old new : Files) → ((place number : ℕ) → fifo_in new.pipes place ≡ Some number → fifo_in old.pipes place ≡ Some number) → (o : Option Description)
+    → is_some (opened_node new o) ≡ true → is_some (opened_node old o) ≡ true
+was_node old new nodes None some = some
+was_node old new nodes (Some description) some = go description.target some
   where
-    go : (target : Target) → node_of one target ≡ node_of other target
-    go (OnNode number) = refl
-    go (OnPipe place) = refl
-    go (OnSocket place) = refl
+    fifo : (place : ℕ) (o : Option ℕ) → fifo_in new.pipes place ≡ o → is_some o ≡ true → is_some (fifo_in old.pipes place) ≡ true
+    fifo place None is some = absurd (no some)
+      where
+        no : false ≡ true → ⊥
+        no e = cc
+    fifo place (Some number) is some = ap is_some (nodes place number is)
+
+    go : (target : Target) → is_some (node_of new target) ≡ true → is_some (node_of old target) ≡ true
+    go (OnNode number) some = some
+    go (OnPipe place) some = fifo place _ refl some
+    go (OnSocket place) some = some
 
 -- two tests that both hold
 both_hold : (a b : Bool) → (a && b) ≡ true → (a ≡ true) × (b ≡ true)
@@ -59,7 +72,7 @@ some_not_none files o some none = no (sym (ap (λ d. is_some (opened_node files 
     no f = cc
 
 pub fades_on : (old between new : Files) → Fades old between → Fades between new → Fades old new
-fades_on old between new one two = record { each = each; tree = tree; pipes = pipes }
+fades_on old between new one two = record { each = each; tree = tree; pipes = pipes; nodes = λ place number is. one.nodes place number (two.nodes place number is) }
   where
     each : (place : ℕ) → (description_at new.descriptions place ≡ description_at old.descriptions place) ⊎ (description_at new.descriptions place ≡ None)
     each place = elim (two.each place) [
@@ -78,7 +91,7 @@ fades_on old between new one two = record { each = each; tree = tree; pipes = pi
         let parts = both_hold (is_some (opened_node between (description_at between.descriptions place))) (is_none (description_at new.descriptions place)) ends in
         elim (one.each place) [
           | inl same ↦ hold_both (is_some (opened_node old (description_at old.descriptions place))) (is_none (description_at new.descriptions place))
-              (ap is_some (same_node old between (description_at old.descriptions place)) ∙ ap (λ d. is_some (opened_node between d)) (sym same) ∙ parts.0) parts.1
+              (was_node old between one.nodes (description_at old.descriptions place) (ap (λ d. is_some (opened_node between d)) (sym same) ∙ parts.0)) parts.1
           | inr gone ↦ absurd (some_not_none between (description_at between.descriptions place) parts.0 gone)
         ]
 
@@ -130,9 +143,9 @@ goes_alone descriptions place other = elim (eqb_tells other place) [
 
 module _ (files : Files) (place : ℕ) (description : Description) (is : description_at files.descriptions place ≡ Some description) where
   -- the place of a node's description ends
-  ends_here : (number : ℕ) (new : Files) → description.target ≡ OnNode number → new.descriptions ≡ with_description files.descriptions place None → ends_at files new place ≡ true
+  ends_here : (number : ℕ) (new : Files) → node_of files description.target ≡ Some number → new.descriptions ≡ with_description files.descriptions place None → ends_at files new place ≡ true
   ends_here number new on same = hold_both (is_some (opened_node files (description_at files.descriptions place))) (is_none (description_at new.descriptions place))
-      (ap (λ d. is_some (opened_node files d)) is ∙ ap (λ t. is_some (node_of files t)) on)
+      (ap (λ d. is_some (opened_node files d)) is ∙ ap is_some on)
       (ap (λ d. is_none (description_at d place)) same ∙ ap is_none (is_gone files.descriptions place))
 
   target_fades : (target : Target) → description.target ≡ target
@@ -141,14 +154,29 @@ module _ (files : Files) (place : ℕ) (description : Description) (is : descrip
     where
       go : (b : Bool) → Fades files (cond b (with_descriptions files (with_description files.descriptions place None))
           (with_tree (with_descriptions files (with_description files.descriptions place None)) (closed files.tree number)))
-      go true = record { each = goes_alone files.descriptions place; tree = inl refl; pipes = inl refl }
-      go false = record { each = goes_alone files.descriptions place; tree = inr (place, ends_here number (with_tree (with_descriptions files (with_description files.descriptions place None)) (closed files.tree number)) on refl); pipes = inl refl }
-  target_fades (OnPipe other) on = record {
-    each = goes_alone files.descriptions place;
-    tree = inl refl;
-    pipes = inr (record { place = place; description = description; was = is; gone = is_gone files.descriptions place });
-  }
-  target_fades (OnSocket other) on = record { each = goes_alone files.descriptions place; tree = inl refl; pipes = inl refl }
+      go true = record { each = goes_alone files.descriptions place; tree = inl refl; pipes = inl refl; nodes = λ other n is. is }
+      go false = record { each = goes_alone files.descriptions place; tree = inr (place, ends_here number (with_tree (with_descriptions files (with_description files.descriptions place None)) (closed files.tree number)) (ap (node_of files) on) refl); pipes = inl refl; nodes = λ other n is. is }
+  target_fades (OnPipe other) on = by_node (node_of files (OnPipe other)) refl
+    where
+      left : Files
+      left = with_pipe (with_descriptions files (with_description files.descriptions place None)) other (after_close_pipe (pipe_at files other) (may_write description.access))
+
+      lost : (tree : Tree) → (tree ≡ files.tree) ⊎ ((at : ℕ) × (ends_at files (with_tree left tree) at ≡ true)) → Fades files (with_tree left tree)
+      lost tree same = record {
+        each = goes_alone files.descriptions place;
+        tree = same;
+        pipes = inr (record { place = place; description = description; was = is; gone = is_gone files.descriptions place });
+        nodes = closed_fifo files.pipes other (may_write description.access);
+      }
+
+      by_node : (o : Option ℕ) → node_of files (OnPipe other) ≡ o → Fades files (left_fifo left o)
+      by_node None of = lost files.tree (inl refl)
+      by_node (Some number) of = go (opens left number)
+        where
+          go : (b : Bool) → Fades files (cond b left (with_tree left (closed files.tree number)))
+          go true = lost files.tree (inl refl)
+          go false = lost (closed files.tree number) (inr (place, ends_here number (with_tree left (closed files.tree number)) (ap (node_of files) on ∙ of) refl))
+  target_fades (OnSocket other) on = record { each = goes_alone files.descriptions place; tree = inl refl; pipes = inl refl; nodes = λ at n is. is }
 
 gone_fades : (files : Files) (place : ℕ) → Fades files (description_gone files place)
 gone_fades files place = go (description_at files.descriptions place) refl
@@ -172,7 +200,7 @@ close_fades files pid fd = go (descriptor_at (descriptors_of files pid) fd)
     go : (o : Option Descriptor) → Fades files (close_in files pid fd o)
     go None = fades_not files
     go (Some descriptor) = fades_on files (with_open files pid fd None) (released (with_open files pid fd None) descriptor.description)
-        (record { each = λ place. inl refl; tree = inl refl; pipes = inl refl }) (released_fades (with_open files pid fd None) descriptor.description)
+        (record { each = λ place. inl refl; tree = inl refl; pipes = inl refl; nodes = λ place number is. is }) (released_fades (with_open files pid fd None) descriptor.description)
 
 closes_fade : (files : Files) (pid : ℕ) (fds : List ℕ) → Fades files (after_closes files pid fds)
 closes_fade files pid [] = fades_not files
@@ -185,7 +213,8 @@ exec_fades files pid = closes_fade files pid (filter (is_cloexec (descriptors_of
 
 end_fades : (files : Files) (pid : ℕ) → Fades files (after_end_of files pid)
 unfolding after_end_of
-end_fades files pid = closes_fade files pid all_numbers
+end_fades files pid = fades_on files (after_closes files pid all_numbers) (with_opening (after_closes files pid all_numbers) pid None) (closes_fade files pid all_numbers)
+    (record { each = λ place. inl refl; tree = inl refl; pipes = inl refl; nodes = λ place number is. is })
 
 ends_fade : (files : Files) (pids : List ℕ) → Fades files (after_ends_of files pids)
 ends_fade files [] = fades_not files

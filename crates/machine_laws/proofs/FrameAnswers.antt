@@ -291,6 +291,7 @@ module _ (script : Script) (plain : Plain) (frames : Frames) (holds : Holds plai
   right (call.Shutdown fd how) = others (call.Shutdown fd how) refl
   right (call.Poll timeout entries) = others (call.Poll timeout entries) refl
   right (call.Signal which disposition) = goes_disposed plain frames holds pid _ alive _ refl
+  right (call.Mkfifo path) = others (call.Mkfifo path) refl
 
   pub answers_framed : (which : Call) → Framed which (machine script plain pid which)
   answers_framed which = go (argument_fault which)

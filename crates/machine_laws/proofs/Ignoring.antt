@@ -249,6 +249,7 @@ module _ (script : Script) (plain : Plain) (pid : ℕ) (all : AllIgnore plain) w
       (changed plain.table pid (working_in directory (process_at plain.table pid)) (works directory (process_at plain.table pid) ∙ all pid) all)
   by_shape call other given (shape.disposes signal disposition ignores before called is) = absurd (other signal disposition called)
   by_shape call other given (shape.parts files moved part is) = subst (LeadsTo AllIgnore) (sym is) all
+  by_shape call other given (shape.awaits files begun is) = subst (LeadsTo AllIgnore) (sym is) all
   by_shape call other given (shape.starts place is) = subst (LeadsTo AllIgnore) (sym is)
       (changed plain.table pid (remembering no_memory (process_at plain.table pid)) (remembers no_memory (process_at plain.table pid) ∙ all pid) all)
   by_shape call other given (shape.forks is) = subst (LeadsTo AllIgnore) (sym is) (child_all plain.table pid all)

@@ -18,7 +18,7 @@ use Rattle.posix_defs.specs.Sockets.{Sockets, after_accept, after_close, after_c
 use Rattle.posix_defs.specs.TreeChanges.{closed}
 use Rattle.posix_defs.specs.Files.Descriptions.{Target, OnNode, OnPipe, OnSocket, ReadWrite, Description, Descriptions, description_at, with_description}
 use Rattle.posix_defs.specs.Files.SocketNames.{after_freeing, listener_at, none_bound_to, unnamed}
-use Rattle.posix_defs.specs.Files.State.{Files, is_number, opens, with_descriptions, with_tree}
+use Rattle.posix_defs.specs.Files.State.{Files, is_number, node_of, opens, with_descriptions, with_tree}
 use Rattle.posix_defs.specs.Files.Closing.{target_closed}
 use Rattle.posix_defs.specs.Files.Whole.{named_sockets}
 use Rattle.posix_defs.specs.Calls.Opened.{Opened, opened_at}
@@ -33,6 +33,7 @@ use Rattle.machine_laws.specs.FileSteps.{IsStep}
 use Rattle.machine_laws.specs.Reached.{IsReached}
 use Rattle.machine_laws.proofs.Places.{not_some, naming}
 use Rattle.machine_laws.specs.Joined.{AreJoined}
+use Rattle.machine_laws.proofs.FifoPlaces.{left_holds}
 use Rattle.machine_laws.proofs.Closings.{IsClosedUnder, anybody, close_holds, closed_by_holds, exec_holds}
 use Rattle.machine_laws.proofs.Inductions.{answers_keep, by_induction}
 use Rattle.machine_laws.proofs.Items.{true_false}
@@ -288,7 +289,7 @@ abbrev Holds : Files → Type 0
 Holds files = Joined files.descriptions files.sockets
 
 pub closes : IsClosedUnder anybody Holds
-closes = record { shut = λ files pid fd who joined. joined; gone = λ files place description joined is none. gone files place description joined is description.target refl }
+closes = record { shut = λ files pid fd who joined. joined; wakes = λ files pid who joined. joined; gone = λ files place description joined is none. gone files place description joined is description.target refl }
   where
     no_node : (number socket : ℕ) → OnNode number ≡ OnSocket socket → ⊥
     no_node number socket e = cc
@@ -307,7 +308,10 @@ closes = record { shut = λ files pid fd who joined. joined; gone = λ files pla
             (with_tree (with_descriptions files (with_description files.descriptions place None)) (closed files.tree number)))
         go true = left
         go false = left
-    gone files place description joined is (OnPipe p) on = gone_joined files.descriptions files.sockets joined place description is (λ socket e. no_pipe p socket (sym on ∙ e))
+    gone files place description joined is (OnPipe p) on = left_holds Holds _ (node_of files (OnPipe p)) left (λ tree. left)
+      where
+        left : Joined (with_description files.descriptions place None) files.sockets
+        left = gone_joined files.descriptions files.sockets joined place description is (λ socket e. no_pipe p socket (sym on ∙ e))
     gone files place description joined is (OnSocket socket) on = closed_joined files.descriptions files.sockets joined place description socket is on
 
 -- as many bytes are read of memory as are asked for
@@ -417,11 +421,12 @@ module _ (plain : Plain) (pid : ℕ) (call : Call) (next : Files) (joined : Hold
   step_joined (step.marks fd opened cloexec named_it is) = same _ is refl refl
   step_joined (step.closes fd opened named_it is) = by _ is (close_holds anybody Holds closes plain.files pid (count_of fd) tt joined)
   step_joined (step.describes fd opened description named_it target access between is) = by _ is (described fd opened description named_it target access)
-  step_joined (step.opens path flags fd found which free led is) = by _ is (one _ (λ socket e. no_node _ socket e))
+  step_joined (step.opens path flags fd found which free led other is) = by _ is (one _ (λ socket e. no_node _ socket e))
   step_joined (step.writes fd addr n done opened number at offset written reaches wrote is) = by _ is (described fd opened _ reaches.named refl refl)
   step_joined (step.writes_at fd addr n opened number at written reaches wrote is) = same _ is refl refl
   step_joined (step.resizes fd opened number size tree reaches sized is) = same _ is refl refl
   step_joined (step.makes path made_it which led is) = same _ is refl refl
+  step_joined (step.makes_fifo path made_it which led is) = same _ is refl refl
   step_joined (step.removes path tree which led is) = same _ is refl refl
   step_joined (step.links old new tree which led is) = same _ is refl refl
   step_joined (step.unlinks path left which led is) = by _ is (renamed_joined plain.files.descriptions plain.files.sockets joined left.0)
@@ -429,6 +434,9 @@ module _ (plain : Plain) (pid : ℕ) (call : Call) (next : Files) (joined : Hold
   step_joined (step.pipes free_two free is) = by _ is (two _ _ (λ socket e. no_pipe _ socket e) (λ socket e. no_pipe _ socket e))
   step_joined (step.takes fd addr n opened place k which named_it on may moves is) = same _ is refl refl
   step_joined (step.puts fd addr n done opened place k which named_it on may moves is) = same _ is refl refl
+  step_joined (step.joins path flags fd place found openings opens at waits is) = by _ is (one _ (λ socket e. no_pipe _ socket e))
+  step_joined (step.begins path flags fd found openings opens at waits is) = by _ is (one _ (λ socket e. no_pipe _ socket e))
+  step_joined (step.meets path flags opening which begun is) = same _ is refl refl
   step_joined (step.sockets fd free is) = by _ is made
   step_joined (step.pairs free_two free is) = by _ is (pair_joined plain.files.descriptions plain.files.sockets joined)
   step_joined (step.binds fd path opened place made_it which named_it on fine led is) = resocketed _ is refl (named_linked plain.files.sockets place (Some made_it.0) joined.0 (there fd opened place named_it on))

@@ -37,7 +37,8 @@ use Rattle.machine_laws.proofs.Places.{not_some, some_same}
 use Rattle.answer_laws.proofs.Shapes.{machine_shape}
 use Rattle.machine_laws.proofs.Stepping.{step_of}
 use Rattle.machine_laws.specs.Bytes.{AreBytes, HasMemoryBytes}
-use Rattle.machine_laws.specs.Piped.{pipe_in}
+use Rattle.machine_laws.specs.Piped.{ArePiped, pipe_in}
+use Rattle.machine_laws.proofs.Piping.{reached_piped}
 use Rattle.machine_laws.specs.Texts.{ArePathBytes, HasTexts}
 use Rattle.machine_laws.proofs.Inductions.{by_induction}
 use Rattle.machine_laws.proofs.Items.{true_false}
@@ -52,14 +53,14 @@ use Rattle.machine_laws.proofs.ProcessesKept.{AreKept, KeepsProcess, child_kept,
 
 -- what is kept of the tree, of bytes and of directories
 pub record Whole (plain : Plain) : Type 0 where
-  pub rooted : Rooted plain.files.descriptions plain.files.tree plain.files.sockets
+  pub rooted : Rooted plain.files.descriptions plain.files.tree plain.files.sockets plain.files.pipes
   pub pipes : (place : ℕ) (pipe : Pipe) → pipe_in plain.files.pipes place ≡ Some pipe → AreBytes pipe.bytes
   pub memory : (pid : ℕ) → HasMemoryBytes (memory_of plain.table pid)
   pub directories : (pid : ℕ) → is_alive plain.table pid ≡ true → is_directory plain.files.tree (directory_of plain.table pid) ≡ true
 
 -- the same, of each process that is there
 record Holds (plain : Plain) : Type 0 where
-  rooted : Rooted plain.files.descriptions plain.files.tree plain.files.sockets
+  rooted : Rooted plain.files.descriptions plain.files.tree plain.files.sockets plain.files.pipes
   pipes : HasPipeBytes plain.files.pipes
   table : AreKept plain.files.tree plain.table
 
@@ -82,7 +83,8 @@ put_memory plain pid call memory holds stores_bytes put = go put
     go (shape.stores addr bytes which is) = subst HasMemoryBytes (sym is) (stored_bytes (memory_of plain.table pid) (count_of addr) bytes (stores_bytes addr bytes which) before)
     go (shape.reads addr bytes are is) = subst HasMemoryBytes (sym is) (stored_bytes (memory_of plain.table pid) (count_of addr) bytes (read_are bytes are) before)
 
-module _ (script : Script) (plain : Plain) (pid : ℕ) (holds : Holds plain) (joined : Joined plain.files.descriptions plain.files.sockets) where
+module _ (script : Script) (plain : Plain) (pid : ℕ) (holds : Holds plain) (joined : Joined plain.files.descriptions plain.files.sockets)
+    (piped : ArePiped plain.files.descriptions plain.files.pipes) where
   answered_holds : (base : Plain) (said : Reply) → Holds base → Holds (answered script base pid said)
   answered_holds base said held = record { rooted = held.rooted; pipes = held.pipes; table = held.table }
 
@@ -91,7 +93,7 @@ module _ (script : Script) (plain : Plain) (pid : ℕ) (holds : Holds plain) (jo
   after_holds files table after change = record { rooted = after.rooted; pipes = after.pipes; table = change (table_on plain.files.tree files.tree plain.table after.directories holds.table) }
 
   die_holds : (who status : ℕ) → Holds (die plain who status)
-  die_holds who status = after_holds (closed_by plain.files who) (die_in plain.table who status) (closed_after plain holds.rooted holds.pipes joined who) (die_kept (closed_by plain.files who).tree plain.table who status)
+  die_holds who status = after_holds (closed_by plain.files who) (die_in plain.table who status) (closed_after plain holds.rooted holds.pipes joined piped who) (die_kept (closed_by plain.files who).tree plain.table who status)
 
   by_shape : (call : Call) → ((addr : ℤ) (bytes : List ℕ) → call ≡ calls.Store addr bytes → AreBytes bytes) → (given : Answer) → LeadsTo (λ next. After plain next.files) given → HasShape script plain pid call given → LeadsTo Holds given
   by_shape call stores_bytes given stepped (shape.blocks may is) = subst (LeadsTo Holds) (sym is) tt
@@ -116,8 +118,10 @@ module _ (script : Script) (plain : Plain) (pid : ℕ) (holds : Holds plain) (jo
       }))
   by_shape call stores_bytes given stepped (shape.parts files moved part is) = subst (LeadsTo Holds) (sym is)
       (let it = after_holds files plain.table (subst (LeadsTo (λ next. After plain next.files)) is stepped) (λ kept. kept) in record { rooted = it.rooted; pipes = it.pipes; table = it.table })
+  by_shape call stores_bytes given stepped (shape.awaits files begun is) = subst (LeadsTo Holds) (sym is)
+      (let it = after_holds files plain.table (subst (LeadsTo (λ next. After plain next.files)) is stepped) (λ kept. kept) in record { rooted = it.rooted; pipes = it.pipes; table = it.table })
   by_shape call stores_bytes given stepped (shape.starts place is) = subst (LeadsTo Holds) (sym is)
-      (let it = after_holds (after_exec_of plain.files pid) (with_memory plain.table pid no_memory) (exec_after plain holds.rooted holds.pipes joined pid)
+      (let it = after_holds (after_exec_of plain.files pid) (with_memory plain.table pid no_memory) (exec_after plain holds.rooted holds.pipes joined piped pid)
       (memory_kept (after_exec_of plain.files pid).tree plain.table pid no_memory no_memory_bytes) in record { rooted = it.rooted; pipes = it.pipes; table = it.table })
   by_shape call stores_bytes given stepped (shape.forks is) = subst (LeadsTo Holds) (sym is)
       (answered_holds (with_child script plain pid) (Val (pos (last_pid plain + 1))) (record { rooted = holds.rooted; pipes = holds.pipes; table = child_kept plain.files.tree plain.table pid holds.table }))
@@ -134,7 +138,7 @@ module _ (script : Script) (plain : Plain) (pid : ℕ) (holds : Holds plain) (jo
       go (Some errno) is = subst (LeadsTo Holds) (sym (ap (λ f. unless_wrong script plain pid f (answer_to script plain pid call)) is)) (answered_holds plain (Fail errno) holds)
       go None is = by_shape call stores_bytes (machine script plain pid call)
           (steps_lead plain pid call (λ next. After plain next.files)
-          (λ goes_on next stepped. step_after plain pid call next.files holds.rooted holds.pipes joined (held_memory plain.files.tree plain.table holds.table pid)
+          (λ goes_on next stepped. step_after plain pid call next.files holds.rooted holds.pipes joined piped (held_memory plain.files.tree plain.table holds.table pid)
           (held_directory plain.files.tree plain.table holds.table pid alive) is paths stepped) (machine script plain pid call) (step_of script plain pid call))
           (machine_shape script plain pid call)
 
@@ -148,12 +152,14 @@ boot_holds script texts = record {
     unlinked = unlinked;
     wells = λ place. new_well (new_tree script.disk);
     alone = record { one_socket = λ one other number here there. absurd (not_some refl here) };
+    fifos = λ place number of. absurd (not_some refl of);
+    sole = λ place other number one two. absurd (not_some refl one);
   };
   pipes = λ place pipe is. absurd (not_some refl is);
   table = first;
 }
   where
-    unlinked : (n : ℕ) → is_in_use (new_tree script.disk) n ≡ true → links_at (new_tree script.disk) n ≡ 0 → Opener [] n
+    unlinked : (n : ℕ) → is_in_use (new_tree script.disk) n ≡ true → links_at (new_tree script.disk) n ≡ 0 → Opener [] [] n
     unlinked zero used none = absurd (true_false false used refl)
     unlinked (suc zero) used none = absurd (let e : 1 ≡ 0 = none in omega arith)
     unlinked (suc (suc k)) used none = absurd (true_false (is_in_use (new_tree script.disk) (suc (suc k))) used (ap is_some (none_in (table_nodes script.disk - 1) k)))
@@ -169,10 +175,10 @@ boot_holds script texts = record {
 holds_everywhere : (script : Script) → HasTexts script → (plain : Plain) → IsReached script plain → Holds plain
 holds_everywhere script texts plain reached = by_induction script Holds (record {
   boot = boot_holds script texts;
-  answer = λ before pid reached_it holds alive. answers_hold script before pid holds (joined_holds script before reached_it) (call_of script before pid) alive
+  answer = λ before pid reached_it holds alive. answers_hold script before pid holds (joined_holds script before reached_it) (reached_piped script before reached_it) (call_of script before pid) alive
       (λ path here. texts.paths (control_of before pid) path here) (λ addr bytes which. texts.stored (control_of before pid) addr bytes which);
   refuse = λ before pid reached_it holds. record { rooted = holds.rooted; pipes = holds.pipes; table = holds.table };
-  kill = λ before pid status reached_it holds. die_holds script before pid holds (joined_holds script before reached_it) pid status;
+  kill = λ before pid status reached_it holds. die_holds script before pid holds (joined_holds script before reached_it) (reached_piped script before reached_it) pid status;
 }) reached
 
 pub reached_whole : (script : Script) → HasTexts script → (plain : Plain) → IsReached script plain → Whole plain

@@ -2,6 +2,7 @@ mod Between
 pub mod Signalled
 pub mod Stepping
 pub mod Leading
+pub mod FifoPlaces
 pub mod Fading
 pub mod Untouched
 pub mod PipeQueues
@@ -21,6 +22,7 @@ pub mod Named
 pub mod Joining
 pub mod NodesAfter
 pub mod Openers
+pub mod FifoEnds
 pub mod MovedBytes
 pub mod Unnamed
 pub mod Rooting
@@ -32,6 +34,7 @@ pub mod ProcessesKept
 pub mod Keeping
 pub mod Texting
 pub mod Wholeness
+pub mod Waiting
 pub mod Histories
 pub mod Turning
 pub mod Tables

@@ -14,10 +14,9 @@ use Rattle.posix_defs.specs.Ending.{closed_by, die}
 use Rattle.posix_defs.specs.Plain.{Plain, boot_plain, last_pid}
 use Rattle.posix_defs.specs.Machine.{machine}
 use Rattle.posix_defs.specs.Process.{is_alive}
-use Rattle.posix_defs.specs.TreeChanges.{closed}
 use Rattle.posix_defs.specs.Files.Descriptors.{Descriptor, Descriptors, Two, and_next, descriptor_at, is_cloexec, is_named, lowest_free, lowest_free_from, names_place, none_open, two_lowest_free, with_descriptor}
 use Rattle.posix_defs.specs.Files.Descriptions.{Target, OnNode, OnPipe, OnSocket, Access, Description, Descriptions, description_at, with_description}
-use Rattle.posix_defs.specs.Files.State.{Files, boot_files, descriptors_of, described_as, opened_as, opens, with_descriptions, with_heir, with_open, with_tree}
+use Rattle.posix_defs.specs.Files.State.{Files, HalfOpen, boot_files, descriptors_of, described_as, node_of, opened_as, with_descriptions, with_heir, with_open, with_opening, with_openings, with_tree}
 use Rattle.posix_defs.specs.Files.Closing.{after_close, after_closes, after_end_of, after_ends_of, after_exec_of, all_numbers, close_in, description_gone, gone_in, released, target_closed}
 use Rattle.posix_defs.specs.Calls.Opened.{Opened}
 use Rattle.posix_defs.specs.Calls.OnDescriptors.{cloexec_set, shared_at}
@@ -30,6 +29,7 @@ use Rattle.machine_laws.specs.Described.{AreDescribed}
 use Rattle.machine_laws.specs.Placed.{IsPlaced}
 use Rattle.machine_laws.proofs.Fading.{is_gone}
 use Rattle.machine_laws.proofs.Leading.{steps_lead}
+use Rattle.machine_laws.proofs.FifoPlaces.{left_holds, node_holds}
 use Rattle.machine_laws.proofs.Places.{IsNaming, free_at, naming, not_some, opener_made, others_after, own_after, some_same, there_within}
 use Rattle.machine_laws.proofs.SharedOffsets.{heirs_open, stay_open}
 use Rattle.machine_laws.proofs.Shutting.{close_one, open_shuts, released_same, same_of, target_same}
@@ -304,12 +304,8 @@ marked_told files pid fd old cloexec told held = record {
 -- ---- closing
 
 pub target_descriptions : (files : Files) (access : Access) (target : Target) → (target_closed files access target).descriptions ≡ files.descriptions
-target_descriptions files access (OnNode number) = go (opens files number)
-  where
-    go : (b : Bool) → (cond b files (with_tree files (closed files.tree number))).descriptions ≡ files.descriptions
-    go true = refl
-    go false = refl
-target_descriptions files access (OnPipe place) = refl
+target_descriptions files access (OnNode number) = node_holds (λ left. left.descriptions ≡ files.descriptions) files number refl (λ tree. refl)
+target_descriptions files access (OnPipe place) = left_holds (λ left. left.descriptions ≡ files.descriptions) _ (node_of files (OnPipe place)) refl (λ tree. refl)
 target_descriptions files access (OnSocket place) = refl
 
 module _ (files : Files) (told : Told files) (pid fd : ℕ) (descriptor : Descriptor) (held : descriptor_at (descriptors_of files pid) fd ≡ Some descriptor) where
@@ -380,7 +376,7 @@ exec_told files pid told = closes_told files pid (filter (is_cloexec (descriptor
 
 end_told : (files : Files) (pid : ℕ) → Told files → Told (after_end_of files pid)
 unfolding after_end_of
-end_told files pid told = closes_told files pid all_numbers told
+end_told files pid told = told_same (after_closes files pid all_numbers) (with_opening (after_closes files pid all_numbers) pid None) (closes_told files pid all_numbers told) refl (λ place. refl)
 
 ends_told : (files : Files) (pids : List ℕ) → Told files → Told (after_ends_of files pids)
 ends_told files [] told = told
@@ -457,6 +453,10 @@ module _ (plain : Plain) (pid : ℕ) (call : Call) (next : Files) (told : Told p
       positive (subst (λ list. pid ≤ length list) (sym descriptors) made)
       (subst (λ list. fd < length list) (sym as_before) free.0) (ap (λ list. descriptor_at list fd) as_before ∙ free.1)
 
+  -- who waits for the other side of a FIFO is another
+  waited : (files : Files) (openings : List (Option HalfOpen)) → Told files → Told (with_openings files openings)
+  waited files openings holds = told_same files (with_openings files openings) holds refl (λ place. refl)
+
   two_told : (files : Files) (two : Two) (first_is second_is : Description) → files.descriptors ≡ plain.files.descriptors → files.descriptions ≡ plain.files.descriptions
       → two_lowest_free (descriptors_of plain.files pid) ≡ Some two → Told (opened_as (opened_as files pid two.first false first_is) pid two.second false second_is)
   two_told files two first_is second_is descriptors descriptions lowest =
@@ -506,12 +506,13 @@ module _ (plain : Plain) (pid : ℕ) (call : Call) (next : Files) (told : Told p
   step_told (step.marks fd opened cloexec named is) = by _ is (marks_told fd opened cloexec (naming plain.files pid fd opened named))
   step_told (step.closes fd opened named is) = by _ is (close_told plain.files pid (count_of fd) told)
   step_told (step.describes fd opened description named target access between is) = by _ is (let naming_it = naming plain.files pid fd opened named in described_told plain.files opened.place opened.is description told naming_it.there)
-  step_told (step.opens path flags fd found which free led is) = by _ is (one _ fd _ _ refl refl free)
+  step_told (step.opens path flags fd found which free led other is) = by _ is (one _ fd _ _ refl refl free)
   step_told (step.writes fd addr n done opened number at offset written reaches wrote is) = by _ is (let naming_it = naming plain.files pid fd opened reaches.named in
       described_told (with_tree plain.files written.1) opened.place opened.is _ (told_same plain.files (with_tree plain.files written.1) told refl (λ place. refl)) naming_it.there)
   step_told (step.writes_at fd addr n opened number at written reaches wrote is) = same _ is refl refl
   step_told (step.resizes fd opened number size tree reaches sized is) = same _ is refl refl
   step_told (step.makes path made_it which led is) = same _ is refl refl
+  step_told (step.makes_fifo path made_it which led is) = same _ is refl refl
   step_told (step.removes path tree which led is) = same _ is refl refl
   step_told (step.links old new tree which led is) = same _ is refl refl
   step_told (step.unlinks path left which led is) = same _ is refl refl
@@ -519,6 +520,9 @@ module _ (plain : Plain) (pid : ℕ) (call : Call) (next : Files) (told : Told p
   step_told (step.pipes two free is) = by _ is (two_told _ two _ _ refl refl free)
   step_told (step.takes fd addr n opened place k which named on may moves is) = same _ is refl refl
   step_told (step.puts fd addr n done opened place k which named on may moves is) = same _ is refl refl
+  step_told (step.joins path flags fd place found openings opens at waits is) = by _ is (waited _ openings (one _ fd _ _ refl refl opens.free))
+  step_told (step.begins path flags fd found openings opens at waits is) = by _ is (waited _ openings (one _ fd _ _ refl refl opens.free))
+  step_told (step.meets path flags opening which begun is) = same _ is refl refl
   step_told (step.sockets fd free is) = by _ is (one _ fd _ _ refl refl free)
   step_told (step.pairs two free is) = by _ is (two_told _ two _ _ refl refl free)
   step_told (step.binds fd path opened place made_it which named on fine led is) = same _ is refl refl

@@ -12,8 +12,8 @@ use Rattle.posix_defs.specs.DiskContents.{own_name, parent_name}
 use Rattle.posix_defs.specs.FileBytes.{resized}
 use Rattle.posix_defs.specs.IsTree.{IsTree}
 use Rattle.posix_defs.specs.Paths.{IsLed, resolve}
-use Rattle.posix_defs.specs.PathCalls.{Opening, bind_led, bind_path, ends_in, freed_by, goes_below, is_empty, is_held, is_socket, is_socket_kind, kind_in, kind_of_content, link_from, link_path, link_to, mkdir_led, mkdir_path, node_led, open_led, open_path, open_there, rename_away, rename_led, rename_named, rename_onto, rename_path, rename_root, rmdir_led, rmdir_path, unless, unlink_led, unlink_path}
-use Rattle.posix_defs.specs.Tree.{Content, File, Directory, SocketName, Node, Tree, is_directory, is_directory_content, is_directory_in, is_in_use, links_at, links_in, node_at, with_node}
+use Rattle.posix_defs.specs.PathCalls.{Opening, bind_led, bind_path, ends_in, freed_by, goes_below, is_empty, is_fifo, is_fifo_kind, is_held, is_socket, is_socket_kind, kind_in, kind_of_content, link_from, link_path, link_to, mkdir_led, mkdir_path, mkfifo_led, mkfifo_path, node_led, open_led, open_path, open_there, rename_away, rename_led, rename_named, rename_onto, rename_path, rename_root, rmdir_led, rmdir_path, unless, unlink_led, unlink_path}
+use Rattle.posix_defs.specs.Tree.{Content, File, Directory, SocketName, Fifo, Node, Tree, is_directory, is_directory_content, is_directory_in, is_in_use, links_at, links_in, node_at, with_node}
 use Rattle.posix_defs.specs.TreeChanges.{entry_aimed, entry_put, entry_renamed, entry_taken, hung, hung_if_directory, left_in, left_of, link, link_added, link_dropped, make, rename_over, rename_to, takes_entry, under, unlink, with_bytes, with_bytes_in, with_content, with_entries, with_entries_in, with_new}
 use Rattle.posix_defs.proofs.TreeNodes.{IsNumber, directory_in_use, free_is, is_number, length-with_node, node_at-with_node, node_at-with_node_other, seen_same}
 use Rattle.tree_laws.proofs.FoundAfter.{made_found}
@@ -30,26 +30,30 @@ pub record Looks (old new : Tree) : Type 0 where
   pub used : (n : ℕ) → is_in_use new n ≡ is_in_use old n
   pub directories : (n : ℕ) → is_directory new n ≡ is_directory old n
   pub sockets : (n : ℕ) → is_socket new n ≡ is_socket old n
+  pub fifos : (n : ℕ) → is_fifo new n ≡ is_fifo old n
   pub links : (n : ℕ) → links_at new n ≡ links_at old n
 
 pub looks_same : (tree : Tree) → Looks tree tree
-looks_same tree = record { used = λ n. refl; directories = λ n. refl; sockets = λ n. refl; links = λ n. refl }
+looks_same tree = record { used = λ n. refl; directories = λ n. refl; sockets = λ n. refl; fifos = λ n. refl; links = λ n. refl }
 
 pub looks_on : (old between new : Tree) → Looks old between → Looks between new → Looks old new
 looks_on old between new one two = record {
   used = λ n. two.used n ∙ one.used n;
   directories = λ n. two.directories n ∙ one.directories n;
   sockets = λ n. two.sockets n ∙ one.sockets n;
+  fifos = λ n. two.fifos n ∙ one.fifos n;
   links = λ n. two.links n ∙ one.links n;
 }
 
 -- what a node holds changes, and not its kind
 content_looks : (tree : Tree) (number : ℕ) (change : Content → Content) → ((content : Content) → is_directory_content (change content) ≡ is_directory_content content)
-    → ((content : Content) → is_socket_kind (kind_of_content (change content)) ≡ is_socket_kind (kind_of_content content)) → Looks tree (with_content tree number change)
-content_looks tree number change directory socket = record {
+    → ((content : Content) → is_socket_kind (kind_of_content (change content)) ≡ is_socket_kind (kind_of_content content))
+    → ((content : Content) → is_fifo_kind (kind_of_content (change content)) ≡ is_fifo_kind (kind_of_content content)) → Looks tree (with_content tree number change)
+content_looks tree number change directory socket fifo = record {
   used = seen_same is_some tree number changed (used (node_at tree number));
   directories = seen_same is_directory_in tree number changed (directories (node_at tree number));
   sockets = seen_same (λ o. is_socket_kind (kind_in o)) tree number changed (sockets (node_at tree number));
+  fifos = seen_same (λ o. is_fifo_kind (kind_in o)) tree number changed (fifos (node_at tree number));
   links = seen_same links_in tree number changed (links (node_at tree number));
 }
   where
@@ -68,48 +72,76 @@ content_looks tree number change directory socket = record {
     sockets None = refl
     sockets (Some node) = socket node.content
 
+    fifos : (o : Option Node) → is_fifo_kind (kind_in (option_map {T = Node} (λ node. record node { content = change node.content }) o)) ≡ is_fifo_kind (kind_in o)
+    fifos None = refl
+    fifos (Some node) = fifo node.content
+
     links : (o : Option Node) → links_in (option_map {T = Node} (λ node. record node { content = change node.content }) o) ≡ links_in o
     links None = refl
     links (Some node) = refl
 
 pub entries_look : (tree : Tree) (dir : ℕ) (change : List DirEntry → List DirEntry) → Looks tree (with_entries tree dir change)
-entries_look tree dir change = content_looks tree dir (with_entries_in change) directory socket
+entries_look tree dir change = content_looks tree dir (with_entries_in change) directory socket fifo
   where
     directory : (content : Content) → is_directory_content (with_entries_in change content) ≡ is_directory_content content
     directory (File bytes) = refl
     directory (Directory parent entries) = refl
     directory SocketName = refl
+    directory Fifo = refl
 
     socket : (content : Content) → is_socket_kind (kind_of_content (with_entries_in change content)) ≡ is_socket_kind (kind_of_content content)
     socket (File bytes) = refl
     socket (Directory parent entries) = refl
     socket SocketName = refl
+    socket Fifo = refl
+
+    fifo : (content : Content) → is_fifo_kind (kind_of_content (with_entries_in change content)) ≡ is_fifo_kind (kind_of_content content)
+    fifo (File bytes) = refl
+    fifo (Directory parent entries) = refl
+    fifo SocketName = refl
+    fifo Fifo = refl
 
 pub bytes_look : (tree : Tree) (number : ℕ) (change : List ℕ → List ℕ) → Looks tree (with_bytes tree number change)
-bytes_look tree number change = content_looks tree number (with_bytes_in change) directory socket
+bytes_look tree number change = content_looks tree number (with_bytes_in change) directory socket fifo
   where
     directory : (content : Content) → is_directory_content (with_bytes_in change content) ≡ is_directory_content content
     directory (File bytes) = refl
     directory (Directory parent entries) = refl
     directory SocketName = refl
+    directory Fifo = refl
 
     socket : (content : Content) → is_socket_kind (kind_of_content (with_bytes_in change content)) ≡ is_socket_kind (kind_of_content content)
     socket (File bytes) = refl
     socket (Directory parent entries) = refl
     socket SocketName = refl
+    socket Fifo = refl
+
+    fifo : (content : Content) → is_fifo_kind (kind_of_content (with_bytes_in change content)) ≡ is_fifo_kind (kind_of_content content)
+    fifo (File bytes) = refl
+    fifo (Directory parent entries) = refl
+    fifo SocketName = refl
+    fifo Fifo = refl
 
 hung_looks : (tree : Tree) (dir parent : ℕ) → Looks tree (hung tree dir parent)
-hung_looks tree dir parent = content_looks tree dir (under parent) directory socket
+hung_looks tree dir parent = content_looks tree dir (under parent) directory socket fifo
   where
     directory : (content : Content) → is_directory_content (under parent content) ≡ is_directory_content content
     directory (File bytes) = refl
     directory (Directory other entries) = refl
     directory SocketName = refl
+    directory Fifo = refl
 
     socket : (content : Content) → is_socket_kind (kind_of_content (under parent content)) ≡ is_socket_kind (kind_of_content content)
     socket (File bytes) = refl
     socket (Directory other entries) = refl
     socket SocketName = refl
+    socket Fifo = refl
+
+    fifo : (content : Content) → is_fifo_kind (kind_of_content (under parent content)) ≡ is_fifo_kind (kind_of_content content)
+    fifo (File bytes) = refl
+    fifo (Directory other entries) = refl
+    fifo SocketName = refl
+    fifo Fifo = refl
 
 hung_if_looks : (tree : Tree) (number parent : ℕ) → Looks tree (hung_if_directory tree number parent)
 hung_if_looks tree number parent = go (is_directory tree number)
@@ -131,6 +163,7 @@ pub record Stays (old new : Tree) (n : ℕ) : Type 0 where
   pub used : is_in_use new n ≡ true
   pub directory : is_directory new n ≡ is_directory old n
   pub socket : is_socket new n ≡ is_socket old n
+  pub fifo : is_fifo new n ≡ is_fifo old n
 
 -- Each node stays or may go, and who has no link any more had none before or is opened.
 pub record Turns (old new : Tree) (opened busy : ℕ → Bool) (freed : Option ℕ) : Type 0 where
@@ -139,14 +172,14 @@ pub record Turns (old new : Tree) (opened busy : ℕ → Bool) (freed : Option �
 
 pub turns_of : (old new : Tree) (opened busy : ℕ → Bool) (freed : Option ℕ) → Looks old new → Turns old new opened busy freed
 turns_of old new opened busy freed looks = record {
-  each = λ n used. inl (record { used = looks.used n ∙ used; directory = looks.directories n; socket = looks.sockets n });
+  each = λ n used. inl (record { used = looks.used n ∙ used; directory = looks.directories n; socket = looks.sockets n; fifo = looks.fifos n });
   unlinked = λ n used none. inl (sym (looks.used n) ∙ used, sym (looks.links n) ∙ none);
 }
 
 looks_turn : (old between new : Tree) (opened busy : ℕ → Bool) (freed : Option ℕ) → Looks old between → Turns between new opened busy freed → Turns old new opened busy freed
 looks_turn old between new opened busy freed looks turns = record {
   each = λ n used. elim (turns.each n (looks.used n ∙ used)) [
-    | inl stays ↦ inl (record { used = stays.used; directory = stays.directory ∙ looks.directories n; socket = stays.socket ∙ looks.sockets n })
+    | inl stays ↦ inl (record { used = stays.used; directory = stays.directory ∙ looks.directories n; socket = stays.socket ∙ looks.sockets n; fifo = stays.fifo ∙ looks.fifos n })
     | inr goes ↦ inr (record {
       directory = λ is. goes.directory (looks.directories n ∙ is);
       socket = λ is. goes.socket (looks.sockets n ∙ is);
@@ -162,7 +195,7 @@ looks_turn old between new opened busy freed looks turns = record {
 turn_looks : (old between new : Tree) (opened busy : ℕ → Bool) (freed : Option ℕ) → Turns old between opened busy freed → Looks between new → Turns old new opened busy freed
 turn_looks old between new opened busy freed turns looks = record {
   each = λ n used. elim (turns.each n used) [
-    | inl stays ↦ inl (record { used = looks.used n ∙ stays.used; directory = looks.directories n ∙ stays.directory; socket = looks.sockets n ∙ stays.socket })
+    | inl stays ↦ inl (record { used = looks.used n ∙ stays.used; directory = looks.directories n ∙ stays.directory; socket = looks.sockets n ∙ stays.socket; fifo = looks.fifos n ∙ stays.fifo })
     | inr goes ↦ inr goes
   ];
   unlinked = λ n used none. turns.unlinked n (sym (looks.used n) ∙ used) (sym (looks.links n) ∙ none);
@@ -185,11 +218,12 @@ dir_or_sock (Some node) dir sock = go node.content dir sock
     go (File bytes) d s = true_false false d refl
     go (Directory parent entries) d s = true_false false s refl
     go SocketName d s = true_false false d refl
+    go Fifo d s = true_false false d refl
 
 -- another node than the one that changes
 others_stay : (tree : Tree) (number : ℕ) (there : Option Node) (n : ℕ) → n ≢ number → is_in_use tree n ≡ true → Stays tree (with_node tree number there) n
 others_stay tree number there n apart used = let same = node_at-with_node_other tree number n there apart in
-    record { used = ap is_some same ∙ used; directory = ap is_directory_in same; socket = ap (λ o. is_socket_kind (kind_in o)) same }
+    record { used = ap is_some same ∙ used; directory = ap is_directory_in same; socket = ap (λ o. is_socket_kind (kind_in o)) same; fifo = ap (λ o. is_fifo_kind (kind_in o)) same }
 
 others_unlinked : (tree : Tree) (number : ℕ) (there : Option Node) (n : ℕ) → n ≢ number → is_in_use (with_node tree number there) n ≡ true → links_at (with_node tree number there) n ≡ 0
     → (is_in_use tree n ≡ true) × (links_at tree n ≡ 0)
@@ -210,6 +244,7 @@ dropped_turns tree number held opened busy freed used goes kept = go (node_at tr
         used = seen_same is_some tree number (Some (record node { links = node.links - 1 })) (sym (ap is_some is)) n ∙ n_used;
         directory = seen_same is_directory_in tree number (Some (record node { links = node.links - 1 })) (sym (ap is_directory_in is)) n;
         socket = seen_same (λ o. is_socket_kind (kind_in o)) tree number (Some (record node { links = node.links - 1 })) (sym (ap (λ o. is_socket_kind (kind_in o)) is)) n;
+        fifo = seen_same (λ o. is_fifo_kind (kind_in o)) tree number (Some (record node { links = node.links - 1 })) (sym (ap (λ o. is_fifo_kind (kind_in o)) is)) n;
       });
       unlinked = λ n n_used none. elim (eqb_tells n number) [
         | inr apart ↦ inl (others_unlinked tree number (Some (record node { links = node.links - 1 })) n apart.1 n_used none)
@@ -308,6 +343,10 @@ link_turns tree dir name number after opened busy freed answered = subst (λ t. 
     socket_same None = refl
     socket_same (Some node) = refl
 
+    fifo_same : (o : Option Node) → is_fifo_kind (kind_in (more o)) ≡ is_fifo_kind (kind_in o)
+    fifo_same None = refl
+    fifo_same (Some node) = refl
+
     some_link : (o : Option Node) → is_some o ≡ true → links_in (more o) ≡ 0 → ⊥
     some_link None used none = true_false false used refl
     some_link (Some node) used none = absurd (let e : node.links + 1 ≡ 0 = none in omega arith)
@@ -318,6 +357,7 @@ link_turns tree dir name number after opened busy freed answered = subst (λ t. 
         used = seen_same is_some tree number (more (node_at tree number)) (used_same (node_at tree number)) n ∙ used;
         directory = seen_same is_directory_in tree number (more (node_at tree number)) (directory_same (node_at tree number)) n;
         socket = seen_same (λ o. is_socket_kind (kind_in o)) tree number (more (node_at tree number)) (socket_same (node_at tree number)) n;
+        fifo = seen_same (λ o. is_fifo_kind (kind_in o)) tree number (more (node_at tree number)) (fifo_same (node_at tree number)) n;
       });
       unlinked = λ n used none. elim (eqb_tells n number) [
         | inr apart ↦ inl (others_unlinked tree number (more (node_at tree number)) n apart.1 used none)
@@ -433,19 +473,22 @@ there_opens tree how node number after used at =
 pub record Opened (tree after : Tree) (opened busy : ℕ → Bool) (writes : Bool) (number : ℕ) : Type 0 where
   pub turns : Turns tree after opened busy None
   pub opens : Opens after writes number
+  -- a FIFO was there before, and there is none more
+  pub fifo : is_fifo after number ≡ true → is_fifo tree number ≡ true
 
 open_led_is : (tree : Tree) (how : Opening) (led : Walked) (number : ℕ) (after : Tree) (opened busy : ℕ → Bool) → IsTree tree → IsLed tree led → open_led tree how led ≡ Ok (number, after)
     → Opened tree after opened busy how.writes number
 open_led_is tree how (walked.Node n) number after opened busy is there at = let both = there_opens tree how n number after (directory_in_use tree n there) at in
-    record { turns = turns_of tree after opened busy None both.0; opens = both.1 }
+    record { turns = turns_of tree after opened busy None both.0; opens = both.1; fifo = λ is. let looks = both.0 in sym (looks.fifos number) ∙ is }
 open_led_is tree how (walked.Named parent name n slashed) number after opened busy is there at = let both = there_opens tree how n number after (found_in_use tree parent name n is there.1) at in
-    record { turns = turns_of tree after opened busy None both.0; opens = both.1 }
+    record { turns = turns_of tree after opened busy None both.0; opens = both.1; fifo = λ is. let looks = both.0 in sym (looks.fifos number) ∙ is }
 open_led_is tree how (walked.Free dir name slashed) number after opened busy is there at =
     let made = (unless_ok (not how.creates || slashed) errnos.ENOENT (make tree dir name (File [])) (number, after) at).1 in
     let node = (made_found tree dir name (File []) number after there.0 there.1 refl made).1 in
     record {
       turns = make_turns tree dir name (File []) number after opened busy None made;
       opens = record { used = ap is_some node; socket = ap (λ o. is_socket_kind (kind_in o)) node; directory = λ dir_is. absurd (true_false (is_directory after number) dir_is (ap is_directory_in node)) };
+      fifo = λ is. absurd (true_false (is_fifo after number) is (ap (λ o. is_fifo_kind (kind_in o)) node));
     }
 open_led_is tree how (walked.Fail errno) number after opened busy is there at = absurd (err-ok errno (number, after) at)
 
@@ -461,6 +504,16 @@ mkdir_led_turns tree (walked.Fail errno) number after opened busy at = absurd (e
 
 pub mkdir_turns : (tree : Tree) (cwd : ℕ) (path : List ℕ) (number : ℕ) (after : Tree) (opened busy : ℕ → Bool) → mkdir_path tree cwd path ≡ Ok (number, after) → Turns tree after opened busy None
 mkdir_turns tree cwd path number after opened busy answered = mkdir_led_turns tree (resolve tree cwd path) number after opened busy answered
+
+mkfifo_led_turns : (tree : Tree) (led : Walked) (number : ℕ) (after : Tree) (opened busy : ℕ → Bool) → mkfifo_led tree led ≡ Ok (number, after) → Turns tree after opened busy None
+mkfifo_led_turns tree (walked.Node n) number after opened busy at = absurd (err-ok errnos.EEXIST (number, after) at)
+mkfifo_led_turns tree (walked.Named parent name n slashed) number after opened busy at = absurd (err-ok errnos.EEXIST (number, after) at)
+mkfifo_led_turns tree (walked.Free dir name slashed) number after opened busy at =
+    make_turns tree dir name Fifo number after opened busy None (unless_ok slashed errnos.ENOENT (make tree dir name Fifo) (number, after) at).1
+mkfifo_led_turns tree (walked.Fail errno) number after opened busy at = absurd (err-ok errno (number, after) at)
+
+pub mkfifo_turns : (tree : Tree) (cwd : ℕ) (path : List ℕ) (number : ℕ) (after : Tree) (opened busy : ℕ → Bool) → mkfifo_path tree cwd path ≡ Ok (number, after) → Turns tree after opened busy None
+mkfifo_turns tree cwd path number after opened busy answered = mkfifo_led_turns tree (resolve tree cwd path) number after opened busy answered
 
 -- what is bound is a new socket's name
 pub record Binds (tree after : Tree) (opened busy : ℕ → Bool) (number : ℕ) : Type 0 where

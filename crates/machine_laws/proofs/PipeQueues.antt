@@ -1,5 +1,5 @@
 -- A pipe's bytes go in behind and come out in front, whoever puts and takes them.
-use Rattle.std.proofs.Common.{◌≡◌, ℕ, zero, suc, ◌+◌, ◌-◌, ◌<◌, ◌==◌, ℤ, Bool, true, false, cond, List, [], ◌∷◌, ◌++◌, length, take, drop, slice_index_or, Option, None, Some, is_some, unwrap_or, refl, ap, sym, ◌∙◌, subst, ◌⊎◌, inl, inr, arith}
+use Rattle.std.proofs.Common.{◌≡◌, ℕ, zero, suc, ◌+◌, ◌-◌, ◌<◌, ◌≢◌, ◌==◌, ℤ, Bool, true, false, cond, List, [], ◌∷◌, ◌++◌, length, take, drop, slice_index_or, slice_set, Option, None, Some, is_some, unwrap_or, refl, ap, sym, ◌∙◌, subst, ◌⊎◌, inl, inr, arith}
 use Rattle.std.proofs.lemmas.Bool.Decides.{eqb_tells}
 use Rattle.std.proofs.lemmas.List.{get_or-set_same, get_or-set_other, get_or_past, get_or_append_left}
 use Rattle.kabi_types.specs.Arguments.{argument_fault, count_of}
@@ -10,10 +10,10 @@ use Rattle.kabi_types.specs.declared.scripts.Script.{Script}
 use Rattle.posix_defs.specs.Answer.{Answer}
 use Rattle.posix_defs.specs.Machine.{machine, unless_wrong}
 use Rattle.posix_defs.specs.Memory.{is_mapped_range, stored}
-use Rattle.posix_defs.specs.Pipe.{Pipe, Moving, Moves, Blocks, Fails, after_read, after_write, new_pipe, pipe_read, pipe_write}
+use Rattle.posix_defs.specs.Pipe.{Pipe, Moving, Moves, Blocks, Fails, after_read, after_write, new_pipe, pipe_read, pipe_write, with_end}
 use Rattle.posix_defs.specs.Plain.{Plain}
 use Rattle.posix_defs.specs.Process.{memory_of, with_memory}
-use Rattle.posix_defs.specs.Files.Descriptions.{OnPipe, description_at, may_read, may_write}
+use Rattle.posix_defs.specs.Files.Descriptions.{OnPipe, access_of, description_at, may_read, may_write}
 use Rattle.posix_defs.specs.Files.State.{Files, pipe_at, pipe_there, with_pipe}
 use Rattle.posix_defs.specs.Calls.Opened.{Opened, answer_on, on_open, opened_at}
 use Rattle.posix_defs.specs.Calls.Reading.{is_directory_target, read, read_from_pipe, read_target}
@@ -22,8 +22,10 @@ use Rattle.posix_defs.proofs.SignalLemmas.{of_write}
 use Rattle.kern_laws.proofs.TablePlaces.{below_or_not}
 use Rattle.machine_laws.specs.FileSteps as step
 use Rattle.machine_laws.specs.FileSteps.{IsStep, LeadsTo}
-use Rattle.machine_laws.specs.Queueing.{NoneGoes, PutsBehind, Queues, TakesFirst, with_bytes}
+use Rattle.machine_laws.specs.Queueing.{HasBytes, NoneGoes, PutsBehind, Queues, TakesFirst, with_bytes}
 use Rattle.machine_laws.proofs.Fading.{Fades, close_fades, closed_by_fades, exec_fades}
+use Rattle.machine_laws.proofs.FifoPlaces.{IsFifoAt, fifo_at_is, not_zero}
+use Rattle.machine_laws.proofs.Places.{some_same}
 use Rattle.machine_laws.proofs.Leading.{steps_lead}
 use Rattle.machine_laws.proofs.Stepping.{step_of}
 
@@ -164,10 +166,14 @@ module _ (script : Script) (plain : Plain) (pid : ℕ) (fd addr n : ℤ) (opened
 module _ (plain : Plain) (pid : ℕ) (call : Call) (place : ℕ) (pipe : Pipe) (next : Files)
     (there : pipe_there plain.files place ≡ Some pipe) (stay : NoneGoes plain.files next) where
   abbrev Kept : Type 0
-  Kept = (pipe_there next place ≡ Some pipe) ⊎ Queues plain pid call place
+  Kept = HasBytes next place pipe ⊎ Queues plain pid call place
+
+  -- nothing of it has changed
+  unchanged_is : pipe_there next place ≡ Some pipe → HasBytes next place pipe
+  unchanged_is is = record { now = pipe; is = is; bytes = refl; same = λ none. refl }
 
   same : (after : Files) → next ≡ after → after.pipes ≡ plain.files.pipes → Kept
-  same after is pipes = inl (ap (λ files. pipe_there files place) is ∙ ap (λ list. slice_index_or list place None) pipes ∙ there)
+  same after is pipes = inl (unchanged_is (ap (λ files. pipe_there files place) is ∙ ap (λ list. slice_index_or list place None) pipes ∙ there))
 
   -- where something is closed, a description would have gone
   faded : (after : Files) → next ≡ after → (closed : Files) → after.pipes ≡ closed.pipes → after.descriptions ≡ closed.descriptions → Fades plain.files closed → Kept
@@ -183,8 +189,28 @@ module _ (plain : Plain) (pid : ℕ) (call : Call) (place : ℕ) (pipe : Pipe) (
   queued : (other : ℕ) (after : Option Pipe) → next ≡ with_pipe plain.files other after → (other ≡ place → Queues plain pid call place) → Kept
   queued other after is moved = elim (eqb_tells place other) [
     | inl alike ↦ inr (moved (sym alike.1))
-    | inr apart ↦ inl (ap (λ files. pipe_there files place) is ∙ get_or-set_other plain.files.pipes other place after None apart.1 ∙ there)
+    | inr apart ↦ inl (unchanged_is (ap (λ files. pipe_there files place) is ∙ get_or-set_other plain.files.pipes other place after None apart.1 ∙ there))
   ]
+
+  -- a further end of a FIFO is opened
+  joined : {number : ℕ} (other : ℕ) (writing : Bool) → IsFifoAt plain.files.pipes number other → number ≢ 0
+      → pipe_there next place ≡ slice_index_or (slice_set plain.files.pipes other (Some (with_end (pipe_at plain.files other) writing))) place None → Kept
+  joined other writing fifo some_node is = elim (eqb_tells place other) [
+    | inr apart ↦ inl (unchanged_is (is ∙ get_or-set_other plain.files.pipes other place (Some (with_end (pipe_at plain.files other) writing)) None apart.1 ∙ there))
+    | inl alike ↦ let was : pipe_there plain.files other ≡ Some pipe = ap (pipe_there plain.files) (sym alike.1) ∙ there in
+        let same_pipe : pipe_at plain.files other ≡ pipe = ap (λ o. unwrap_or o new_pipe) was in
+        inl (record {
+          now = with_end (pipe_at plain.files other) writing;
+          is = is ∙ ap (λ n. slice_index_or (slice_set plain.files.pipes other (Some (with_end (pipe_at plain.files other) writing))) n None) alike.1
+              ∙ get_or-set_same plain.files.pipes other (Some (with_end (pipe_at plain.files other) writing)) None (within plain.files other pipe was);
+          bytes = same_bytes (pipe_at plain.files other) writing ∙ ap (λ p. p.bytes) same_pipe;
+          same = λ none. absurd (some_node (sym fifo.of ∙ ap (λ p. p.node) (some_same (pipe_there plain.files other) fifo.pipe pipe fifo.is was) ∙ none));
+        })
+  ]
+    where
+      same_bytes : (pipe : Pipe) (writing : Bool) → (with_end pipe writing).bytes ≡ pipe.bytes
+      same_bytes pipe true = refl
+      same_bytes pipe false = refl
 
   pub kept : {goes_on : Bool} → IsStep plain pid call goes_on next → Kept
   kept (step.stays is) = same _ is refl
@@ -193,21 +219,27 @@ module _ (plain : Plain) (pid : ℕ) (call : Call) (place : ℕ) (pipe : Pipe) (
   kept (step.marks fd opened cloexec named is) = same _ is refl
   kept (step.closes fd opened named is) = faded _ is _ refl refl (close_fades plain.files pid (count_of fd))
   kept (step.describes fd opened description named target access between is) = same _ is refl
-  kept (step.opens path flags fd found which free led is) = same _ is refl
+  kept (step.opens path flags fd found which free led other is) = same _ is refl
   kept (step.writes fd addr n done opened number at offset written reaches wrote is) = same _ is refl
   kept (step.writes_at fd addr n opened number at written reaches wrote is) = same _ is refl
   kept (step.resizes fd opened number size tree reaches sized is) = same _ is refl
   kept (step.makes path made which led is) = same _ is refl
+  kept (step.makes_fifo path made which led is) = same _ is refl
   kept (step.removes path tree which led is) = same _ is refl
   kept (step.links old new tree which led is) = same _ is refl
   kept (step.unlinks path left which led is) = same _ is refl
   kept (step.renames old new left which led is) = same _ is refl
-  kept (step.pipes two free is) = inl (ap (λ files. pipe_there files place) is
-      ∙ get_or_append_left plain.files.pipes (Some new_pipe ∷ []) None place (within plain.files place pipe there) ∙ there)
+  kept (step.pipes two free is) = inl (unchanged_is (ap (λ files. pipe_there files place) is
+      ∙ get_or_append_left plain.files.pipes (Some new_pipe ∷ []) None place (within plain.files place pipe there) ∙ there))
   kept (step.takes fd addr n opened other k which named on may moves is) = queued other _ is (λ here.
       record { fd = fd; opened = opened; named = named; target = on ∙ ap OnPipe here; moves = inl (addr, n, which) })
   kept (step.puts fd addr n done opened other k which named on may moves is) = queued other _ is (λ here.
       record { fd = fd; opened = opened; named = named; target = on ∙ ap OnPipe here; moves = inr (addr, n, done, which) })
+  kept (step.joins path flags fd other found openings opens at waits is) = joined other (may_write (access_of flags)) (fifo_at_is plain.files found.0 other at) (not_zero found.1 found.0 opens.fifo)
+      (ap (λ files. pipe_there files place) is)
+  kept (step.begins path flags fd found openings opens at waits is) = inl (unchanged_is (ap (λ files. pipe_there files place) is
+      ∙ get_or_append_left plain.files.pipes (Some _ ∷ []) None place (within plain.files place pipe there) ∙ there))
+  kept (step.meets path flags opening which begun is) = same _ is refl
   kept (step.sockets fd free is) = same _ is refl
   kept (step.pairs two free is) = same _ is refl
   kept (step.binds fd path opened at made which named on fine led is) = same _ is refl
@@ -223,6 +255,6 @@ module _ (plain : Plain) (pid : ℕ) (call : Call) (place : ℕ) (pipe : Pipe) (
   kept (step.ends_other who ending is) = faded _ is _ refl refl (closed_by_fades plain.files who)
 
 pub others : (script : Script) (plain : Plain) (pid : ℕ) (call : Call) (place : ℕ) (pipe : Pipe) → pipe_there plain.files place ≡ Some pipe
-    → LeadsTo (λ next. NoneGoes plain.files next.files → (pipe_there next.files place ≡ Some pipe) ⊎ Queues plain pid call place) (machine script plain pid call)
+    → LeadsTo (λ next. NoneGoes plain.files next.files → HasBytes next.files place pipe ⊎ Queues plain pid call place) (machine script plain pid call)
 others script plain pid call place pipe there = steps_lead plain pid call _
     (λ goes_on next stepped stay. kept plain pid call place pipe next.files there stay stepped) (machine script plain pid call) (step_of script plain pid call)

@@ -9,14 +9,15 @@ use Rattle.kabi_types.specs.declared.calls.Call.{Call}
 use Rattle.kabi_types.specs.declared.errnos.Errno.TheVariants.{EPIPE}
 use Rattle.kabi_types.specs.declared.scripts.Script.{Script}
 use Rattle.posix_defs.specs.Ending.{die}
-use Rattle.posix_defs.specs.Pipe.{Pipe, Moves, Fails, after_close, after_read, after_write, capacity, free_in, new_pipe, not_now, pipe_write, while_open, whole, without_reader, without_writer}
+use Rattle.posix_defs.specs.Pipe.{Pipe, Moves, Fails, after_close, after_read, after_write, capacity, free_in, new_pipe, not_now, pipe_write, unopened, while_open, whole, with_end, without_reader, without_writer}
 use Rattle.posix_defs.specs.Plain.{Plain, boot_plain, call_of}
 use Rattle.posix_defs.specs.Machine.{machine}
 use Rattle.posix_defs.specs.TreeChanges.{closed}
 use Rattle.posix_defs.specs.Files.Descriptions.{Target, OnNode, OnPipe, OnSocket, Access, ReadOnly, WriteOnly, ReadWrite, Description, Descriptions, description_at, may_read, may_write, new_description, with_description}
-use Rattle.posix_defs.specs.Files.State.{Files, opens, pipe_at, with_descriptions, with_tree}
+use Rattle.posix_defs.specs.Files.State.{Files, node_of, opens, pipe_at, with_descriptions, with_tree}
 use Rattle.posix_defs.specs.Files.Closing.{target_closed}
 use Rattle.posix_defs.specs.Files.Whole.{is_pipe, is_read_end, is_write_end}
+use Rattle.posix_defs.specs.Calls.OnFiles.{description_on, fifo_pipe}
 use Rattle.posix_defs.specs.Calls.Opened.{Opened, opened_at}
 use Rattle.machine_laws.specs.FileSteps as step
 use Rattle.machine_laws.specs.FileSteps.{IsStep, LeadsTo}
@@ -24,6 +25,7 @@ use Rattle.machine_laws.specs.Reached.{IsReached}
 use Rattle.machine_laws.proofs.Places.{not_some, some_same, there_within, naming}
 use Rattle.machine_laws.specs.Piped.{ArePiped, IsCounted, IsEnd, pipe_in}
 use Rattle.machine_laws.proofs.Items.{changed_is, count_kept, count_less, count_none, count_pushed, count_some, pushed_front, pushed_is, some_is, some_there, true_false}
+use Rattle.machine_laws.proofs.FifoPlaces.{fifo_at_is, left_holds, one_side}
 use Rattle.machine_laws.proofs.Closings.{IsClosedUnder, anybody, close_holds, closed_by_holds, exec_holds}
 use Rattle.machine_laws.proofs.Inductions.{answers_keep, by_induction}
 
@@ -138,6 +140,37 @@ end_goes descriptions place description q pipe there on one_end counted =
     }
     go ReadWrite is = absurd (one_end is)
 
+-- an end comes
+end_comes : (descriptions : Descriptions) (new : Description) (q : ℕ) (pipe : Pipe) → new.target ≡ OnPipe q → new.access ≢ ReadWrite → IsCounted descriptions q pipe
+    → IsCounted (descriptions ++ Some new ∷ []) q (with_end pipe (may_write new.access))
+end_comes descriptions new q pipe on one_end counted = subst (λ access. IsCounted (descriptions ++ Some new ∷ []) q (with_end pipe (may_write access))) refl (go new.access refl)
+  where
+    more : (test : Option Description → Bool) → test (Some new) ≡ true → count_by test (descriptions ++ Some new ∷ []) ≡ count_by test descriptions + 1
+    more test one = count_pushed test descriptions (Some new) 1 (ap (λ b. cond b 1 0) one)
+
+    kept : (test : Option Description → Bool) → test (Some new) ≡ false → count_by test (descriptions ++ Some new ∷ []) ≡ count_by test descriptions
+    kept test none = count_pushed test descriptions (Some new) 0 (ap (λ b. cond b 1 0) none) ∙ (let e : count_by test descriptions + 0 ≡ count_by test descriptions = omega arith in e)
+
+    go : (access : Access) → new.access ≡ access → IsCounted (descriptions ++ Some new ∷ []) q (with_end pipe (may_write access))
+    go ReadOnly is = record {
+      readers = ap (λ n. n + 1) counted.readers ∙ sym (more (is_read_end q) (reads_as q new (OnPipe q) ReadOnly on is ∙ ap (λ b. b && true) (itself q)));
+      writers = counted.writers ∙ sym (kept (is_write_end q) (writes_as q new (OnPipe q) ReadOnly on is ∙ ap (λ b. b && false) (itself q)));
+      room = counted.room;
+      unread = λ none. absurd (let e : pipe.readers + 1 ≡ 0 = none in omega arith);
+    }
+    go WriteOnly is = record {
+      readers = counted.readers ∙ sym (kept (is_read_end q) (reads_as q new (OnPipe q) WriteOnly on is ∙ ap (λ b. b && false) (itself q)));
+      writers = ap (λ n. n + 1) counted.writers ∙ sym (more (is_write_end q) (writes_as q new (OnPipe q) WriteOnly on is ∙ ap (λ b. b && true) (itself q)));
+      room = counted.room;
+      unread = counted.unread;
+    }
+    go ReadWrite is = absurd (one_end is)
+
+-- a pipe with one end more has some
+some_of_end : (pipe : Pipe) (writing : Bool) → 0 < (with_end pipe writing).readers + (with_end pipe writing).writers
+some_of_end pipe true = omega arith
+some_of_end pipe false = omega arith
+
 -- a pipe that has an end is there, and one that is there has an end
 open_is : (pipe : Pipe) → 0 < pipe.readers + pipe.writers → while_open pipe ≡ Some pipe
 open_is pipe some = go (pipe.readers == 0) (pipe.writers == 0) refl refl
@@ -233,7 +266,7 @@ module _ (descriptions : Descriptions) (pipes : Pipes) (piped : ArePiped descrip
   }
 
   -- an end of a pipe goes
-  end_gone_piped : (place : ℕ) (was : Description) (p : ℕ) → description_at descriptions place ≡ Some was → was.target ≡ OnPipe p
+  pub end_gone_piped : (place : ℕ) (was : Description) (p : ℕ) → description_at descriptions place ≡ Some was → was.target ≡ OnPipe p
       → ArePiped (with_description descriptions place None) (slice_set pipes p (after_close (unwrap_or (pipe_in pipes p) new_pipe) (may_write was.access)))
   end_gone_piped place was p there on = go (some_is (pipe_in pipes p) end.0)
     where
@@ -312,6 +345,91 @@ module _ (descriptions : Descriptions) (pipes : Pipes) (piped : ArePiped descrip
             ∙ ap is_some (get_or-set_same pipes p (Some (record pipe { bytes = bytes })) None (there_within pipes p pipe is_there))
       ]
 
+  -- each pipe is there where one more is
+  stay_pushed : (added : Pipe) (q : ℕ) → is_some (pipe_in pipes q) ≡ true → is_some (pipe_in (pipes ++ Some added ∷ []) q) ≡ true
+  stay_pushed added q some = let here = some_is (pipe_in pipes q) some in some_there (pushed_front pipes (Some added) q here.0 here.1)
+
+  last_pushed : (added : Pipe) → is_some (pipe_in (pipes ++ Some added ∷ []) (length pipes)) ≡ true
+  last_pushed added = ap is_some (last_is pipes)
+    where
+      last_is : (xs : Pipes) → pipe_in (xs ++ Some added ∷ []) (length xs) ≡ Some added
+      last_is [] = refl
+      last_is (x ∷ xs) = last_is xs
+
+  other_pipe : (q : ℕ) (pipe : Pipe) → pipe_in pipes q ≡ Some pipe → (length pipes == q) ≡ false
+  other_pipe q pipe is = differ (length pipes) q (λ same. let h : q < length pipes = there_within pipes q pipe is in absurd (omega arith))
+
+  -- nobody was open on a pipe that wasn't there
+  nobody : (i : ℕ) → i < length descriptions → (o : Option Description) → description_at descriptions i ≡ o → (is_read_end (length pipes) o ≡ false) × (is_write_end (length pipes) o ≡ false)
+  nobody i h None is = (refl, refl)
+  nobody i h (Some description) is = let apart = go description.target refl in (no_read_end (length pipes) description apart, no_write_end (length pipes) description apart)
+    where
+      go : (target : Target) → description.target ≡ target → is_pipe (length pipes) description.target ≡ false
+      go (OnNode number) on = ap (is_pipe (length pipes)) on
+      go (OnSocket number) on = ap (is_pipe (length pipes)) on
+      go (OnPipe q) on = ap (is_pipe (length pipes)) on ∙ differ q (length pipes) (λ same.
+          let end = subst (IsEnd pipes description.access) on (piped.ends i description is) in
+          true_false (is_some (pipe_in pipes q)) end.0 (ap is_some (get_or_past pipes q None (let e : q ≡ length pipes = same in omega arith))))
+
+  -- one more end of a pipe that is there
+  joined_piped : (p : ℕ) (pipe : Pipe) (new : Description) → pipe_in pipes p ≡ Some pipe → new.target ≡ OnPipe p → new.access ≢ ReadWrite
+      → ArePiped (descriptions ++ Some new ∷ []) (slice_set pipes p (Some (with_end pipe (may_write new.access))))
+  joined_piped p pipe new is_there on one_end = record {
+    ends = λ place description is. elim (pushed_is descriptions (Some new) place description is) [
+      | inl before ↦ ends_on pipes (slice_set pipes p (Some (with_end pipe (may_write new.access)))) stay description.access description.target (piped.ends place description before)
+      | inr last ↦ subst (λ d. IsEnd (slice_set pipes p (Some (with_end pipe (may_write new.access)))) d.access d.target) (some_same (Some new) new description refl last.1)
+          (subst (IsEnd (slice_set pipes p (Some (with_end pipe (may_write new.access)))) new.access) (sym on) (stay p (some_there is_there), one_end))
+    ];
+    counted = λ q other is. elim (changed_is pipes p (Some (with_end pipe (may_write new.access))) q other is) [
+      | inl before ↦ other_comes descriptions new q other (apart_from q new.target p on before.0) (piped.counted q other before.1)
+      | inr here ↦ subst (λ n. IsCounted (descriptions ++ Some new ∷ []) n other) (sym here.0) (subst (IsCounted (descriptions ++ Some new ∷ []) p)
+          (some_same (Some (with_end pipe (may_write new.access))) (with_end pipe (may_write new.access)) other refl here.1) (end_comes descriptions new p pipe on one_end (piped.counted p pipe is_there)))
+    ];
+    some_end = λ q other is. elim (changed_is pipes p (Some (with_end pipe (may_write new.access))) q other is) [
+      | inl before ↦ piped.some_end q other before.1
+      | inr here ↦ subst (λ pipe. 0 < pipe.readers + pipe.writers) (some_same (Some (with_end pipe (may_write new.access))) (with_end pipe (may_write new.access)) other refl here.1)
+          (some_of_end pipe (may_write new.access))
+    ];
+  }
+    where
+      stay : (q : ℕ) → is_some (pipe_in pipes q) ≡ true → is_some (pipe_in (slice_set pipes p (Some (with_end pipe (may_write new.access)))) q) ≡ true
+      stay q some = elim (eqb_tells q p) [
+        | inr apart ↦ ap is_some (get_or-set_other pipes p q (Some (with_end pipe (may_write new.access))) None apart.1) ∙ some
+        | inl alike ↦ ap (λ n. is_some (pipe_in (slice_set pipes p (Some (with_end pipe (may_write new.access)))) n)) alike.1
+            ∙ ap is_some (get_or-set_same pipes p (Some (with_end pipe (may_write new.access))) None (there_within pipes p pipe is_there))
+      ]
+
+  -- the first end of a FIFO, with its pipe
+  begun_piped : (number : ℕ) (new : Description) → new.target ≡ OnPipe (length pipes) → new.access ≢ ReadWrite
+      → ArePiped (descriptions ++ Some new ∷ []) (pipes ++ Some (with_end (unopened number) (may_write new.access)) ∷ [])
+  begun_piped number new on one_end = record {
+    ends = λ place description is. elim (pushed_is descriptions (Some new) place description is) [
+      | inl before ↦ ends_on pipes (pipes ++ Some begun ∷ []) (stay_pushed begun) description.access description.target (piped.ends place description before)
+      | inr last ↦ subst (λ d. IsEnd (pipes ++ Some begun ∷ []) d.access d.target) (some_same (Some new) new description refl last.1)
+          (subst (IsEnd (pipes ++ Some begun ∷ []) new.access) (sym on) (last_pushed begun, one_end))
+    ];
+    counted = λ q pipe is. elim (pushed_is pipes (Some begun) q pipe is) [
+      | inl before ↦ other_comes descriptions new q pipe (ap (is_pipe q) on ∙ other_pipe q pipe before) (piped.counted q pipe before)
+      | inr last ↦ subst (λ n. IsCounted (descriptions ++ Some new ∷ []) n pipe) (sym last.0) (subst (IsCounted (descriptions ++ Some new ∷ []) (length pipes)) (some_same (Some begun) begun pipe refl last.1)
+          (end_comes descriptions new (length pipes) (unopened number) on one_end nobodys))
+    ];
+    some_end = λ q pipe is. elim (pushed_is pipes (Some begun) q pipe is) [
+      | inl before ↦ piped.some_end q pipe before
+      | inr last ↦ subst (λ pipe. 0 < pipe.readers + pipe.writers) (some_same (Some begun) begun pipe refl last.1) (some_of_end (unopened number) (may_write new.access))
+    ];
+  }
+    where
+      begun : Pipe
+      begun = with_end (unopened number) (may_write new.access)
+
+      nobodys : IsCounted descriptions (length pipes) (unopened number)
+      nobodys = record {
+        readers = sym (count_none (is_read_end (length pipes)) descriptions None (λ i h. (nobody i h _ refl).0));
+        writers = sym (count_none (is_write_end (length pipes)) descriptions None (λ i h. (nobody i h _ refl).1));
+        room = omega arith;
+        unread = λ none. refl;
+      }
+
   -- a pipe is made, with a description for each end
   abbrev new_end : Access → Description
   new_end access = new_description (OnPipe (length pipes)) access
@@ -322,10 +440,10 @@ module _ (descriptions : Descriptions) (pipes : Pipes) (piped : ArePiped descrip
   made_piped : ArePiped with_ends (pipes ++ Some new_pipe ∷ [])
   made_piped = record {
     ends = λ place description is. elim (pushed_is (descriptions ++ Some (new_end ReadOnly) ∷ []) (Some (new_end WriteOnly)) place description is) [
-      | inr second ↦ subst (λ d. IsEnd (pipes ++ Some new_pipe ∷ []) d.access d.target) (some_same (Some (new_end WriteOnly)) (new_end WriteOnly) description refl second.1) (last_there, write_only)
+      | inr second ↦ subst (λ d. IsEnd (pipes ++ Some new_pipe ∷ []) d.access d.target) (some_same (Some (new_end WriteOnly)) (new_end WriteOnly) description refl second.1) (last_pushed new_pipe, write_only)
       | inl front ↦ elim (pushed_is descriptions (Some (new_end ReadOnly)) place description front) [
-        | inr first ↦ subst (λ d. IsEnd (pipes ++ Some new_pipe ∷ []) d.access d.target) (some_same (Some (new_end ReadOnly)) (new_end ReadOnly) description refl first.1) (last_there, read_only)
-        | inl before ↦ ends_on pipes (pipes ++ Some new_pipe ∷ []) stay description.access description.target (piped.ends place description before)
+        | inr first ↦ subst (λ d. IsEnd (pipes ++ Some new_pipe ∷ []) d.access d.target) (some_same (Some (new_end ReadOnly)) (new_end ReadOnly) description refl first.1) (last_pushed new_pipe, read_only)
+        | inl before ↦ ends_on pipes (pipes ++ Some new_pipe ∷ []) (stay_pushed new_pipe) description.access description.target (piped.ends place description before)
       ]
     ];
     counted = λ q pipe is. elim (pushed_is pipes (Some new_pipe) q pipe is) [
@@ -344,31 +462,6 @@ module _ (descriptions : Descriptions) (pipes : Pipes) (piped : ArePiped descrip
 
       read_only : ReadOnly ≢ ReadWrite
       read_only e = true_false (may_write ReadWrite) refl (sym (ap may_write e))
-
-      stay : (q : ℕ) → is_some (pipe_in pipes q) ≡ true → is_some (pipe_in (pipes ++ Some new_pipe ∷ []) q) ≡ true
-      stay q some = let here = some_is (pipe_in pipes q) some in some_there (pushed_front pipes (Some new_pipe) q here.0 here.1)
-
-      last_there : is_some (pipe_in (pipes ++ Some new_pipe ∷ []) (length pipes)) ≡ true
-      last_there = ap is_some (last_is pipes)
-        where
-          last_is : (xs : Pipes) → pipe_in (xs ++ Some new_pipe ∷ []) (length xs) ≡ Some new_pipe
-          last_is [] = refl
-          last_is (x ∷ xs) = last_is xs
-
-      other_pipe : (q : ℕ) (pipe : Pipe) → pipe_in pipes q ≡ Some pipe → (length pipes == q) ≡ false
-      other_pipe q pipe is = differ (length pipes) q (λ same. let h : q < length pipes = there_within pipes q pipe is in absurd (omega arith))
-
-      -- nobody was open on a pipe that wasn't there
-      nobody : (i : ℕ) → i < length descriptions → (o : Option Description) → description_at descriptions i ≡ o → (is_read_end (length pipes) o ≡ false) × (is_write_end (length pipes) o ≡ false)
-      nobody i h None is = (refl, refl)
-      nobody i h (Some description) is = let apart = go description.target refl in (no_read_end (length pipes) description apart, no_write_end (length pipes) description apart)
-        where
-          go : (target : Target) → description.target ≡ target → is_pipe (length pipes) description.target ≡ false
-          go (OnNode number) on = ap (is_pipe (length pipes)) on
-          go (OnSocket number) on = ap (is_pipe (length pipes)) on
-          go (OnPipe q) on = ap (is_pipe (length pipes)) on ∙ differ q (length pipes) (λ same.
-              let end = subst (IsEnd pipes description.access) on (piped.ends i description is) in
-              true_false (is_some (pipe_in pipes q)) end.0 (ap is_some (get_or_past pipes q None (let e : q ≡ length pipes = same in omega arith))))
 
       new_counted : IsCounted with_ends (length pipes) new_pipe
       new_counted = record {
@@ -429,8 +522,8 @@ write_fits pipe nonblock n m k part moves room =
 abbrev Holds : Files → Type 0
 Holds files = ArePiped files.descriptions files.pipes
 
-closes : IsClosedUnder anybody Holds
-closes = record { shut = λ files pid fd who piped. piped; gone = λ files place description piped is none. gone files place description piped is description.target refl }
+pub closes : IsClosedUnder anybody Holds
+closes = record { shut = λ files pid fd who piped. piped; wakes = λ files pid who piped. piped; gone = λ files place description piped is none. gone files place description piped is description.target refl }
   where
     gone : (files : Files) (place : ℕ) (description : Description) → Holds files → description_at files.descriptions place ≡ Some description → (target : Target) → description.target ≡ target
         → Holds (target_closed (with_descriptions files (with_description files.descriptions place None)) description.access target)
@@ -443,7 +536,10 @@ closes = record { shut = λ files pid fd who piped. piped; gone = λ files place
             (with_tree (with_descriptions files (with_description files.descriptions place None)) (closed files.tree number)))
         go true = left
         go false = left
-    gone files place description piped is (OnPipe p) on = end_gone_piped files.descriptions files.pipes piped place description p is on
+    gone files place description piped is (OnPipe p) on = left_holds Holds _ (node_of files (OnPipe p)) left (λ tree. left)
+      where
+        left : ArePiped (with_description files.descriptions place None) (slice_set files.pipes p (after_close (pipe_at files p) (may_write description.access)))
+        left = end_gone_piped files.descriptions files.pipes piped place description p is on
     gone files place description piped is (OnSocket other) on = gone_piped files.descriptions files.pipes piped place description is (λ q. ap (is_pipe q) on)
 
 module _ (plain : Plain) (pid : ℕ) (call : Call) (next : Files) (piped : Holds plain.files) where
@@ -502,11 +598,12 @@ module _ (plain : Plain) (pid : ℕ) (call : Call) (next : Files) (piped : Holds
   step_piped (step.marks fd opened cloexec named is) = same _ is refl refl
   step_piped (step.closes fd opened named is) = by _ is (close_holds anybody Holds closes plain.files pid (count_of fd) tt piped)
   step_piped (step.describes fd opened description named target access between is) = by _ is (described fd opened description named target access)
-  step_piped (step.opens path flags fd found which free led is) = by _ is (one _ (λ q. refl) tt)
+  step_piped (step.opens path flags fd found which free led other is) = by _ is (one _ (λ q. refl) tt)
   step_piped (step.writes fd addr n done opened number at offset written reaches wrote is) = by _ is (described fd opened _ reaches.named refl refl)
   step_piped (step.writes_at fd addr n opened number at written reaches wrote is) = same _ is refl refl
   step_piped (step.resizes fd opened number size tree reaches sized is) = same _ is refl refl
   step_piped (step.makes path made which led is) = same _ is refl refl
+  step_piped (step.makes_fifo path made which led is) = same _ is refl refl
   step_piped (step.removes path tree which led is) = same _ is refl refl
   step_piped (step.links old new tree which led is) = same _ is refl refl
   step_piped (step.unlinks path left which led is) = same _ is refl refl
@@ -514,6 +611,12 @@ module _ (plain : Plain) (pid : ℕ) (call : Call) (next : Files) (piped : Holds
   step_piped (step.pipes two free is) = by _ is (made_piped plain.files.descriptions plain.files.pipes piped)
   step_piped (step.takes fd addr n opened place k which named on may moves is) = by _ is (taken fd opened place k named on)
   step_piped (step.puts fd addr n done opened place k which named on may moves is) = by _ is (put fd opened place (count_of n) done k _ named on moves)
+  step_piped (step.joins path flags fd place found openings opens at waits is) = let fifo = fifo_at_is plain.files found.0 place at in
+      by _ is (joined_piped plain.files.descriptions plain.files.pipes piped place (pipe_at plain.files place) (description_on (OnPipe place) flags)
+      (fifo.is ∙ sym (ap (λ o. Some (unwrap_or o new_pipe)) fifo.is)) refl (one_side (fifo_pipe plain.files found.0) flags opens.right))
+  step_piped (step.begins path flags fd found openings opens at waits is) = by _ is (begun_piped plain.files.descriptions plain.files.pipes piped found.0
+      (description_on (OnPipe (length plain.files.pipes)) flags) refl (one_side (fifo_pipe plain.files found.0) flags opens.right))
+  step_piped (step.meets path flags opening which begun is) = same _ is refl refl
   step_piped (step.sockets fd free is) = by _ is (one _ (λ q. refl) tt)
   step_piped (step.pairs free_two free is) = by _ is (two _ _ (λ q. refl) tt (λ q. refl) tt)
   step_piped (step.binds fd path opened place made which named on fine led is) = same _ is refl refl

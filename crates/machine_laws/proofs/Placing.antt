@@ -1,5 +1,5 @@
 -- Whatever a call is answered, each process has its numbers of descriptors, and one that has ended has none open.
-use Rattle.std.proofs.Common.{◌≡◌, ◌≢◌, ℕ, zero, suc, ◌+◌, ◌<◌, ◌≤◌, pos, Bool, true, false, cond, List, [], ◌∷◌, ◌++◌, length, map, Option, None, Some, refl, ap, sym, ◌∙◌, subst, inl, inr, arith, length-append}
+use Rattle.std.proofs.Common.{◌≡◌, ◌≢◌, ℕ, zero, suc, ◌+◌, ◌<◌, ◌≤◌, ℤ, pos, Bool, true, false, cond, List, [], ◌∷◌, ◌++◌, length, map, Option, None, Some, refl, ap, sym, ◌∙◌, subst, inl, inr, arith, length-append}
 use Rattle.std.proofs.lemmas.Bool.Decides.{eqb_tells}
 use Rattle.std.proofs.lemmas.List.{length-map}
 use Rattle.kabi_types.specs.Arguments.{count_of, most_descriptors}
@@ -20,13 +20,13 @@ use Rattle.posix_defs.specs.Machine.{machine}
 use Rattle.posix_defs.specs.Process.{Alive, Process, Table, is_alive, is_alive_in, process_at, with_directory, working_in}
 use Rattle.posix_defs.specs.Files.Descriptors.{none_open}
 use Rattle.posix_defs.specs.Files.Descriptions.{Description}
-use Rattle.posix_defs.specs.Files.State.{Files, boot_files, descriptors_of, opened_as, with_heir, with_open}
+use Rattle.posix_defs.specs.Files.State.{Files, HalfOpen, boot_files, descriptors_of, opened_as, with_heir, with_open, with_openings}
 use Rattle.posix_defs.specs.Files.Whole.{HasPlaces}
 use Rattle.kern_laws.proofs.Families.{others_live, alive_there}
 use Rattle.kern_laws.proofs.Remembering.{alive_ignoring, alive_still}
 use Rattle.kern_laws.proofs.TablePlaces.{at_end, below_or_not, same_in_front, was_made, with_other, with_same}
 use Rattle.machine_laws.specs.FileSteps as step
-use Rattle.machine_laws.specs.FileSteps.{IsStep, LeadsTo, Steps}
+use Rattle.machine_laws.specs.FileSteps.{IsStep, LeadsTo, MayWait, Steps}
 use Rattle.machine_laws.specs.Placed.{IsPlaced}
 use Rattle.answer_laws.specs.Shapes as shape
 use Rattle.answer_laws.specs.Shapes.{HasShape}
@@ -50,53 +50,65 @@ fork_is _ is = absurd (true_false false is refl)
 -- ---- steps
 
 module _ (plain : Plain) (pid : ℕ) (call : Call) (next : Files) (no_fork : call ≢ calls.Fork) where
-  same : (after : Files) → next ≡ after → after.descriptors ≡ plain.files.descriptors → Shuts pid plain.files next
-  same after is stays = shuts_same pid plain.files next (ap (λ files. files.descriptors) is ∙ stays)
+  same : (after : Files) → next ≡ after → after.descriptors ≡ plain.files.descriptors → length after.openings ≡ length plain.files.openings → Shuts pid plain.files next
+  same after is stays as_many = shuts_same pid plain.files next (ap (λ files. files.descriptors) is ∙ stays) (ap (λ files. length files.openings) is ∙ as_many)
 
   by : (after : Files) → next ≡ after → Shuts pid plain.files after → Shuts pid plain.files next
   by after is shuts = subst (Shuts pid plain.files) (sym is) shuts
 
   -- a description is opened, whatever else changes before
-  opens_one : (files : Files) (fd : ℕ) (cloexec : Bool) (description : Description) → files.descriptors ≡ plain.files.descriptors
+  opens_one : (files : Files) (fd : ℕ) (cloexec : Bool) (description : Description) → files.descriptors ≡ plain.files.descriptors → length files.openings ≡ length plain.files.openings
       → Shuts pid plain.files (opened_as files pid fd cloexec description)
-  opens_one files fd cloexec description stays = shuts_on pid plain.files files (opened_as files pid fd cloexec description) (shuts_same pid plain.files files stays)
+  opens_one files fd cloexec description stays as_many = shuts_on pid plain.files files (opened_as files pid fd cloexec description) (shuts_same pid plain.files files stays as_many)
       (shuts_on pid files (with_open files pid fd (Some (record { description = length files.descriptions; cloexec = cloexec }))) (opened_as files pid fd cloexec description)
-      (open_shuts files pid fd (Some (record { description = length files.descriptions; cloexec = cloexec }))) (shuts_same pid _ _ refl))
+      (open_shuts files pid fd (Some (record { description = length files.descriptions; cloexec = cloexec }))) (shuts_same pid _ _ refl refl))
 
   opens_another : (files : Files) (fd : ℕ) (cloexec : Bool) (description : Description) → Shuts pid plain.files files
       → Shuts pid plain.files (opened_as files pid fd cloexec description)
   opens_another files fd cloexec description shuts = shuts_on pid plain.files files (opened_as files pid fd cloexec description) shuts
       (shuts_on pid files (with_open files pid fd (Some (record { description = length files.descriptions; cloexec = cloexec }))) (opened_as files pid fd cloexec description)
-      (open_shuts files pid fd (Some (record { description = length files.descriptions; cloexec = cloexec }))) (shuts_same pid _ _ refl))
+      (open_shuts files pid fd (Some (record { description = length files.descriptions; cloexec = cloexec }))) (shuts_same pid _ _ refl refl))
+
+  -- the same, and who waits for the other side of a FIFO is another
+  waited : (files : Files) (openings : List (Option HalfOpen)) → Shuts pid plain.files files → length openings ≡ length plain.files.openings → Shuts pid plain.files (with_openings files openings)
+  waited files openings shuts as_many = shuts_on pid plain.files files (with_openings files openings) shuts (shuts_same pid _ _ refl (as_many ∙ sym shuts.openings))
+
+  as_many : {flags : ℤ} {fd number : ℕ} (openings : List (Option HalfOpen)) → MayWait plain.files pid flags fd number openings → length openings ≡ length plain.files.openings
+  as_many openings (step.goes over is) = ap (λ list. length list) is
+  as_many openings (step.waits still is) = ap (λ list. length list) is ∙ length_with plain.files.openings pid _
 
   pub step_shuts : {goes_on : Bool} → IsStep plain pid call goes_on next → Shuts pid plain.files next
-  step_shuts (step.stays is) = same _ is refl
+  step_shuts (step.stays is) = same _ is refl refl
   step_shuts (step.shares fd opened from to named free is) = by _ is (open_shuts plain.files pid to _)
   step_shuts (step.shares_over fd to opened named may apart is) = by _ is (shuts_on pid plain.files _ _ (close_shuts pid plain.files pid (count_of to)) (open_shuts _ pid (count_of to) _))
   step_shuts (step.marks fd opened cloexec named is) = by _ is (open_shuts plain.files pid (count_of fd) _)
   step_shuts (step.closes fd opened named is) = by _ is (close_shuts pid plain.files pid (count_of fd))
-  step_shuts (step.describes fd opened description named target access between is) = same _ is refl
-  step_shuts (step.opens path flags fd found which free led is) = by _ is (opens_one _ fd _ _ refl)
-  step_shuts (step.writes fd addr n done opened number at offset written reaches wrote is) = same _ is refl
-  step_shuts (step.writes_at fd addr n opened number at written reaches wrote is) = same _ is refl
-  step_shuts (step.resizes fd opened number size tree reaches sized is) = same _ is refl
-  step_shuts (step.makes path made which led is) = same _ is refl
-  step_shuts (step.removes path tree which led is) = same _ is refl
-  step_shuts (step.links old new tree which led is) = same _ is refl
-  step_shuts (step.unlinks path left which led is) = same _ is refl
-  step_shuts (step.renames old new left which led is) = same _ is refl
-  step_shuts (step.pipes two free is) = by _ is (opens_another _ two.second _ _ (opens_one _ two.first _ _ refl))
-  step_shuts (step.takes fd addr n opened place k which named on may moves is) = same _ is refl
-  step_shuts (step.puts fd addr n done opened place k which named on may moves is) = same _ is refl
-  step_shuts (step.sockets fd free is) = by _ is (opens_one _ fd _ _ refl)
-  step_shuts (step.pairs two free is) = by _ is (opens_another _ two.second _ _ (opens_one _ two.first _ _ refl))
-  step_shuts (step.binds fd path opened place made which named on fine led is) = same _ is refl
-  step_shuts (step.listens fd opened place named on fine is) = same _ is refl
-  step_shuts (step.shuts fd how opened place named on fine is) = same _ is refl
-  step_shuts (step.connects fd opened place number listener named on fine listening room is) = same _ is refl
-  step_shuts (step.accepts fd opened place to taken named on free first is) = by _ is (opens_one _ to _ _ refl)
-  step_shuts (step.receives fd addr n opened place k which named on moves is) = same _ is refl
-  step_shuts (step.sends fd addr n done opened place k which named on moves is) = same _ is refl
+  step_shuts (step.describes fd opened description named target access between is) = same _ is refl refl
+  step_shuts (step.opens path flags fd found which free led other is) = by _ is (opens_one _ fd _ _ refl refl)
+  step_shuts (step.writes fd addr n done opened number at offset written reaches wrote is) = same _ is refl refl
+  step_shuts (step.writes_at fd addr n opened number at written reaches wrote is) = same _ is refl refl
+  step_shuts (step.resizes fd opened number size tree reaches sized is) = same _ is refl refl
+  step_shuts (step.makes path made which led is) = same _ is refl refl
+  step_shuts (step.makes_fifo path made which led is) = same _ is refl refl
+  step_shuts (step.removes path tree which led is) = same _ is refl refl
+  step_shuts (step.links old new tree which led is) = same _ is refl refl
+  step_shuts (step.unlinks path left which led is) = same _ is refl refl
+  step_shuts (step.renames old new left which led is) = same _ is refl refl
+  step_shuts (step.pipes two free is) = by _ is (opens_another _ two.second _ _ (opens_one _ two.first _ _ refl refl))
+  step_shuts (step.takes fd addr n opened place k which named on may moves is) = same _ is refl refl
+  step_shuts (step.puts fd addr n done opened place k which named on may moves is) = same _ is refl refl
+  step_shuts (step.joins path flags fd place found openings opens at waits is) = by _ is (waited _ openings (opens_one _ fd _ _ refl refl) (as_many openings waits))
+  step_shuts (step.begins path flags fd found openings opens at waits is) = by _ is (waited _ openings (opens_one _ fd _ _ refl refl) (as_many openings waits))
+  step_shuts (step.meets path flags opening which begun is) = same _ is refl (length_with plain.files.openings pid None)
+  step_shuts (step.sockets fd free is) = by _ is (opens_one _ fd _ _ refl refl)
+  step_shuts (step.pairs two free is) = by _ is (opens_another _ two.second _ _ (opens_one _ two.first _ _ refl refl))
+  step_shuts (step.binds fd path opened place made which named on fine led is) = same _ is refl refl
+  step_shuts (step.listens fd opened place named on fine is) = same _ is refl refl
+  step_shuts (step.shuts fd how opened place named on fine is) = same _ is refl refl
+  step_shuts (step.connects fd opened place number listener named on fine listening room is) = same _ is refl refl
+  step_shuts (step.accepts fd opened place to taken named on free first is) = by _ is (opens_one _ to _ _ refl refl)
+  step_shuts (step.receives fd addr n opened place k which named on moves is) = same _ is refl refl
+  step_shuts (step.sends fd addr n done opened place k which named on moves is) = same _ is refl refl
   step_shuts (step.starts is) = by _ is (exec_shuts pid plain.files pid)
   step_shuts (step.forks which is) = absurd (no_fork which)
   step_shuts (step.ends_caller over ending is) = by _ is (closed_shuts pid plain.files pid)
@@ -113,6 +125,7 @@ placed_on plain next pid placed alive tables controls dead shuts = record {
   places = record {
     counted = shuts.counted ∙ before.counted ∙ sym controls;
     places = shuts.places before.places;
+    openings = shuts.openings ∙ before.openings ∙ sym controls;
     ended = λ who gone. shuts.shut who (λ is. true_false (is_alive plain.table who) (ap (is_alive plain.table) is ∙ alive) (dead who gone)) (before.ended who (dead who gone));
   };
 }
@@ -127,6 +140,7 @@ die_placed plain pid status placed = record {
   places = record {
     counted = (let shuts = closed_shuts pid plain.files pid in shuts.counted) ∙ before.counted;
     places = (let shuts = closed_shuts pid plain.files pid in shuts.places before.places);
+    openings = (let shuts = closed_shuts pid plain.files pid in shuts.openings) ∙ before.openings;
     ended = ended pid;
   };
 }
@@ -196,6 +210,7 @@ fork_placed script plain pid said placed alive = record {
   places = record {
     counted = more plain.files.descriptors plain.controls _ _ before.counted ∙ sym (length_with (plain.controls ++ program.after script (control_of plain pid) (Val (pos 0)) ∷ []) pid _);
     places = λ who. ap (λ list. length list) refl ∙ each who;
+    openings = more plain.files.openings plain.controls _ _ before.openings ∙ sym (length_with (plain.controls ++ program.after script (control_of plain pid) (Val (pos 0)) ∷ []) pid _);
     ended = ended;
   };
 }
@@ -246,7 +261,7 @@ fork_placed script plain pid said placed alive = record {
 pub answered_placed : (script : Script) (plain : Plain) (pid : ℕ) (said : Reply) → IsPlaced plain → IsPlaced (answered script plain pid said)
 answered_placed script plain pid said placed = record {
   counted = placed.counted ∙ sym (length_with plain.controls pid _);
-  places = record { counted = before.counted ∙ sym (length_with plain.controls pid _); places = before.places; ended = before.ended };
+  places = record { counted = before.counted ∙ sym (length_with plain.controls pid _); places = before.places; openings = before.openings ∙ sym (length_with plain.controls pid _); ended = before.ended };
 }
   where
     before : HasPlaces plain
@@ -257,7 +272,7 @@ module _ (script : Script) (plain : Plain) (pid : ℕ) (placed : IsPlaced plain)
   by_shape : (call : Call) → call ≢ calls.Fork → (given : Answer) → Steps plain pid call given → HasShape script plain pid call given → LeadsTo IsPlaced given
   by_shape call no_fork given stepped (shape.blocks may is) = subst (LeadsTo IsPlaced) (sym is) tt
   by_shape call no_fork given stepped (shape.fails errno other is) = subst (LeadsTo IsPlaced) (sym is)
-      (placed_on plain _ pid placed alive refl (length_with plain.controls pid _) (λ who gone. gone) (shuts_same pid _ _ refl))
+      (placed_on plain _ pid placed alive refl (length_with plain.controls pid _) (λ who gone. gone) (shuts_same pid _ _ refl refl))
   by_shape call no_fork given stepped (shape.tells files said is_said is) = subst (LeadsTo IsPlaced) (sym is)
       (placed_on plain _ pid placed alive refl (length_with plain.controls pid _) (λ who gone. gone)
       (step_shuts plain pid call files no_fork (subst (Steps plain pid call) is stepped)))
@@ -265,17 +280,20 @@ module _ (script : Script) (plain : Plain) (pid : ℕ) (placed : IsPlaced plain)
       (placed_on plain _ pid placed alive (length_with plain.table pid _) (length_with plain.controls pid _) (λ who gone. sym (alive_still plain.table pid who memory) ∙ gone)
       (step_shuts plain pid call files no_fork (subst (Steps plain pid call) is stepped)))
   by_shape call no_fork given stepped (shape.moves path directory called led is) = subst (LeadsTo IsPlaced) (sym is)
-      (placed_on plain _ pid placed alive (length_with plain.table pid _) (length_with plain.controls pid _) (λ who gone. sym (alive_moved plain.table pid directory who alive) ∙ gone) (shuts_same pid _ _ refl))
+      (placed_on plain _ pid placed alive (length_with plain.table pid _) (length_with plain.controls pid _) (λ who gone. sym (alive_moved plain.table pid directory who alive) ∙ gone) (shuts_same pid _ _ refl refl))
   by_shape call no_fork given stepped (shape.disposes signal disposition ignores before called is) = subst (LeadsTo IsPlaced) (sym is)
-      (placed_on plain _ pid placed alive (length_with plain.table pid _) (length_with plain.controls pid _) (λ who gone. sym (alive_ignoring plain.table pid who ignores) ∙ gone) (shuts_same pid _ _ refl))
+      (placed_on plain _ pid placed alive (length_with plain.table pid _) (length_with plain.controls pid _) (λ who gone. sym (alive_ignoring plain.table pid who ignores) ∙ gone) (shuts_same pid _ _ refl refl))
   by_shape call no_fork given stepped (shape.parts files moved part is) = subst (LeadsTo IsPlaced) (sym is)
+      (placed_on plain _ pid placed alive refl (length_with plain.controls pid _) (λ who gone. gone)
+      (step_shuts plain pid call files no_fork (subst (Steps plain pid call) is stepped)))
+  by_shape call no_fork given stepped (shape.awaits files begun is) = subst (LeadsTo IsPlaced) (sym is)
       (placed_on plain _ pid placed alive refl (length_with plain.controls pid _) (λ who gone. gone)
       (step_shuts plain pid call files no_fork (subst (Steps plain pid call) is stepped)))
   by_shape call no_fork given stepped (shape.starts place is) = subst (LeadsTo IsPlaced) (sym is)
       (placed_on plain _ pid placed alive (length_with plain.table pid _) (length_with plain.controls pid _) (λ who gone. sym (alive_still plain.table pid who no_memory) ∙ gone) (exec_shuts pid plain.files pid))
   by_shape call no_fork given stepped (shape.forks is) = subst (LeadsTo IsPlaced) (sym is) (fork_placed script plain pid (Val (pos (last_pid plain + 1))) placed alive)
   by_shape call no_fork given stepped (shape.reaps child status ended is) = subst (LeadsTo IsPlaced) (sym is)
-      (placed_on plain _ pid placed alive (length_with plain.table child None) (length_with plain.controls pid _) (λ who gone. alive_reaped plain.table child who ended gone) (shuts_same pid _ _ refl))
+      (placed_on plain _ pid placed alive (length_with plain.table child None) (length_with plain.controls pid _) (λ who gone. alive_reaped plain.table child who ended gone) (shuts_same pid _ _ refl refl))
   by_shape call no_fork given stepped (shape.ends status is) = subst (LeadsTo IsPlaced) (sym is) (die_placed plain pid status placed)
   by_shape call no_fork given stepped (shape.ends_another target signal called first own lives is) = subst (LeadsTo IsPlaced) (sym is)
       (answered_placed script (die plain target (count_of signal)) pid (Val (pos 0)) (die_placed plain target (count_of signal) placed))
@@ -298,7 +316,7 @@ module _ (script : Script) (plain : Plain) (pid : ℕ) (placed : IsPlaced plain)
 pub boot_placed : (script : Script) → IsPlaced (boot_plain script)
 boot_placed script = record {
   counted = refl;
-  places = record { counted = refl; places = each; ended = ended };
+  places = record { counted = refl; places = each; openings = refl; ended = ended };
 }
   where
     each : (who : ℕ) → length (descriptors_of (boot_files script.disk) who) ≡ most_descriptors

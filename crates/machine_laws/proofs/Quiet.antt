@@ -21,16 +21,17 @@ use Rattle.posix_defs.specs.Process.{memory_of}
 use Rattle.posix_defs.specs.Socket.{Accepting, is_connected}
 use Rattle.posix_defs.specs.Socket as socket
 use Rattle.posix_defs.specs.Sockets.{stage_at, is_refused}
+use Rattle.posix_defs.specs.PathCalls.{is_fifo}
 use Rattle.posix_defs.specs.Tree.{Tree, is_directory}
 use Rattle.posix_defs.specs.Files.Descriptors.{Two, lowest_free, lowest_free_from, two_lowest_free}
 use Rattle.posix_defs.specs.Files.Descriptions.{Target, OnNode, OnPipe, OnSocket, may_read, may_write}
-use Rattle.posix_defs.specs.Files.State.{Files, descriptors_of}
+use Rattle.posix_defs.specs.Files.State.{Files, HalfOpen, descriptors_of, opening_at}
 use Rattle.posix_defs.specs.Calls.Opened.{Opened, answer_on, if_readable, if_writable, on_open, opened_at}
 use Rattle.posix_defs.specs.Calls.OnDescriptors.{close, controlled, dup, dup2, duplicated, duplicated_to, fcntl}
 use Rattle.posix_defs.specs.Calls.Reading.{of_bytes}
 use Rattle.posix_defs.specs.Calls.Writing.{bytes_left, did_part, place_of_write, put_in_socket, pwrite, pwrite_target, stopped, write_ignoring, write_queue, write_target, wrote, wrote_at}
-use Rattle.posix_defs.specs.Calls.OnFiles.{fstat, ftruncate, greatest_offset, is_between_entries, lseek, open_at, open_file, opened_node_as, origin, resized_to, seek_target, seek_to, truncate_target}
-use Rattle.posix_defs.specs.Calls.OnNames.{freed_in, link, made_directory, mkdir, rename, retreed, rmdir, stat, told_of, unlink}
+use Rattle.posix_defs.specs.Calls.OnFiles.{fifo_pipe, fifo_waits, fstat, ftruncate, greatest_offset, is_between_entries, is_met, lseek, open_at, open_by, open_end, open_file, opened_node_as, origin, resized_to, seek_target, seek_to, truncate_target}
+use Rattle.posix_defs.specs.Calls.OnNames.{freed_in, link, made_node, mkdir, mkfifo, rename, retreed, rmdir, stat, told_of, unlink}
 use Rattle.posix_defs.specs.Calls.OnPipes.{pipe, piped_under}
 use Rattle.posix_defs.specs.Calls.OnSockets.{accept, accepted_under, bind, bound_to, connect, connected_by, connected_under, listen, listener_under, on_socket, paired_under, shutdown, socket_target, socketed_under, socketpair, unless_fault}
 use Rattle.posix_defs.specs.Calls.OnSockets as on_sockets
@@ -173,15 +174,23 @@ module _ (script : Script) (plain : Plain) (pid : ℕ) where
 
   opens_file : (path : List ℕ) (flags : ℤ) → Told script plain pid (open_file script plain pid path flags)
   unfolding open_file
-  opens_file path flags = go (lowest_free (descriptors_of plain.files pid))
+  opens_file path flags = begins (opening_at plain.files pid)
     where
+      end : (fd number : ℕ) (fault : Option Errno) → Told script plain pid (open_end script plain pid flags fd number fault)
+      end fd number (Some e) = fails e
+      end fd number None = either (fifo_waits (fifo_pipe plain.files number) flags) _ _ (parts _ 1) (tells _ _)
+
       there : (fd : ℕ) (r : Result (ℕ × Tree) Errno) → Told script plain pid (opened_node_as script plain pid flags fd r)
-      there fd (Ok found) = tells _ _
+      there fd (Ok found) = either (is_fifo found.1 found.0) _ _ (end fd found.0 _) (tells _ _)
       there fd (Err e) = fails e
 
       go : (o : Option ℕ) → Told script plain pid (open_at script plain pid path flags o)
       go None = fails errno.EMFILE
       go (Some fd) = there fd _
+
+      begins : (o : Option HalfOpen) → Told script plain pid (open_by script plain pid path flags o)
+      begins None = go (lowest_free (descriptors_of plain.files pid))
+      begins (Some opening) = either (is_met plain.files pid opening) _ _ (tells _ _) blocks
 
   seeks : (fd offset whence : ℤ) → Told script plain pid (lseek script plain pid fd offset whence)
   unfolding lseek
@@ -235,7 +244,15 @@ module _ (script : Script) (plain : Plain) (pid : ℕ) where
   unfolding mkdir
   makes path = go _
     where
-      go : (r : Result (ℕ × Tree) Errno) → Told script plain pid (made_directory script plain pid r)
+      go : (r : Result (ℕ × Tree) Errno) → Told script plain pid (made_node script plain pid r)
+      go (Ok made) = tells _ _
+      go (Err e) = fails e
+
+  makes_fifo : (path : List ℕ) → Told script plain pid (mkfifo script plain pid path)
+  unfolding mkfifo
+  makes_fifo path = go _
+    where
+      go : (r : Result (ℕ × Tree) Errno) → Told script plain pid (made_node script plain pid r)
       go (Ok made) = tells _ _
       go (Err e) = fails e
 
@@ -394,3 +411,4 @@ module _ (script : Script) (plain : Plain) (pid : ℕ) where
   quiet_told (call.Shutdown fd how) is = shuts fd how
   quiet_told (call.Poll timeout entries) is = polls timeout entries
   quiet_told (call.Signal which disposition) is = no is
+  quiet_told (call.Mkfifo path) is = makes_fifo path

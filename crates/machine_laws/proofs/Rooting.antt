@@ -1,17 +1,18 @@
 -- What is kept of the tree, and of the descriptions and sockets that name its nodes.
-use Rattle.std.proofs.Common.{◌≡◌, ◌≢◌, ℕ, zero, suc, ◌<◌, ◌≤◌, ◌==◌, ◌^◌, ◌%◌, Bool, true, false, cond, List, [], ◌∷◌, ◌++◌, length, Option, None, Some, IsSome, is_some, unwrap_or, refl, ap, sym, ◌∙◌, subst, ◌⊎◌, inl, inr, arith}
+use Rattle.std.proofs.Common.{◌≡◌, ◌≢◌, ℕ, zero, suc, ◌<◌, ◌≤◌, ◌==◌, ◌^◌, ◌%◌, Bool, true, false, cond, List, [], ◌∷◌, ◌++◌, length, Option, None, Some, IsSome, is_some, unwrap_or, slice_index_or, slice_set, refl, ap, sym, ◌∙◌, subst, ◌⊎◌, inl, inr, arith}
 use Rattle.std.specs.Option.{option_map}
 use Rattle.std.proofs.lemmas.Bool.Decides.{eqb_tells}
 use Rattle.std.proofs.lemmas.List.{get_or-set_other}
 use Rattle.std.proofs.lemmas.List.Elements.{All-nil}
 use Rattle.posix_defs.specs.IsTree.{IsTree}
-use Rattle.posix_defs.specs.PathCalls.{is_socket, is_socket_kind, kind_in}
+use Rattle.posix_defs.specs.PathCalls.{is_fifo, is_fifo_kind, is_socket, is_socket_kind, kind_in, kind_of_content}
+use Rattle.posix_defs.specs.Pipe.{Pipe, after_close as after_close_pipe, fifo_of, new_pipe}
 use Rattle.posix_defs.specs.Socket.{Connected, Listening, Socket, Stage, connected_to, new_socket, peer_of, waiting_of}
 use Rattle.posix_defs.specs.SocketLinks.{AreLinked, AreLoose, AreNamedOnce, WaitsNowhere}
 use Rattle.posix_defs.specs.Sockets.{Sockets, after_close, after_connect, all_gone, gone, sock_at, socket_at, stage_at, with_socket, with_stage}
-use Rattle.posix_defs.specs.Tree.{Node, Tree, is_directory, is_directory_in, is_in_use, links_at, links_in, node_at, with_node}
+use Rattle.posix_defs.specs.Tree.{Content, File, Directory, SocketName, Fifo, Node, Tree, is_directory, is_directory_content, is_directory_in, is_in_use, links_at, links_in, node_at, with_node}
 use Rattle.posix_defs.specs.TreeChanges.{closed}
-use Rattle.posix_defs.specs.Files.Descriptions.{OnNode, Access, ReadOnly, Description, Descriptions, description_at, with_description}
+use Rattle.posix_defs.specs.Files.Descriptions.{OnNode, OnPipe, Access, ReadOnly, Description, Descriptions, description_at, may_write, with_description}
 use Rattle.posix_defs.specs.Files.SocketNames.{after_freeing, none_bound_to, unnamed}
 use Rattle.posix_defs.specs.Files.State.{is_number}
 use Rattle.posix_defs.proofs.TreeNodes.{is_number as number_within, node_at-with_node}
@@ -26,7 +27,8 @@ use Rattle.machine_laws.proofs.Places.{not_some, some_same}
 use Rattle.machine_laws.specs.Bytes.{AreBytes}
 use Rattle.machine_laws.proofs.Items.{changed_is, pushed_is, true_false}
 use Rattle.machine_laws.proofs.NodesAfter.{Turns}
-use Rattle.machine_laws.proofs.Openers.{Opener, described_opener, gone_opener, pushed_opener}
+use Rattle.machine_laws.proofs.FifoPlaces.{closed_fifo, fifo_in, front_fifo, pushed_fifo, stays_fifo}
+use Rattle.machine_laws.proofs.Openers.{Opener, described_opener, gone_opener, node_in, pushed_opener, repiped_opener}
 
 -- ---- what holds of each socket
 
@@ -90,19 +92,23 @@ pub record IsWell (tree : Tree) (socket : Socket) : Type 0 where
   pub bound : (number : ℕ) → socket.node ≡ Some number → is_socket tree number ≡ true
   pub bytes : AreBytes socket.bytes
 
--- what a description opens is a file, or a directory for reading alone, in which its offset stands between two entries
+-- what a description opens, but for an end of a FIFO's pipe, is a file, or a directory for reading alone, in which its offset stands between two entries
 pub record IsOpened (tree : Tree) (access : Access) (offset number : ℕ) : Type 0 where
   pub used : is_in_use tree number ≡ true
   pub socket : is_socket tree number ≡ false
+  pub fifo : is_fifo tree number ≡ false
   pub directory : is_directory tree number ≡ true → access ≡ ReadOnly
   pub between : is_directory tree number ≡ true → offset % 32 ≡ 0
 
-pub record Rooted (descriptions : Descriptions) (tree : Tree) (sockets : Sockets) : Type 0 where
+pub record Rooted (descriptions : Descriptions) (tree : Tree) (sockets : Sockets) (pipes : List (Option Pipe)) : Type 0 where
   pub tree_is : IsTree tree
   pub nodes : (place number : ℕ) (description : Description) → description_at descriptions place ≡ Some description → description.target ≡ OnNode number → IsOpened tree description.access description.offset number
-  pub unlinked : (n : ℕ) → is_in_use tree n ≡ true → links_at tree n ≡ 0 → Opener descriptions n
+  pub unlinked : (n : ℕ) → is_in_use tree n ≡ true → links_at tree n ≡ 0 → Opener descriptions pipes n
   pub wells : Each (IsWell tree) sockets
   pub alone : AreNamedOnce sockets
+  -- a pipe that is a FIFO's is that of one that is there, which has no other
+  pub fifos : (place number : ℕ) → fifo_in pipes place ≡ Some number → is_fifo tree number ≡ true
+  pub sole : (place other number : ℕ) → fifo_in pipes place ≡ Some number → fifo_in pipes other ≡ Some number → place ≡ other
 
 pub new_well : (tree : Tree) → IsWell tree new_socket
 new_well tree = record { bound = λ number is. absurd (not_some refl is); bytes = All-nil (λ byte. byte < 2 ^ 8) }
@@ -110,13 +116,50 @@ new_well tree = record { bound = λ number is. absurd (not_some refl is); bytes 
 pub staged_well : (tree : Tree) (socket : Socket) (stage : Stage) → IsWell tree socket → IsWell tree (record socket { stage = stage })
 staged_well tree socket stage well = record { bound = well.bound; bytes = well.bytes }
 
+-- ---- nodes
+
+-- a node that is closed and has no links has gone
+no_links_left : (tree : Tree) (number n : ℕ) → is_in_use tree number ≡ true → n ≡ number → is_in_use (closed tree number) n ≡ true → links_at (closed tree number) n ≡ 0 → ⊥
+no_links_left tree number n used_before same used none =
+    go (links_at tree number == 0) refl (sym (ap (is_in_use (closed tree number)) same) ∙ used) (sym (ap (links_at (closed tree number)) same) ∙ none)
+  where
+    go : (b : Bool) → (links_at tree number == 0) ≡ b → is_in_use (cond b (with_node tree number None) tree) number ≡ true → links_at (cond b (with_node tree number None) tree) number ≡ 0 → ⊥
+    go true is used_now none_now = true_false (is_in_use (with_node tree number None) number) used_now (ap is_some (node_at-with_node tree number None (number_within tree number used_before)))
+    go false is used_now none_now = true_false (links_at tree number == 0) (ap (λ k. k == 0) none_now) is
+
+-- a FIFO is in use, and neither a directory nor a socket's name
+fifo_used : (o : Option Node) → is_fifo_kind (kind_in o) ≡ true → is_some o ≡ true
+fifo_used None e = absurd (true_false false e refl)
+fifo_used (Some node) e = refl
+
+fifo_no_directory : (o : Option Node) → is_fifo_kind (kind_in o) ≡ true → is_directory_in o ≡ false
+fifo_no_directory None e = refl
+fifo_no_directory (Some node) e = go node.content e
+  where
+    go : (content : Content) → is_fifo_kind (kind_of_content content) ≡ true → is_directory_content content ≡ false
+    go (File bytes) f = refl
+    go (Directory parent entries) f = absurd (true_false false f refl)
+    go SocketName f = refl
+    go Fifo f = refl
+
+fifo_no_socket : (o : Option Node) → is_fifo_kind (kind_in o) ≡ true → is_socket_kind (kind_in o) ≡ false
+fifo_no_socket None e = refl
+fifo_no_socket (Some node) e = go node.content e
+  where
+    go : (content : Content) → is_fifo_kind (kind_of_content content) ≡ true → is_socket_kind (kind_of_content content) ≡ false
+    go (File bytes) f = refl
+    go (Directory parent entries) f = refl
+    go SocketName f = absurd (true_false false f refl)
+    go Fifo f = refl
+
 -- ---- another tree
 
 -- A call has left another tree, and maybe freed the name of a socket.
-pub turned_rooted : (descriptions : Descriptions) (tree after : Tree) (sockets : Sockets) (opened busy : ℕ → Bool) (freed : Option ℕ) → Rooted descriptions tree sockets → IsTree after
-    → Turns tree after opened busy freed → ((n : ℕ) → opened n ≡ true → Opener descriptions n) → ((n : ℕ) → Opener descriptions n → opened n ≡ true) → ((n : ℕ) → Opener descriptions n → busy n ≡ true)
-    → Rooted descriptions after (after_freeing sockets freed)
-turned_rooted descriptions tree after sockets opened busy freed rooted is turns opens_it opened_by busy_by = record {
+pub turned_rooted : (descriptions : Descriptions) (tree after : Tree) (sockets : Sockets) (pipes : List (Option Pipe)) (opened busy : ℕ → Bool) (freed : Option ℕ) → Rooted descriptions tree sockets pipes → IsTree after
+    → Turns tree after opened busy freed → ((n : ℕ) → opened n ≡ true → Opener descriptions pipes n) → ((n : ℕ) → Opener descriptions pipes n → opened n ≡ true)
+    → ((n : ℕ) → Opener descriptions pipes n → busy n ≡ true) → ((place number : ℕ) → fifo_in pipes place ≡ Some number → Opener descriptions pipes number)
+    → Rooted descriptions after (after_freeing sockets freed) pipes
+turned_rooted descriptions tree after sockets pipes opened busy freed rooted is turns opens_it opened_by busy_by held = record {
   tree_is = is;
   nodes = nodes;
   unlinked = λ n used none. elim (turns.unlinked n used none) [
@@ -125,19 +168,24 @@ turned_rooted descriptions tree after sockets opened busy freed rooted is turns 
   ];
   wells = freeing freed refl;
   alone = freed_alone freed;
+  fifos = λ place number of. let fifo = rooted.fifos place number of in elim (turns.each number (fifo_used (node_at tree number) fifo)) [
+    | inl stays ↦ stays.fifo ∙ fifo
+    | inr goes ↦ absurd (true_false (opened number) (opened_by number (held place number of)) (goes.file (fifo_no_directory (node_at tree number) fifo) (fifo_no_socket (node_at tree number) fifo)))
+  ];
+  sole = rooted.sole;
 }
   where
     nodes : (place number : ℕ) (description : Description) → description_at descriptions place ≡ Some description → description.target ≡ OnNode number → IsOpened after description.access description.offset number
     nodes place number description there on = let before = rooted.nodes place number description there on in elim (turns.each number before.used) [
-      | inl stays ↦ record { used = stays.used; socket = stays.socket ∙ before.socket; directory = λ dir_is. before.directory (sym stays.directory ∙ dir_is); between = λ dir_is. before.between (sym stays.directory ∙ dir_is) }
+      | inl stays ↦ record { used = stays.used; socket = stays.socket ∙ before.socket; fifo = stays.fifo ∙ before.fifo; directory = λ dir_is. before.directory (sym stays.directory ∙ dir_is); between = λ dir_is. before.between (sym stays.directory ∙ dir_is) }
       | inr goes ↦ absurd (elim (dir_cases (is_directory tree number)) [
         | inl dir_is ↦ true_false (busy number) (busy_by number opener) (goes.directory dir_is)
         | inr not_dir ↦ true_false (opened number) (opened_by number opener) (goes.file not_dir before.socket)
       ])
     ]
       where
-        opener : Opener descriptions number
-        opener = record { place = place; description = description; is = there; on = on }
+        opener : Opener descriptions pipes number
+        opener = record { place = place; description = description; is = there; on = ap (node_in pipes) on }
 
         dir_cases : (b : Bool) → (b ≡ true) ⊎ (b ≡ false)
         dir_cases true = inl refl
@@ -178,8 +226,8 @@ turned_rooted descriptions tree after sockets opened busy freed rooted is turns 
 
 -- ---- other descriptions
 
-module _ (descriptions : Descriptions) (tree : Tree) (sockets : Sockets) (rooted : Rooted descriptions tree sockets) where
-  pub pushed_rooted : (new : Description) → ((number : ℕ) → new.target ≡ OnNode number → IsOpened tree new.access new.offset number) → Rooted (descriptions ++ Some new ∷ []) tree sockets
+module _ (descriptions : Descriptions) (tree : Tree) (sockets : Sockets) (pipes : List (Option Pipe)) (rooted : Rooted descriptions tree sockets pipes) where
+  pub pushed_rooted : (new : Description) → ((number : ℕ) → new.target ≡ OnNode number → IsOpened tree new.access new.offset number) → Rooted (descriptions ++ Some new ∷ []) tree sockets pipes
   pushed_rooted new is_opened = record {
     tree_is = rooted.tree_is;
     nodes = λ place number description there on. elim (pushed_is descriptions (Some new) place description there) [
@@ -187,13 +235,15 @@ module _ (descriptions : Descriptions) (tree : Tree) (sockets : Sockets) (rooted
       | inr last ↦ let same : new ≡ description = some_same (Some new) new description refl last.1 in
           subst (λ d. IsOpened tree d.access d.offset number) same (is_opened number (ap (λ d. d.target) same ∙ on))
     ];
-    unlinked = λ n used none. pushed_opener descriptions new n (rooted.unlinked n used none);
+    unlinked = λ n used none. pushed_opener descriptions pipes new n (rooted.unlinked n used none);
     wells = rooted.wells;
     alone = rooted.alone;
+    fifos = rooted.fifos;
+    sole = rooted.sole;
   }
 
   pub described_rooted : (place : ℕ) (was now : Description) → description_at descriptions place ≡ Some was → now.target ≡ was.target → now.access ≡ was.access
-      → ((number : ℕ) → was.target ≡ OnNode number → is_directory tree number ≡ true → was.offset % 32 ≡ 0 → now.offset % 32 ≡ 0) → Rooted (with_description descriptions place (Some now)) tree sockets
+      → ((number : ℕ) → was.target ≡ OnNode number → is_directory tree number ≡ true → was.offset % 32 ≡ 0 → now.offset % 32 ≡ 0) → Rooted (with_description descriptions place (Some now)) tree sockets pipes
   described_rooted place was now there target access between = record {
     tree_is = rooted.tree_is;
     nodes = λ other number description is on. elim (changed_is descriptions place (Some now) other description is) [
@@ -204,18 +254,57 @@ module _ (descriptions : Descriptions) (tree : Tree) (sockets : Sockets) (rooted
           subst (λ d. IsOpened tree d.access d.offset number) same (record {
             used = before.used;
             socket = before.socket;
+            fifo = before.fifo;
             directory = λ dir_is. access ∙ before.directory dir_is;
             between = λ dir_is. between number on_it dir_is (before.between dir_is);
           })
     ];
-    unlinked = λ n used none. described_opener descriptions place was now n there target (rooted.unlinked n used none);
+    unlinked = λ n used none. described_opener descriptions pipes place was now n there target (rooted.unlinked n used none);
     wells = rooted.wells;
     alone = rooted.alone;
+    fifos = rooted.fifos;
+    sole = rooted.sole;
   }
 
   -- other sockets
-  pub resocketed_rooted : (after : Sockets) → Each (IsWell tree) after → AreNamedOnce after → Rooted descriptions tree after
-  resocketed_rooted after wells alone = record { tree_is = rooted.tree_is; nodes = rooted.nodes; unlinked = rooted.unlinked; wells = wells; alone = alone }
+  pub resocketed_rooted : (after : Sockets) → Each (IsWell tree) after → AreNamedOnce after → Rooted descriptions tree after pipes
+  resocketed_rooted after wells alone = record { tree_is = rooted.tree_is; nodes = rooted.nodes; unlinked = rooted.unlinked; wells = wells; alone = alone; fifos = rooted.fifos; sole = rooted.sole }
+
+  -- other pipes, each of the same FIFO
+  pub repiped_rooted : (after : List (Option Pipe)) → ((q : ℕ) → fifo_in after q ≡ fifo_in pipes q) → Rooted descriptions tree sockets after
+  repiped_rooted after same = record {
+    tree_is = rooted.tree_is;
+    nodes = rooted.nodes;
+    unlinked = λ n used none. repiped_opener descriptions pipes after n (λ place description p is on of. same p ∙ of) (rooted.unlinked n used none);
+    wells = rooted.wells;
+    alone = rooted.alone;
+    fifos = λ place number of. rooted.fifos place number (sym (same place) ∙ of);
+    sole = λ place other number one two. rooted.sole place other number (sym (same place) ∙ one) (sym (same other) ∙ two);
+  }
+
+  -- one more, of a FIFO that had none
+  pub begun_rooted : (number : ℕ) (begun : Pipe) → fifo_of begun ≡ Some number → is_fifo tree number ≡ true → ((q : ℕ) → fifo_in pipes q ≡ Some number → ⊥) → Rooted descriptions tree sockets (pipes ++ Some begun ∷ [])
+  begun_rooted number begun of fifo none_before = record {
+    tree_is = rooted.tree_is;
+    nodes = rooted.nodes;
+    unlinked = λ n used none. repiped_opener descriptions pipes (pipes ++ Some begun ∷ []) n (λ place description p is on was. front_fifo pipes begun p n was) (rooted.unlinked n used none);
+    wells = rooted.wells;
+    alone = rooted.alone;
+    fifos = λ place n is. elim (pushed_fifo pipes begun place n is) [
+      | inl old ↦ rooted.fifos place n old
+      | inr last ↦ subst (λ m. is_fifo tree m ≡ true) (some_same (fifo_of begun) number n of last.1) fifo
+    ];
+    sole = λ place other n one two. elim (pushed_fifo pipes begun place n one) [
+      | inl old ↦ elim (pushed_fifo pipes begun other n two) [
+        | inl older ↦ rooted.sole place other n old older
+        | inr last ↦ absurd (none_before place (old ∙ ap Some (some_same (fifo_of begun) n number last.1 of)))
+      ]
+      | inr last ↦ elim (pushed_fifo pipes begun other n two) [
+        | inl old ↦ absurd (none_before other (old ∙ ap Some (some_same (fifo_of begun) n number last.1 of)))
+        | inr last_too ↦ last.0 ∙ sym last_too.0
+      ]
+    ];
+  }
 
   -- the nodes of the descriptions that are left where one has gone
   left_nodes : (place : ℕ) → (other number : ℕ) (description : Description) → description_at (with_description descriptions place None) other ≡ Some description → description.target ≡ OnNode number
@@ -226,37 +315,39 @@ module _ (descriptions : Descriptions) (tree : Tree) (sockets : Sockets) (rooted
   ]
 
   -- one goes that opened no node, or whose node another opens
-  pub gone_rooted : (place : ℕ) (was : Description) → description_at descriptions place ≡ Some was → ((n : ℕ) → was.target ≡ OnNode n → Opener (with_description descriptions place None) n)
-      → Rooted (with_description descriptions place None) tree sockets
+  pub gone_rooted : (place : ℕ) (was : Description) → description_at descriptions place ≡ Some was → ((n : ℕ) → node_in pipes was.target ≡ Some n → Opener (with_description descriptions place None) pipes n)
+      → Rooted (with_description descriptions place None) tree sockets pipes
   gone_rooted place was there still = record {
     tree_is = rooted.tree_is;
     nodes = λ other number description is on. (left_nodes place other number description is on).1;
     unlinked = λ n used none. opener n (rooted.unlinked n used none);
     wells = rooted.wells;
     alone = rooted.alone;
+    fifos = rooted.fifos;
+    sole = rooted.sole;
   }
     where
-      opener : (n : ℕ) → Opener descriptions n → Opener (with_description descriptions place None) n
+      opener : (n : ℕ) → Opener descriptions pipes n → Opener (with_description descriptions place None) pipes n
       opener n by_one = elim (eqb_tells by_one.place place) [
-        | inl alike ↦ still n (ap (λ d. d.target) (some_same (description_at descriptions place) was by_one.description there (ap (description_at descriptions) (sym alike.1) ∙ by_one.is)) ∙ by_one.on)
+        | inl alike ↦ still n (ap (λ d. node_in pipes d.target) (some_same (description_at descriptions place) was by_one.description there (ap (description_at descriptions) (sym alike.1) ∙ by_one.is)) ∙ by_one.on)
         | inr apart ↦ gone_opener_apart apart.1
       ]
         where
-          gone_opener_apart : by_one.place ≢ place → Opener (with_description descriptions place None) n
+          gone_opener_apart : by_one.place ≢ place → Opener (with_description descriptions place None) pipes n
           gone_opener_apart apart = record { place = by_one.place; description = by_one.description; is = get_or-set_other descriptions place by_one.place None None apart ∙ by_one.is; on = by_one.on }
 
   -- the last one that opened a node goes, and the node with it where it has no links
   pub closed_rooted : (place : ℕ) (was : Description) (number : ℕ) → description_at descriptions place ≡ Some was → was.target ≡ OnNode number
-      → (Opener (with_description descriptions place None) number → ⊥) → Rooted (with_description descriptions place None) (closed tree number) sockets
+      → (Opener (with_description descriptions place None) pipes number → ⊥) → Rooted (with_description descriptions place None) (closed tree number) sockets pipes
   closed_rooted place was number there on nobody = record {
     tree_is = closed_keeps tree number rooted.tree_is opened.used;
     nodes = λ other n description is on_it. let before = left_nodes place other n description is on_it in
-        let same = closed_nodes tree number n (λ e. nobody (record { place = other; description = description; is = is; on = on_it ∙ ap OnNode e })) in let node = before.1 in
-        record { used = ap is_some same ∙ node.used; socket = ap (λ o. is_socket_kind (kind_in o)) same ∙ node.socket; directory = λ dir_is. node.directory (sym (ap is_directory_in same) ∙ dir_is); between = λ dir_is. node.between (sym (ap is_directory_in same) ∙ dir_is) };
+        let same = closed_nodes tree number n (λ e. nobody (record { place = other; description = description; is = is; on = ap (node_in pipes) on_it ∙ ap Some e })) in let node = before.1 in
+        record { used = ap is_some same ∙ node.used; socket = ap (λ o. is_socket_kind (kind_in o)) same ∙ node.socket; fifo = ap (λ o. is_fifo_kind (kind_in o)) same ∙ node.fifo; directory = λ dir_is. node.directory (sym (ap is_directory_in same) ∙ dir_is); between = λ dir_is. node.between (sym (ap is_directory_in same) ∙ dir_is) };
     unlinked = λ n used none. elim (eqb_tells n number) [
-      | inl alike ↦ absurd (no_links n alike.1 used none)
+      | inl alike ↦ absurd (no_links_left tree number n opened.used alike.1 used none)
       | inr apart ↦ let same = closed_nodes tree number n apart.1 in
-          gone_opener descriptions place was n there (λ on_it. apart.1 (same_node n on_it)) (rooted.unlinked n (sym (ap is_some same) ∙ used) (sym (ap links_in same) ∙ none))
+          gone_opener descriptions pipes place was n there (λ on_it. apart.1 (same_node n on_it)) (rooted.unlinked n (sym (ap is_some same) ∙ used) (sym (ap links_in same) ∙ none))
     ];
     wells = λ at. let well = rooted.wells at in record {
       bound = λ n bound. let sock = well.bound n bound in
@@ -264,21 +355,16 @@ module _ (descriptions : Descriptions) (tree : Tree) (sockets : Sockets) (rooted
       bytes = well.bytes;
     };
     alone = rooted.alone;
+    fifos = λ q n of. let fifo = rooted.fifos q n of in
+        ap (λ o. is_fifo_kind (kind_in o)) (closed_nodes tree number n (λ e. true_false (is_fifo tree number) (sym (ap (is_fifo tree) e) ∙ fifo) opened.fifo)) ∙ fifo;
+    sole = rooted.sole;
   }
     where
       opened : IsOpened tree was.access was.offset number
       opened = rooted.nodes place number was there on
 
-      same_node : (n : ℕ) → was.target ≡ OnNode n → n ≡ number
-      same_node n on_it = let both : OnNode n ≡ OnNode number = sym on_it ∙ on in cc
-
-      -- a node that has no links has gone
-      no_links : (n : ℕ) → n ≡ number → is_in_use (closed tree number) n ≡ true → links_at (closed tree number) n ≡ 0 → ⊥
-      no_links n same used none = go (links_at tree number == 0) refl (sym (ap (is_in_use (closed tree number)) same) ∙ used) (sym (ap (links_at (closed tree number)) same) ∙ none)
-        where
-          go : (b : Bool) → (links_at tree number == 0) ≡ b → is_in_use (cond b (with_node tree number None) tree) number ≡ true → links_at (cond b (with_node tree number None) tree) number ≡ 0 → ⊥
-          go true is used_now none_now = true_false (is_in_use (with_node tree number None) number) used_now (ap is_some (node_at-with_node tree number None (number_within tree number opened.used)))
-          go false is used_now none_now = true_false (links_at tree number == 0) (ap (λ k. k == 0) none_now) is
+      same_node : (n : ℕ) → node_in pipes was.target ≡ Some n → n ≡ number
+      same_node n on_it = some_same (node_in pipes was.target) n number on_it (ap (node_in pipes) on)
 
   -- no directory goes
   pub closed_directories : (place : ℕ) (was : Description) (number : ℕ) → description_at descriptions place ≡ Some was → was.target ≡ OnNode number
@@ -297,12 +383,87 @@ module _ (descriptions : Descriptions) (tree : Tree) (sockets : Sockets) (rooted
       stays false is dir = dir
 
   -- a socket is closed
-  pub sock_closed_rooted : (place : ℕ) (was : Description) (socket : ℕ) → description_at descriptions place ≡ Some was → ((n : ℕ) → was.target ≡ OnNode n → ⊥)
-      → AreLinked sockets → IsSome (sock_at sockets socket) → WaitsNowhere sockets socket → Rooted (with_description descriptions place None) tree (after_close sockets socket)
+  pub sock_closed_rooted : (place : ℕ) (was : Description) (socket : ℕ) → description_at descriptions place ≡ Some was → ((n : ℕ) → node_in pipes was.target ≡ Some n → ⊥)
+      → AreLinked sockets → IsSome (sock_at sockets socket) → WaitsNowhere sockets socket → Rooted (with_description descriptions place None) tree (after_close sockets socket) pipes
   sock_closed_rooted place was socket there other linked is_there nowhere = let left = gone_rooted place was there (λ n on. absurd (other n on)) in record {
     tree_is = left.tree_is;
     nodes = left.nodes;
     unlinked = left.unlinked;
     wells = close_each (IsWell tree) (new_well tree) (staged_well tree) sockets socket linked is_there nowhere rooted.wells;
     alone = close_once sockets socket linked is_there nowhere rooted.alone;
+    fifos = left.fifos;
+    sole = left.sole;
   }
+
+  -- ---- an end of a pipe is closed
+
+  module _ (place : ℕ) (was : Description) (there : description_at descriptions place ≡ Some was) (p : ℕ) (on : was.target ≡ OnPipe p) where
+    -- the pipes then
+    abbrev pub pipes_left : List (Option Pipe)
+    pipes_left = slice_set pipes p (after_close_pipe (unwrap_or (slice_index_or pipes p None) new_pipe) (may_write was.access))
+
+    module _ (ends : (at q : ℕ) (description : Description) → description_at (with_description descriptions place None) at ≡ Some description → description.target ≡ OnPipe q → is_some (slice_index_or pipes_left q None) ≡ true) where
+      -- who opened a node otherwise opens it still
+      still_opener : (n : ℕ) (opener : Opener descriptions pipes n) → opener.place ≢ place → Opener (with_description descriptions place None) pipes_left n
+      still_opener n opener apart = repiped_opener (with_description descriptions place None) pipes pipes_left n
+          (λ at description q is on_it of. stays_fifo pipes p (may_write was.access) q n of (ends at q description is on_it))
+          (record { place = opener.place; description = opener.description; is = get_or-set_other descriptions place opener.place None None apart ∙ opener.is; on = opener.on })
+
+      -- what it opened itself is the FIFO of its pipe
+      own_fifo : (n : ℕ) (opener : Opener descriptions pipes n) → opener.place ≡ place → fifo_in pipes p ≡ Some n
+      own_fifo n opener same = ap (node_in pipes) (sym on)
+          ∙ ap (λ d. node_in pipes d.target) (some_same (description_at descriptions place) was opener.description there (ap (description_at descriptions) (sym same) ∙ opener.is)) ∙ opener.on
+
+      -- the tree stays: its pipe is of no FIFO, or of one that is open still
+      pub end_gone_rooted : ((n : ℕ) → fifo_in pipes p ≡ Some n → Opener (with_description descriptions place None) pipes_left n) → Rooted (with_description descriptions place None) tree sockets pipes_left
+      end_gone_rooted still = record {
+        tree_is = rooted.tree_is;
+        nodes = λ other number description is on_it. (left_nodes place other number description is on_it).1;
+        unlinked = λ n used none. let opener = rooted.unlinked n used none in elim (eqb_tells opener.place place) [
+          | inl alike ↦ still n (own_fifo n opener alike.1)
+          | inr apart ↦ still_opener n opener apart.1
+        ];
+        wells = rooted.wells;
+        alone = rooted.alone;
+        fifos = λ q n of. rooted.fifos q n (closed_fifo pipes p (may_write was.access) q n of);
+        sole = λ q other n one two. rooted.sole q other n (closed_fifo pipes p (may_write was.access) q n one) (closed_fifo pipes p (may_write was.access) other n two);
+      }
+
+      -- the last end of a FIFO goes, and the node with it where it has no links
+      module _ (number : ℕ) (of : fifo_in pipes p ≡ Some number) where
+        is_one : is_fifo tree number ≡ true
+        is_one = rooted.fifos p number of
+
+        used_one : is_in_use tree number ≡ true
+        used_one = fifo_used (node_at tree number) is_one
+
+        pub fifo_closed_rooted : (Opener (with_description descriptions place None) pipes_left number → ⊥)
+            → ((q n : ℕ) → fifo_in pipes_left q ≡ Some n → Opener (with_description descriptions place None) pipes_left n) → Rooted (with_description descriptions place None) (closed tree number) sockets pipes_left
+        fifo_closed_rooted nobody held = record {
+          tree_is = closed_keeps tree number rooted.tree_is used_one;
+          nodes = λ other n description is on_it. let node = (left_nodes place other n description is on_it).1 in
+              let same = closed_nodes tree number n (λ e. true_false (is_fifo tree number) is_one (sym (ap (is_fifo tree) e) ∙ node.fifo)) in
+              record { used = ap is_some same ∙ node.used; socket = ap (λ o. is_socket_kind (kind_in o)) same ∙ node.socket; fifo = ap (λ o. is_fifo_kind (kind_in o)) same ∙ node.fifo; directory = λ dir_is. node.directory (sym (ap is_directory_in same) ∙ dir_is); between = λ dir_is. node.between (sym (ap is_directory_in same) ∙ dir_is) };
+          unlinked = λ n used none. elim (eqb_tells n number) [
+            | inl alike ↦ absurd (no_links_left tree number n used_one alike.1 used none)
+            | inr apart ↦ let same = closed_nodes tree number n apart.1 in
+                let opener = rooted.unlinked n (sym (ap is_some same) ∙ used) (sym (ap links_in same) ∙ none) in elim (eqb_tells opener.place place) [
+                  | inl alike ↦ absurd (apart.1 (some_same (fifo_in pipes p) n number (own_fifo n opener alike.1) of))
+                  | inr other ↦ still_opener n opener other.1
+                ]
+          ];
+          wells = λ at. let well = rooted.wells at in record {
+            bound = λ n bound. let sock = well.bound n bound in
+                ap (λ o. is_socket_kind (kind_in o)) (closed_nodes tree number n (λ e. true_false (is_socket tree number) (sym (ap (is_socket tree) e) ∙ sock) (fifo_no_socket (node_at tree number) is_one))) ∙ sock;
+            bytes = well.bytes;
+          };
+          alone = rooted.alone;
+          fifos = λ q n of_it. ap (λ o. is_fifo_kind (kind_in o)) (closed_nodes tree number n (λ e. nobody (subst (Opener (with_description descriptions place None) pipes_left) e (held q n of_it))))
+              ∙ rooted.fifos q n (closed_fifo pipes p (may_write was.access) q n of_it);
+          sole = λ q other n one two. rooted.sole q other n (closed_fifo pipes p (may_write was.access) q n one) (closed_fifo pipes p (may_write was.access) other n two);
+        }
+
+        -- no directory goes
+        pub fifo_closed_directories : (n : ℕ) → is_directory tree n ≡ true → is_directory (closed tree number) n ≡ true
+        fifo_closed_directories n dir_is = ap is_directory_in
+            (closed_nodes tree number n (λ e. true_false (is_directory tree number) (sym (ap (is_directory tree) e) ∙ dir_is) (fifo_no_directory (node_at tree number) is_one))) ∙ dir_is

@@ -7,18 +7,19 @@ use Rattle.std.proofs.lemmas.Option.{slice_get_past}
 use Rattle.kabi_types.specs.Arguments.{most_descriptors}
 use Rattle.posix_defs.specs.ByPid.{at_pid, with_pid}
 use Rattle.posix_defs.specs.Ending.{closed_by}
-use Rattle.posix_defs.specs.TreeChanges.{closed}
 use Rattle.posix_defs.specs.Files.Descriptors.{Descriptor, Descriptors, descriptor_at, is_cloexec, is_named, none_open, with_descriptor}
 use Rattle.posix_defs.specs.Files.Descriptions.{Target, OnNode, OnPipe, OnSocket, Access, Description, description_at, with_description}
-use Rattle.posix_defs.specs.Files.State.{Files, descriptors_of, opens, with_descriptions, with_open, with_tree}
+use Rattle.posix_defs.specs.Files.State.{Files, descriptors_of, node_of, with_descriptions, with_open, with_opening}
 use Rattle.posix_defs.specs.Files.Closing.{after_all_end, after_close, after_closes, after_end_of, after_ends_of, after_exec_of, all_numbers, close_in, description_gone, gone_in, released, target_closed}
 use Rattle.kern_laws.proofs.Bareness.{none_open_at}
 use Rattle.kern_laws.proofs.TablePlaces.{below_or_not}
+use Rattle.machine_laws.proofs.FifoPlaces.{left_holds, node_holds}
 use Rattle.machine_laws.proofs.Places.{not_some, opener_made, others_after, own_after}
 
--- as many processes, each with as many numbers; and of another process than this, where nothing was open nothing is
+-- as many processes, each with as many numbers, and as many that may wait for the other side of a FIFO; and of another process than this, where nothing was open nothing is
 pub record Shuts (pid : ℕ) (old new : Files) : Type 0 where
   pub counted : length new.descriptors ≡ length old.descriptors
+  pub openings : length new.openings ≡ length old.openings
   pub places : ((who : ℕ) → length (descriptors_of old who) ≡ most_descriptors) → (who : ℕ) → length (descriptors_of new who) ≡ most_descriptors
   pub shut : (who : ℕ) → who ≢ pid → descriptors_of old who ≡ none_open → descriptors_of new who ≡ none_open
 
@@ -26,9 +27,10 @@ pub record Shuts (pid : ℕ) (old new : Files) : Type 0 where
 pub same_of : (old new : Files) → new.descriptors ≡ old.descriptors → (who : ℕ) → descriptors_of new who ≡ descriptors_of old who
 same_of old new same who = ap (λ list. unwrap_or (at_pid list who) none_open) same
 
-pub shuts_same : (pid : ℕ) (old new : Files) → new.descriptors ≡ old.descriptors → Shuts pid old new
-shuts_same pid old new same = record {
+pub shuts_same : (pid : ℕ) (old new : Files) → new.descriptors ≡ old.descriptors → length new.openings ≡ length old.openings → Shuts pid old new
+shuts_same pid old new same openings = record {
   counted = ap (λ list. length list) same;
+  openings = openings;
   places = λ each who. ap (λ list. length list) (same_of old new same who) ∙ each who;
   shut = λ who apart none. same_of old new same who ∙ none;
 }
@@ -36,6 +38,7 @@ shuts_same pid old new same = record {
 pub shuts_on : (pid : ℕ) (old between new : Files) → Shuts pid old between → Shuts pid between new → Shuts pid old new
 shuts_on pid old between new one two = record {
   counted = two.counted ∙ one.counted;
+  openings = two.openings ∙ one.openings;
   places = λ each. two.places (one.places each);
   shut = λ who apart none. two.shut who apart (one.shut who apart none);
 }
@@ -56,7 +59,7 @@ none_open_length = refl
 -- ---- one descriptor changes
 
 pub open_shuts : (files : Files) (pid fd : ℕ) (descriptor : Option Descriptor) → Shuts pid files (with_open files pid fd descriptor)
-open_shuts files pid fd descriptor = record { counted = counted; places = places; shut = shut }
+open_shuts files pid fd descriptor = record { counted = counted; openings = refl; places = places; shut = shut }
   where
     counted : length (with_open files pid fd descriptor).descriptors ≡ length files.descriptors
     counted = length_with files.descriptors pid (with_descriptor (descriptors_of files pid) fd descriptor)
@@ -85,13 +88,26 @@ open_shuts files pid fd descriptor = record { counted = counted; places = places
 
 -- what goes with a descriptor is none of the descriptors
 pub target_same : (files : Files) (access : Access) (target : Target) → (target_closed files access target).descriptors ≡ files.descriptors
-target_same files access (OnNode number) = go (opens files number)
-  where
-    go : (b : Bool) → (cond b files (with_tree files (closed files.tree number))).descriptors ≡ files.descriptors
-    go true = refl
-    go false = refl
-target_same files access (OnPipe place) = refl
+target_same files access (OnNode number) = node_holds (λ left. left.descriptors ≡ files.descriptors) files number refl (λ tree. refl)
+target_same files access (OnPipe place) = left_holds (λ left. left.descriptors ≡ files.descriptors) _ (node_of files (OnPipe place)) refl (λ tree. refl)
 target_same files access (OnSocket place) = refl
+
+-- nor who waits for the other side of a FIFO
+pub target_openings : (files : Files) (access : Access) (target : Target) → (target_closed files access target).openings ≡ files.openings
+target_openings files access (OnNode number) = node_holds (λ left. left.openings ≡ files.openings) files number refl (λ tree. refl)
+target_openings files access (OnPipe place) = left_holds (λ left. left.openings ≡ files.openings) _ (node_of files (OnPipe place)) refl (λ tree. refl)
+target_openings files access (OnSocket place) = refl
+
+pub released_openings : (files : Files) (place : ℕ) → (released files place).openings ≡ files.openings
+released_openings files place = go (is_named files.descriptors place)
+  where
+    gone : (o : Option Description) → (gone_in files place o).openings ≡ files.openings
+    gone None = refl
+    gone (Some description) = target_openings (with_descriptions files (with_description files.descriptions place None)) description.access description.target
+
+    go : (b : Bool) → (cond b files (description_gone files place)).openings ≡ files.openings
+    go true = refl
+    go false = gone (description_at files.descriptions place)
 
 pub released_same : (files : Files) (place : ℕ) → (released files place).descriptors ≡ files.descriptors
 released_same files place = go (is_named files.descriptors place)
@@ -110,6 +126,7 @@ close_shuts pid files who fd = go (descriptor_at (descriptors_of files who) fd) 
     some : (descriptor : Descriptor) → descriptor_at (descriptors_of files who) fd ≡ Some descriptor → Shuts pid files (released (with_open files who fd None) descriptor.description)
     some descriptor held = record {
       counted = ap (λ list. length list) same ∙ changed.counted;
+      openings = ap (λ list. length list) (released_openings (with_open files who fd None) descriptor.description);
       places = λ each other. ap (λ list. length list) (same_of (with_open files who fd None) (released (with_open files who fd None) descriptor.description) same other) ∙ changed.places each other;
       shut = λ other apart none. same_of (with_open files who fd None) (released (with_open files who fd None) descriptor.description) same other ∙ shut other none;
     }
@@ -127,11 +144,11 @@ close_shuts pid files who fd = go (descriptor_at (descriptors_of files who) fd) 
         ]
 
     go : (o : Option Descriptor) → descriptor_at (descriptors_of files who) fd ≡ o → Shuts pid files (close_in files who fd o)
-    go None held = shuts_same pid files files refl
+    go None held = shuts_same pid files files refl refl
     go (Some descriptor) held = some descriptor held
 
 closes_shut : (pid : ℕ) (files : Files) (who : ℕ) (fds : List ℕ) → Shuts pid files (after_closes files who fds)
-closes_shut pid files who [] = shuts_same pid files files refl
+closes_shut pid files who [] = shuts_same pid files files refl refl
 closes_shut pid files who (fd ∷ fds) = shuts_on pid files (after_close files who fd) (after_closes (after_close files who fd) who fds)
     (close_shuts pid files who fd) (closes_shut pid (after_close files who fd) who fds)
 
@@ -141,10 +158,11 @@ exec_shuts pid files who = closes_shut pid files who (filter (is_cloexec (descri
 
 end_shuts : (pid : ℕ) (files : Files) (who : ℕ) → Shuts pid files (after_end_of files who)
 unfolding after_end_of
-end_shuts pid files who = closes_shut pid files who all_numbers
+end_shuts pid files who = shuts_on pid files (after_closes files who all_numbers) (with_opening (after_closes files who all_numbers) who None) (closes_shut pid files who all_numbers)
+    (shuts_same pid _ _ refl (length_with (after_closes files who all_numbers).openings who None))
 
 ends_shut : (pid : ℕ) (files : Files) (pids : List ℕ) → Shuts pid files (after_ends_of files pids)
-ends_shut pid files [] = shuts_same pid files files refl
+ends_shut pid files [] = shuts_same pid files files refl refl
 ends_shut pid files (who ∷ pids) = shuts_on pid files (after_end_of files who) (after_ends_of (after_end_of files who) pids)
     (end_shuts pid files who) (ends_shut pid (after_end_of files who) pids)
 

@@ -1,21 +1,23 @@
 -- Each answer of each call leads to files that one step leads to.
-use Rattle.std.proofs.Common.{◌≡◌, ℕ, zero, suc, ◌-◌, ◌==◌, ◌&&◌, ◌||◌, nat_lt, ℤ, pos, negsuc, ◌+ℤ◌, Bool, true, false, cond, List, length, Option, None, Some, is_some, Result, Ok, Err, refl, ap, ◌∙◌}
+use Rattle.std.proofs.Common.{◌≡◌, ℕ, zero, suc, ◌-◌, ◌==◌, ◌&&◌, ◌||◌, nat_lt, ℤ, pos, negsuc, ◌+ℤ◌, Bool, true, false, cond, List, length, Option, None, Some, is_some, Result, Ok, Err, refl, ap, sym, ◌∙◌, subst}
 use Rattle.kabi_types.specs.Arguments.{argument_fault, count_of, is_minus_one, may_be_descriptor}
 use Rattle.kabi_types.specs.declared.calls.Call.{Call}
 use Rattle.kabi_types.specs.declared.calls.Call.TheVariants as call
 use Rattle.kabi_types.specs.declared.errnos.Errno.{Errno}
 use Rattle.kabi_types.specs.declared.replies.StatInfo.{StatInfo}
 use Rattle.kabi_types.specs.declared.scripts.Script.{Script}
-use Rattle.posix_defs.specs.Answer.{Answer}
+use Rattle.kabi_types.specs.declared.replies.Reply.TheVariants.{Val}
+use Rattle.posix_defs.specs.Answer.{Answer, replied}
+use Rattle.posix_defs.specs.ByPid.{with_pid}
 use Rattle.posix_defs.specs.Forking.{fork, is_full}
 use Rattle.posix_defs.specs.Killing.{is_asking, is_ended_by, kill, sent_to, struck}
 use Rattle.posix_defs.specs.Machine.{answer_to, machine, unless_wrong}
 use Rattle.posix_defs.specs.Memory.{is_mapped_range, lowest_run}
 use Rattle.posix_defs.specs.MemoryCalls.{in_range, mapped_from, mmap}
 use Rattle.posix_defs.specs.Needs.{pages_in}
-use Rattle.posix_defs.specs.Pipe.{Moving, pipe_read, pipe_write}
+use Rattle.posix_defs.specs.Pipe.{Moving, pipe_read, pipe_write, with_end}
 use Rattle.posix_defs.specs.Pipe as pipes
-use Rattle.posix_defs.specs.Plain.{Plain}
+use Rattle.posix_defs.specs.Plain.{Plain, with_files}
 use Rattle.posix_defs.specs.Process.{Process, directory_of, memory_of, process_at}
 use Rattle.posix_defs.specs.Reaching.{is_on_node}
 use Rattle.posix_defs.specs.Socket.{Accepting, is_connected}
@@ -24,19 +26,19 @@ use Rattle.posix_defs.specs.Sockets.{after_listen, after_shut, sock_read, stage_
 use Rattle.posix_defs.specs.Tree.{Tree, is_directory}
 use Rattle.posix_defs.specs.TreeChanges.{resize}
 use Rattle.posix_defs.specs.TreeChanges as trees
-use Rattle.posix_defs.specs.PathCalls.{bind_path, enter_path, exec_path, find_socket, link_path, mkdir_path, open_path, rename_path, rmdir_path, stat_path, unlink_path}
+use Rattle.posix_defs.specs.PathCalls.{bind_path, enter_path, exec_path, find_socket, is_fifo, link_path, mkdir_path, mkfifo_path, open_path, rename_path, rmdir_path, stat_path, unlink_path}
 use Rattle.posix_defs.specs.Waiting.{Exited, any_from, exited_from, is_nohang, waited_for, waitpid}
 use Rattle.posix_defs.specs.Files.Descriptors.{Two, lowest_free, lowest_free_from, two_lowest_free}
-use Rattle.posix_defs.specs.Files.Descriptions.{Target, OnNode, OnPipe, OnSocket, has_flag, may_read, may_write}
+use Rattle.posix_defs.specs.Files.Descriptions.{Target, OnNode, OnPipe, OnSocket, access_of, has_flag, may_read, may_write, o_cloexec}
 use Rattle.posix_defs.specs.Files.SocketNames.{listener_at}
-use Rattle.posix_defs.specs.Files.State.{Files, descriptors_of, node_of, opens, pipe_at}
+use Rattle.posix_defs.specs.Files.State.{Files, HalfOpen, descriptors_of, node_of, opened_as, opening_at, opens, pipe_at, with_openings}
 use Rattle.posix_defs.specs.Calls.Opened.{Opened, answer_on, if_readable, if_writable, on_open, opened_at}
 use Rattle.posix_defs.specs.Calls.OnDescriptors.{close, controlled, dup, dup2, duplicated, fcntl}
 use Rattle.posix_defs.specs.Calls.Reading.{is_directory_target, list_target, of_bytes, pread, pread_target, read, read_from_pipe, read_from_socket, read_target, readdir}
-use Rattle.posix_defs.specs.Calls.Writing.{bytes_left, place_of_write, put_in_pipe, put_in_socket, pwrite, pwrite_target, write, write_ignoring, write_queue, write_target, wrote, wrote_at}
+use Rattle.posix_defs.specs.Calls.Writing.{bytes_left, did_part, place_of_write, put_in_pipe, put_in_socket, pwrite, pwrite_target, write, write_ignoring, write_queue, write_target, wrote, wrote_at}
 use Rattle.posix_defs.proofs.SignalLemmas.{of_write}
-use Rattle.posix_defs.specs.Calls.OnFiles.{fstat, ftruncate, greatest_offset, is_between_entries, lseek, open_at, open_file, opened_node_as, opening_of, origin, resized_to, seek_target, seek_to, truncate_target}
-use Rattle.posix_defs.specs.Calls.OnNames.{chdir, freed_in, is_busy, link, made_directory, mkdir, rename, retreed, rmdir, stat, told_of, unlink, works_from}
+use Rattle.posix_defs.specs.Calls.OnFiles.{description_on, end_awaits, end_opened, fifo_at, fifo_fault, fifo_pipe, fifo_place, fifo_there, fifo_waits, fstat, ftruncate, greatest_offset, is_between_entries, is_met, lseek, open_at, open_by, open_end, open_file, opened_node_as, opening_of, origin, resized_to, seek_target, seek_to, truncate_target, with_fifo}
+use Rattle.posix_defs.specs.Calls.OnNames.{chdir, freed_in, is_busy, link, made_node, mkdir, mkfifo, rename, retreed, rmdir, stat, told_of, unlink, works_from}
 use Rattle.posix_defs.specs.Calls.Starting.{exec, starts}
 use Rattle.posix_defs.specs.Calls.OnPipes.{pipe, piped_under}
 use Rattle.posix_defs.specs.Calls.OnSockets.{accept, accepted_under, bind, bound_to, connect, connected_by, connected_under, listen, listener_under, on_socket, paired_under, resocketed, shutdown, socket_target, socketed_under, socketpair, unless_fault}
@@ -44,7 +46,7 @@ use Rattle.posix_defs.specs.Calls.OnSockets as on_sockets
 use Rattle.posix_defs.specs.Calls.Polling.{hits_of, poll, revents_of}
 use Rattle.machine_laws.proofs.Between.{listed_between, of_file, sought_between}
 use Rattle.machine_laws.specs.FileSteps as step
-use Rattle.machine_laws.specs.FileSteps.{IsStep, Steps, WritesNode, may_end_caller, may_end_other}
+use Rattle.machine_laws.specs.FileSteps.{IsStep, MayWait, OpensEnd, Steps, WritesNode, may_end_caller, may_end_other}
 
 -- what is asked of an answer
 abbrev Stepped : Plain → ℕ → Call → Answer → Type 0
@@ -55,6 +57,19 @@ on_node : (files : Files) (o : Option Opened) (opened : Opened) (number : ℕ) �
     → (is_on_node files o || false) ≡ true
 on_node files o opened number is target =
     ap (λ o. is_on_node files o || false) is ∙ ap (λ t. is_some (node_of files t) || false) target
+
+-- an end of a FIFO is opened, by the place of its pipe
+abbrev pub end_at : Files → ℕ → ℤ → ℕ → ℕ → Option ℕ → Files
+end_at files pid flags fd number at =
+    opened_as (with_fifo files at (with_end (fifo_there files number at) (may_write (access_of flags)))) pid fd (has_flag flags o_cloexec) (description_on (OnPipe (fifo_place files at)) flags)
+
+-- who waits for the other side of a FIFO is as before
+pub end_openings : (files : Files) (pid : ℕ) (flags : ℤ) (fd number : ℕ) → (end_opened files pid flags fd number).openings ≡ files.openings
+end_openings files pid flags fd number = go (fifo_at files number)
+  where
+    go : (at : Option ℕ) → (end_at files pid flags fd number at).openings ≡ files.openings
+    go None = refl
+    go (Some place) = refl
 
 module _ (script : Script) (plain : Plain) (pid : ℕ) (which : Call) where
   either : (b : Bool) (one two : Answer) → (b ≡ true → Stepped plain pid which one) → (b ≡ false → Stepped plain pid which two) → Stepped plain pid which (cond b one two)
@@ -403,22 +418,55 @@ module _ (script : Script) (plain : Plain) (pid : ℕ) where
 
   opens_file : (path : List ℕ) (flags : ℤ) → Stepped plain pid (call.OpenFile path flags) (open_file script plain pid path flags)
   unfolding open_file
-  opens_file path flags = go (lowest_free (descriptors_of plain.files pid)) refl
+  opens_file path flags = go (opening_at plain.files pid) refl
     where
-      there : (fd : ℕ) (r : Result (ℕ × Tree) Errno) → lowest_free (descriptors_of plain.files pid) ≡ Some fd
-          → open_path plain.files.tree (directory_of plain.table pid) path (opening_of flags) ≡ r → Stepped plain pid (call.OpenFile path flags) (opened_node_as script plain pid flags fd r)
-      there fd (Ok found) free led = step.opens path flags fd found refl free led refl
-      there fd (Err e) free led = step.stays refl
+      -- the end of a FIFO, by the place of its pipe, whether it is waited for the other side or not
+      end : (fd : ℕ) (found : ℕ × Tree) (openings : List (Option HalfOpen)) → OpensEnd plain pid (call.OpenFile path flags) path flags fd found → MayWait plain.files pid flags fd found.0 openings
+          → (at : Option ℕ) → fifo_at plain.files found.0 ≡ at → IsStep plain pid (call.OpenFile path flags) true (with_openings (end_at plain.files pid flags fd found.0 at) openings)
+      end fd found openings opens waits (Some place) is = step.joins path flags fd place found openings opens is waits refl
+      end fd found openings opens waits None is = step.begins path flags fd found openings opens is waits refl
 
-      go : (o : Option ℕ) → lowest_free (descriptors_of plain.files pid) ≡ o → Stepped plain pid (call.OpenFile path flags) (open_at script plain pid path flags o)
-      go None free = step.stays refl
-      go (Some fd) free = there fd _ free refl
+      both : (fd : ℕ) (found : ℕ × Tree) (waits : Bool) → OpensEnd plain pid (call.OpenFile path flags) path flags fd found → fifo_waits (fifo_pipe plain.files found.0) flags ≡ waits
+          → Stepped plain pid (call.OpenFile path flags) (cond waits (did_part (with_files plain (end_awaits plain.files pid flags fd found.0)) pid 1)
+          (replied script (with_files plain (end_opened plain.files pid flags fd found.0)) pid (Val (pos fd))))
+      both fd found true opens waits = subst (IsStep plain pid (call.OpenFile path flags) true) (ap (with_openings (end_opened plain.files pid flags fd found.0)) (ap (λ list. with_pid list pid _) (sym (end_openings plain.files pid flags fd found.0))))
+          (end fd found _ opens (step.waits waits refl) (fifo_at plain.files found.0) refl)
+      both fd found false opens waits = subst (IsStep plain pid (call.OpenFile path flags) true) (ap (with_openings (end_opened plain.files pid flags fd found.0)) (sym (end_openings plain.files pid flags fd found.0)))
+          (end fd found _ opens (step.goes waits refl) (fifo_at plain.files found.0) refl)
+
+      ends : (fd : ℕ) (found : ℕ × Tree) (fault : Option Errno) → opening_at plain.files pid ≡ None → lowest_free (descriptors_of plain.files pid) ≡ Some fd
+          → open_path plain.files.tree (directory_of plain.table pid) path (opening_of flags) ≡ Ok found → is_fifo found.1 found.0 ≡ true
+          → fifo_fault (fifo_pipe plain.files found.0) flags ≡ fault → Stepped plain pid (call.OpenFile path flags) (open_end script plain pid flags fd found.0 fault)
+      ends fd found (Some e) begins free led fifo is = step.stays refl
+      ends fd found None begins free led fifo is = both fd found _ (record { which = refl; begins = begins; free = free; led = led; fifo = fifo; right = is }) refl
+
+      there : (fd : ℕ) (r : Result (ℕ × Tree) Errno) → opening_at plain.files pid ≡ None → lowest_free (descriptors_of plain.files pid) ≡ Some fd
+          → open_path plain.files.tree (directory_of plain.table pid) path (opening_of flags) ≡ r → Stepped plain pid (call.OpenFile path flags) (opened_node_as script plain pid flags fd r)
+      there fd (Ok found) begins free led = either script plain pid _ (is_fifo found.1 found.0) _ _ (λ fifo. ends fd found _ begins free led fifo refl)
+          (λ other. step.opens path flags fd found refl free led other refl)
+      there fd (Err e) begins free led = step.stays refl
+
+      at : (o : Option ℕ) → opening_at plain.files pid ≡ None → lowest_free (descriptors_of plain.files pid) ≡ o → Stepped plain pid (call.OpenFile path flags) (open_at script plain pid path flags o)
+      at None begins free = step.stays refl
+      at (Some fd) begins free = there fd _ begins free refl
+
+      go : (o : Option HalfOpen) → opening_at plain.files pid ≡ o → Stepped plain pid (call.OpenFile path flags) (open_by script plain pid path flags o)
+      go None begins = at _ begins refl
+      go (Some opening) begun = either script plain pid _ (is_met plain.files pid opening) _ _ (λ met. step.meets path flags opening refl begun refl) (λ not_yet. tt)
+
+  makes_fifo : (path : List ℕ) → Stepped plain pid (call.Mkfifo path) (mkfifo script plain pid path)
+  unfolding mkfifo
+  makes_fifo path = go _ refl
+    where
+      go : (r : Result (ℕ × Tree) Errno) → mkfifo_path plain.files.tree (directory_of plain.table pid) path ≡ r → Stepped plain pid (call.Mkfifo path) (made_node script plain pid r)
+      go (Ok made) is = step.makes_fifo path made refl is refl
+      go (Err e) is = step.stays refl
 
   makes : (path : List ℕ) → Stepped plain pid (call.Mkdir path) (mkdir script plain pid path)
   unfolding mkdir
   makes path = go _ refl
     where
-      go : (r : Result (ℕ × Tree) Errno) → mkdir_path plain.files.tree (directory_of plain.table pid) path ≡ r → Stepped plain pid (call.Mkdir path) (made_directory script plain pid r)
+      go : (r : Result (ℕ × Tree) Errno) → mkdir_path plain.files.tree (directory_of plain.table pid) path ≡ r → Stepped plain pid (call.Mkdir path) (made_node script plain pid r)
       go (Ok made) is = step.makes path made refl is refl
       go (Err e) is = step.stays refl
 
@@ -512,6 +560,7 @@ module _ (script : Script) (plain : Plain) (pid : ℕ) where
   right (call.Shutdown fd how) = shuts script plain pid _ fd how
   right (call.Poll timeout entries) = polls script plain pid _ timeout entries
   right (call.Signal of disposition) = step.stays refl
+  right (call.Mkfifo path) = makes_fifo path
 
 -- an answer whose operands aren't wrong is told where none is, and else only an errno
 told : (script : Script) (plain : Plain) (pid : ℕ) (which : Call) (fault : Option Errno) → Stepped plain pid which (answer_to script plain pid which)

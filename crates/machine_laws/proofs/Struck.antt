@@ -45,6 +45,7 @@ module _ (script : Script) (plain : Plain) (pid who : ℕ) (call : Call) (apart 
   by_shape given (shape.moves path directory called led is) = subst Ends (sym is) (lives _ (alive_working plain.table pid who directory ∙ alive))
   by_shape given (shape.disposes signal disposition ignores before called is) = subst Ends (sym is) (lives _ (alive_ignoring plain.table pid who ignores ∙ alive))
   by_shape given (shape.parts files moved part is) = subst Ends (sym is) (lives plain.table alive)
+  by_shape given (shape.awaits files begun is) = subst Ends (sym is) (lives plain.table alive)
   by_shape given (shape.starts place is) = subst Ends (sym is) (lives _ (alive_still plain.table pid who no_memory ∙ alive))
   by_shape given (shape.forks is) = subst Ends (sym is) (lives _ (still_alive plain.table (child_of pid (process_at plain.table pid)) who alive))
   by_shape given (shape.reaps child status over is) = subst Ends (sym is)

@@ -77,6 +77,7 @@ made_paths kind.Stat numbers values texts done fits path here = one_text 0 value
 made_paths kind.Chdir numbers values texts done fits path here = one_text 0 values texts fits path here
 made_paths kind.Mkdir numbers values texts done fits path here = one_text 0 values texts fits path here
 made_paths kind.Rmdir numbers values texts done fits path here = one_text 0 values texts fits path here
+made_paths kind.Mkfifo numbers values texts done fits path here = one_text 0 values texts fits path here
 made_paths kind.Unlink numbers values texts done fits path here = one_text 0 values texts fits path here
 made_paths kind.Link numbers values texts done fits path here = two_texts values texts fits path here
 made_paths kind.Rename numbers values texts done fits path here = two_texts values texts fits path here

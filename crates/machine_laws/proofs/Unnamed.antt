@@ -14,7 +14,7 @@ use Rattle.posix_defs.specs.TreeChanges.{closed}
 use Rattle.posix_defs.specs.Files.Closing.{target_closed}
 use Rattle.posix_defs.specs.Files.Descriptions.{Target, OnNode, OnPipe, OnSocket, Description, Descriptions, description_at, with_description}
 use Rattle.posix_defs.specs.Files.SocketNames.{after_freeing, listener_at, none_bound_to, unnamed}
-use Rattle.posix_defs.specs.Files.State.{Files, is_number, opens, with_descriptions, with_tree}
+use Rattle.posix_defs.specs.Files.State.{Files, is_number, node_of, opens, with_descriptions, with_tree}
 use Rattle.posix_defs.specs.Files.Whole.{named_sockets}
 use Rattle.posix_defs.specs.Calls.Opened.{Opened, opened_at}
 use Rattle.posix_defs.specs.Calls.Writing.{bytes_left}
@@ -27,6 +27,7 @@ use Rattle.machine_laws.specs.FileSteps as step
 use Rattle.machine_laws.specs.FileSteps.{IsStep}
 use Rattle.machine_laws.specs.Reached.{IsReached}
 use Rattle.machine_laws.proofs.Places.{naming, not_some}
+use Rattle.machine_laws.proofs.FifoPlaces.{left_holds}
 use Rattle.machine_laws.proofs.Closings.{IsClosedUnder, anybody, close_holds, closed_by_holds, exec_holds}
 use Rattle.machine_laws.proofs.Inductions.{answers_keep, by_induction}
 use Rattle.machine_laws.proofs.Joining.{Joined, closes as joined_closes, joined_holds}
@@ -141,6 +142,7 @@ Holds files = Joined files.descriptions files.sockets × NamedHave files.descrip
 closes : IsClosedUnder anybody Holds
 closes = record {
   shut = λ files pid fd who holds. holds;
+  wakes = λ files pid who holds. holds;
   gone = λ files place description holds is none. (joined_closes.gone files place description holds.0 is none, gone files place description holds is description.target refl);
 }
   where
@@ -173,7 +175,10 @@ closes = record {
             (cond b (with_descriptions files (with_description files.descriptions place None)) (with_tree (with_descriptions files (with_description files.descriptions place None)) (closed files.tree number))).sockets
         go true = have
         go false = have
-    gone files place description holds is (OnPipe p) on = left files place description holds is (λ socket e. no_pipe p socket (sym on ∙ e))
+    gone files place description holds is (OnPipe p) on = left_holds (λ after. NamedHave after.descriptions after.sockets) _ (node_of files (OnPipe p)) have (λ tree. have)
+      where
+        have : NamedHave (with_description files.descriptions place None) files.sockets
+        have = left files place description holds is (λ socket e. no_pipe p socket (sym on ∙ e))
     gone files place description holds is (OnSocket socket) on = λ other number named.
         elim (gone_to files.descriptions place description is other (holds.1 other number (close_fewer files.sockets socket linked there nowhere other number named))) [
           | inl was ↦ absurd (close_none files.sockets socket linked there nowhere number
@@ -249,11 +254,12 @@ module _ (plain : Plain) (pid : ℕ) (call : Call) (next : Files) (holds : Holds
   step_names (step.marks fd opened cloexec named_it is) = same _ is refl refl
   step_names (step.closes fd opened named_it is) = by_both _ is (close_holds anybody Holds closes plain.files pid (count_of fd) tt holds)
   step_names (step.describes fd opened description named_it target access between is) = kept _ is (described fd opened description named_it target access) (λ place number has. has)
-  step_names (step.opens path flags fd found which free led is) = kept _ is (pushed_old plain.files.descriptions _) (λ place number has. has)
+  step_names (step.opens path flags fd found which free led other is) = kept _ is (pushed_old plain.files.descriptions _) (λ place number has. has)
   step_names (step.writes fd addr n done opened number at offset written reaches wrote is) = kept _ is (described fd opened _ reaches.named refl refl) (λ place number has. has)
   step_names (step.writes_at fd addr n opened number at written reaches wrote is) = same _ is refl refl
   step_names (step.resizes fd opened number size tree reaches sized is) = same _ is refl refl
   step_names (step.makes path made_it which led is) = same _ is refl refl
+  step_names (step.makes_fifo path made_it which led is) = same _ is refl refl
   step_names (step.removes path tree which led is) = same _ is refl refl
   step_names (step.links old new tree which led is) = same _ is refl refl
   step_names (step.unlinks path left which led is) = kept _ is (λ socket here. here) (freed_fewer plain.files.sockets left.0)
@@ -261,6 +267,9 @@ module _ (plain : Plain) (pid : ℕ) (call : Call) (next : Files) (holds : Holds
   step_names (step.pipes two free is) = kept _ is (λ socket here. pushed_old (plain.files.descriptions ++ Some _ ∷ []) _ socket (pushed_old plain.files.descriptions _ socket here)) (λ place number has. has)
   step_names (step.takes fd addr n opened place k which named_it on may moves is) = same _ is refl refl
   step_names (step.puts fd addr n done opened place k which named_it on may moves is) = same _ is refl refl
+  step_names (step.joins path flags fd place found openings opens at waits is) = kept _ is (pushed_old plain.files.descriptions _) (λ place number has. has)
+  step_names (step.begins path flags fd found openings opens at waits is) = kept _ is (pushed_old plain.files.descriptions _) (λ place number has. has)
+  step_names (step.meets path flags opening which begun is) = same _ is refl refl
   step_names (step.sockets fd free is) = kept _ is (pushed_old plain.files.descriptions _) (new_fewer plain.files.sockets (length plain.files.sockets) (omega arith))
   step_names (step.pairs two free is) = kept _ is (λ socket here. pushed_old (plain.files.descriptions ++ Some _ ∷ []) _ socket (pushed_old plain.files.descriptions _ socket here)) (pair_fewer plain.files.sockets)
   step_names (step.binds fd path opened place made_it which named_it on fine led is) = by _ is (bound fd opened place (Some made_it.0) named_it on)

@@ -47,11 +47,12 @@ module _ (plain : Plain) (pid : ℕ) (call : Call) (next : Files) (unnamed : nam
   by_step (step.marks fd opened cloexec named_by is) = tree_of _ is refl
   by_step (step.closes fd opened named_by is) = kept _ is (λ none. tree_kept plain.files _ (close_fades plain.files pid _) none)
   by_step (step.describes fd opened description named_by target access between is) = tree_of _ is refl
-  by_step (step.opens path flags fd there which free led is) = called _ which refl
+  by_step (step.opens path flags fd there which free led other is) = called _ which refl
   by_step (step.writes fd addr n done opened number at offset written there wrote is) = named there.reached
   by_step (step.writes_at fd addr n opened number at written there wrote is) = named there.reached
   by_step (step.resizes fd opened number size tree there sized is) = named there.reached
   by_step (step.makes path made which led is) = called _ which refl
+  by_step (step.makes_fifo path made which led is) = called _ which refl
   by_step (step.removes path tree which led is) = called _ which refl
   by_step (step.links old new tree which led is) = called _ which refl
   by_step (step.unlinks path left which led is) = called _ which refl
@@ -59,6 +60,9 @@ module _ (plain : Plain) (pid : ℕ) (call : Call) (next : Files) (unnamed : nam
   by_step (step.pipes two free is) = tree_of _ is refl
   by_step (step.takes fd addr n opened place k which named_by on may moves is) = tree_of _ is refl
   by_step (step.puts fd addr n done opened place k which named_by on may moves is) = tree_of _ is refl
+  by_step (step.joins path flags fd place there openings opens at waits is) = tree_of _ is refl
+  by_step (step.begins path flags fd there openings opens at waits is) = tree_of _ is refl
+  by_step (step.meets path flags opening which begun is) = tree_of _ is refl
   by_step (step.sockets fd free is) = tree_of _ is refl
   by_step (step.pairs two free is) = tree_of _ is refl
   by_step (step.binds fd path opened place made which named_by on fine led is) = called _ which refl

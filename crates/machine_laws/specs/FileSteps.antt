@@ -1,11 +1,12 @@
 -- How files change in one call: by one step, whatever the machine answers.
-use Rattle.std.specs.Prelude.{ℕ, ◌≡◌, ◌-◌, ◌%◌, ◌==◌, ◌||◌, ℤ, Bool, true, false, List, length, Option, None, Some, Ok}
+use Rattle.std.specs.Prelude.{ℕ, ◌≡◌, ◌-◌, ◌%◌, ◌==◌, ◌||◌, not, ℤ, Bool, true, false, List, [], ◌∷◌, ◌++◌, length, Option, None, Some, Ok}
 use Rattle.kabi_types.specs.Arguments.{count_of, may_be_descriptor}
 use Rattle.kabi_types.specs.declared.calls.Call.{Call}
 use Rattle.kabi_types.specs.declared.calls.Call.TheVariants as calls
 use Rattle.posix_defs.specs.Answer.{Answer, Blocked, Done, Part, Ended}
 use Rattle.posix_defs.specs.Ending.{closed_by}
-use Rattle.posix_defs.specs.Pipe.{Moves, after_read, pipe_read, pipe_write}
+use Rattle.posix_defs.specs.ByPid.{with_pid}
+use Rattle.posix_defs.specs.Pipe.{Moves, after_read, opens_of, pipe_read, pipe_write, unopened, with_end}
 use Rattle.posix_defs.specs.Plain.{Plain}
 use Rattle.posix_defs.specs.Process.{directory_of}
 use Rattle.posix_defs.specs.Reaching.{names_node}
@@ -14,15 +15,15 @@ use Rattle.posix_defs.specs.Sockets.{socket_at, stage_at, sock_read, sock_write,
 use Rattle.posix_defs.specs.IsTree.{IsTree}
 use Rattle.posix_defs.specs.Tree.{Tree, is_directory}
 use Rattle.posix_defs.specs.TreeChanges.{resize, write}
-use Rattle.posix_defs.specs.PathCalls.{bind_path, link_path, mkdir_path, open_path, rename_path, rmdir_path, unlink_path}
+use Rattle.posix_defs.specs.PathCalls.{bind_path, is_fifo, link_path, mkdir_path, mkfifo_path, open_path, rename_path, rmdir_path, unlink_path}
 use Rattle.posix_defs.specs.Files.Closing.{after_close, after_exec_of}
 use Rattle.posix_defs.specs.Files.Descriptors.{Two, descriptor_at, lowest_free, lowest_free_from, two_lowest_free}
-use Rattle.posix_defs.specs.Files.Descriptions.{OnNode, OnPipe, OnSocket, Description, at_offset, has_flag, may_read, may_write, o_cloexec}
+use Rattle.posix_defs.specs.Files.Descriptions.{OnNode, OnPipe, OnSocket, Description, access_of, at_offset, has_flag, may_read, may_write, o_cloexec}
 use Rattle.posix_defs.specs.Files.SocketNames.{listener_at}
-use Rattle.posix_defs.specs.Files.State.{Files, described_as, descriptors_of, opened_as, opens as is_opened, pipe_at, with_heir, with_open, with_pipe, with_sockets, with_tree}
+use Rattle.posix_defs.specs.Files.State.{Files, HalfOpen, described_as, descriptors_of, opened_as, opening_at, opens as is_opened, pipe_at, with_heir, with_open, with_opening, with_openings, with_pipe, with_pipes, with_sockets, with_tree}
 use Rattle.posix_defs.specs.Calls.Opened.{Opened, opened_at}
 use Rattle.posix_defs.specs.Calls.OnDescriptors.{cloexec_set, shared_at}
-use Rattle.posix_defs.specs.Calls.OnFiles.{description_for, opening_of}
+use Rattle.posix_defs.specs.Calls.OnFiles.{description_for, description_on, fifo_at, fifo_fault, fifo_pipe, fifo_waits, opening_of}
 use Rattle.posix_defs.specs.Calls.OnNames.{is_busy, renamed}
 use Rattle.posix_defs.specs.Calls.OnPipes.{piped}
 use Rattle.posix_defs.specs.Calls.OnSockets.{accepted, paired, socketed}
@@ -63,6 +64,22 @@ abbrev pub StaysBetween : Tree → Description → ℕ → Type 0
 StaysBetween tree was offset =
     (number : ℕ) → was.target ≡ OnNode number → IsTree tree → is_directory tree number ≡ true → was.offset % 32 ≡ 0 → offset % 32 ≡ 0
 
+-- An open by the lowest descriptor that is free leads to a FIFO, which may be opened so; the process doesn't wait in one already.
+pub record OpensEnd (plain : Plain) (pid : ℕ) (call : Call) (path : List ℕ) (flags : ℤ) (fd : ℕ) (there : ℕ × Tree) : Type 0 where
+  pub which : call ≡ calls.OpenFile path flags
+  pub begins : opening_at plain.files pid ≡ None
+  pub free : lowest_free (descriptors_of plain.files pid) ≡ Some fd
+  pub led : open_path plain.files.tree (directory_of plain.table pid) path (opening_of flags) ≡ Ok there
+  pub fifo : is_fifo there.1 there.0 ≡ true
+  pub right : fifo_fault (fifo_pipe plain.files there.0) flags ≡ None
+
+-- The open is over; or it waits until the other side of the FIFO is opened once more.
+pub data MayWait (files : Files) (pid : ℕ) (flags : ℤ) (fd number : ℕ) (openings : List (Option HalfOpen)) : Type 0 where
+  goes : fifo_waits (fifo_pipe files number) flags ≡ false → openings ≡ files.openings → MayWait files pid flags fd number openings
+  waits : fifo_waits (fifo_pipe files number) flags ≡ true
+      → openings ≡ with_pid files.openings pid (Some (record { fd = fd; seen = opens_of (fifo_pipe files number) (not (may_write (access_of flags))) }))
+      → MayWait files pid flags fd number openings
+
 -- Of files nothing else changes in a call than this, whose caller goes on behind it or has ended.
 pub data IsStep (plain : Plain) (pid : ℕ) (call : Call) (goes_on : Bool) (next : Files) : Type 0 where
   -- nothing
@@ -90,9 +107,9 @@ pub data IsStep (plain : Plain) (pid : ℕ) (call : Call) (goes_on : Bool) (next
       → next ≡ described_as plain.files opened.place description → IsStep plain pid call goes_on next
   -- ---- the tree
 
-  -- what a path leads to is opened
+  -- what a path leads to is opened, and is no FIFO
   opens : (path : List ℕ) (flags : ℤ) (fd : ℕ) (there : ℕ × Tree) → call ≡ calls.OpenFile path flags → lowest_free (descriptors_of plain.files pid) ≡ Some fd
-      → open_path plain.files.tree (directory_of plain.table pid) path (opening_of flags) ≡ Ok there
+      → open_path plain.files.tree (directory_of plain.table pid) path (opening_of flags) ≡ Ok there → is_fifo there.1 there.0 ≡ false
       → next ≡ opened_as (with_tree plain.files there.1) pid fd (has_flag flags o_cloexec) (description_for there.0 flags) → IsStep plain pid call goes_on next
   -- a file is written, and the offset moves
   writes : (fd addr n : ℤ) (done : ℕ) (opened : Opened) (number at offset : ℕ) (written : ℕ × Tree) → WritesNode plain pid call fd opened number
@@ -104,8 +121,10 @@ pub data IsStep (plain : Plain) (pid : ℕ) (call : Call) (goes_on : Bool) (next
   -- a file gets another size
   resizes : (fd : ℤ) (opened : Opened) (number size : ℕ) (tree : Tree) → WritesNode plain pid call fd opened number
       → resize plain.files.tree number size ≡ Ok tree → next ≡ with_tree plain.files tree → IsStep plain pid call goes_on next
-  -- a directory is made, or goes
+  -- a directory or a FIFO is made, or a directory goes
   makes : (path : List ℕ) (made : ℕ × Tree) → call ≡ calls.Mkdir path → mkdir_path plain.files.tree (directory_of plain.table pid) path ≡ Ok made
+      → next ≡ with_tree plain.files made.1 → IsStep plain pid call goes_on next
+  makes_fifo : (path : List ℕ) (made : ℕ × Tree) → call ≡ calls.Mkfifo path → mkfifo_path plain.files.tree (directory_of plain.table pid) path ≡ Ok made
       → next ≡ with_tree plain.files made.1 → IsStep plain pid call goes_on next
   removes : (path : List ℕ) (tree : Tree) → call ≡ calls.Rmdir path → rmdir_path plain.files.tree (directory_of plain.table pid) path (is_busy plain) ≡ Ok tree
       → next ≡ with_tree plain.files tree → IsStep plain pid call goes_on next
@@ -131,6 +150,21 @@ pub data IsStep (plain : Plain) (pid : ℕ) (call : Call) (goes_on : Bool) (next
       → opened.is.target ≡ OnPipe place → may_write opened.is.access ≡ true
       → pipe_write (pipe_at plain.files place) opened.is.nonblock (count_of n) (count_of n - done) ≡ Moves k
       → next ≡ put_in_pipe plain.files place (bytes_left plain pid addr (count_of n) done) k → IsStep plain pid call goes_on next
+  -- ---- FIFOs
+
+  -- a further end of a FIFO's pipe is opened
+  joins : (path : List ℕ) (flags : ℤ) (fd place : ℕ) (there : ℕ × Tree) (openings : List (Option HalfOpen)) → OpensEnd plain pid call path flags fd there
+      → fifo_at plain.files there.0 ≡ Some place → MayWait plain.files pid flags fd there.0 openings
+      → next ≡ with_openings (opened_as (with_pipe plain.files place (Some (with_end (pipe_at plain.files place) (may_write (access_of flags))))) pid fd (has_flag flags o_cloexec) (description_on (OnPipe place) flags)) openings
+      → IsStep plain pid call goes_on next
+  -- the first end is, with which the pipe is made
+  begins : (path : List ℕ) (flags : ℤ) (fd : ℕ) (there : ℕ × Tree) (openings : List (Option HalfOpen)) → OpensEnd plain pid call path flags fd there
+      → fifo_at plain.files there.0 ≡ None → MayWait plain.files pid flags fd there.0 openings
+      → next ≡ with_openings (opened_as (with_pipes plain.files (plain.files.pipes ++ Some (with_end (unopened there.0) (may_write (access_of flags))) ∷ [])) pid fd (has_flag flags o_cloexec)
+      (description_on (OnPipe (length plain.files.pipes)) flags)) openings → IsStep plain pid call goes_on next
+  -- an open that waited is over
+  meets : (path : List ℕ) (flags : ℤ) (opening : HalfOpen) → call ≡ calls.OpenFile path flags → opening_at plain.files pid ≡ Some opening
+      → next ≡ with_opening plain.files pid None → IsStep plain pid call goes_on next
   -- ---- sockets
 
   -- a socket is made, or two that are connected

@@ -6,7 +6,7 @@ use Rattle.kabi_types.specs.declared.replies.Reply.TheVariants.{Val}
 use Rattle.posix_defs.specs.Answer.{Answer, Done}
 use Rattle.posix_defs.specs.Plain.{Plain, control_of}
 use Rattle.posix_defs.specs.Process.{directory_of, ignores_of, is_alive, memory_of}
-use Rattle.posix_defs.specs.Files.State.{Files, descriptors_of}
+use Rattle.posix_defs.specs.Files.State.{Files, descriptors_of, opening_at}
 use Rattle.posix_defs.specs.Calls.Opened.{Opened, opened_at}
 
 -- It is the same description still, open on the same and for the same. Its offset and its flags are no part of this: who shares
@@ -17,13 +17,15 @@ pub record IsStill (was now : Opened) : Type 0 where
   pub access : now.is.access ≡ was.is.access
 
 -- A process has the same in memory, works in the same directory, ignores the same signals, stands at the same place of its program with the same
--- registers, has the same numbers open, with FD_CLOEXEC or without, and each names the description that it named.
+-- registers, waits for the other side of the same FIFO, if it waits for one, has the same numbers open, with FD_CLOEXEC or without,
+-- and each names the description that it named.
 pub record KeepsOwn (who : ℕ) (old new : Plain) : Type 0 where
   pub memory : memory_of new.table who ≡ memory_of old.table who
   pub directory : directory_of new.table who ≡ directory_of old.table who
   pub ignores : ignores_of new.table who ≡ ignores_of old.table who
   pub control : control_of new who ≡ control_of old who
   pub numbers : descriptors_of new.files who ≡ descriptors_of old.files who
+  pub waits : opening_at new.files who ≡ opening_at old.files who
   pub names : (fd : ℤ) (was : Opened) → opened_at old.files who fd ≡ Some was
       → (now : Opened) × (opened_at new.files who fd ≡ Some now) × IsStill was now
 

@@ -31,6 +31,13 @@ TakesFirst plain pid addr place pipe (Done (Val (pos told)) next) =
     × (0 < told → next.table ≡ with_memory plain.table pid (stored (memory_of plain.table pid) (count_of addr) (take told pipe.bytes)))
 TakesFirst plain pid addr place pipe _ = Unit {0}
 
+-- The pipe is there still, with the same bytes; it is the same but where a further end of a FIFO was opened.
+pub record HasBytes (files : Files) (place : ℕ) (pipe : Pipe) : Type 0 where
+  pub now : Pipe
+  pub is : pipe_there files place ≡ Some now
+  pub bytes : now.bytes ≡ pipe.bytes
+  pub same : pipe.node ≡ 0 → now ≡ pipe
+
 -- the call reads or writes a descriptor of the pipe
 pub record Queues (plain : Plain) (pid : ℕ) (call : Call) (place : ℕ) : Type 0 where
   pub fd : ℤ

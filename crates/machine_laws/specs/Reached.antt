@@ -1,4 +1,4 @@
--- The machines that all forty-two calls lead to.
+-- The machines that all forty-three calls lead to.
 use Rattle.std.specs.Prelude.{ℕ, ◌≡◌, true}
 use Rattle.kabi_types.specs.declared.errnos.Errno.TheVariants.{ENOMEM}
 use Rattle.kabi_types.specs.declared.replies.Reply.{Reply}

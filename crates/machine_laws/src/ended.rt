@@ -1,4 +1,4 @@
-//! Laws of what processes have open, under all forty-two calls. Each is the contract of a function that does nothing.
+//! Laws of what processes have open, under all forty-three calls. Each is the contract of a function that does nothing.
 
 ghost use Rattle.std.specs.Prelude.{◌≡◌, ℕ, true};
 ghost use Rattle.kabi_types.specs.declared.calls.Call.{Call};

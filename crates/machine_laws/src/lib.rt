@@ -3,6 +3,7 @@
 #![tactic(auto)]
 
 mod ended;
+mod fifos;
 mod frames;
 mod halves;
 mod offsets;
@@ -22,8 +23,9 @@ pub use ended::{
     every_description_is_named, what_is_open_is_named_in_every_machine,
     who_has_ended_has_nothing_open,
 };
+pub use fifos::{a_fifo_has_one_pipe, an_open_wakes_where_the_other_side_was_opened};
 pub use frames::{a_shared_frame_is_written_by_nobody, pages_of_a_frame_have_its_bytes};
-pub use halves::who_is_half_done_stands_at_a_write;
+pub use halves::who_is_half_done_stands_at_a_write_or_an_open;
 pub use offsets::offsets_in_directories_stand_between_entries;
 pub use own::{
     a_child_begins_with_what_its_parent_has, another_call_leaves_alone,

@@ -15,7 +15,7 @@ ghost use Rattle.machine_laws.specs.Reached.{IsReached};
 ghost use Rattle.machine_laws.specs.Own.{InheritsWhere, IsEndedBy, IsLeftAlone};
 
 /// Whatever a call of one process is answered, another that lives before it and after it has what it had: in memory, as its
-/// working directory, in its registers and its place in its program, and under each of its numbers, which names the description
+/// working directory, in its registers and its place in its program, in the open of a FIFO that it waits in, and under each of its numbers, which names the description
 /// that it named, and it ignores the signals that it ignored. Of a description of which the caller has no number the offset and the flags stay too. Where it doesn't live
 /// after it, the call was a `kill` of it, or ended the first process.
 pub fn another_call_leaves_alone()

@@ -1,4 +1,4 @@
-//! The law of shared descriptions under all forty-two calls. It is the contract of a function that does nothing.
+//! The law of shared descriptions under all forty-three calls. It is the contract of a function that does nothing.
 
 ghost use Rattle.std.specs.Prelude.{◌≡◌, ◌≤◌, ℕ, ℤ, pos, Some, length};
 ghost use Rattle.kabi_types.specs.declared.calls.Call.TheVariants.{Dup, Fcntl, Fork, Lseek, Read};

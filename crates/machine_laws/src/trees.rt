@@ -1,4 +1,4 @@
-//! A law of the tree under all forty-two calls. It is the contract of a function that does nothing.
+//! A law of the tree under all forty-three calls. It is the contract of a function that does nothing.
 
 ghost use Rattle.std.specs.Prelude.{◌≡◌, ℕ, false};
 ghost use Rattle.kabi_types.specs.declared.calls.Call.{Call};

@@ -11,7 +11,7 @@ ghost use Rattle.machine_laws.specs.Reached.{IsReached};
 ghost use Rattle.machine_laws.specs.Bytes.{HasBytes};
 ghost use Rattle.machine_laws.specs.Texts.{HasTexts};
 
-/// Every machine that all forty-two calls, refusals and kills lead to is whole, if the script's disk has its size and its
+/// Every machine that all forty-three calls, refusals and kills lead to is whole, if the script's disk has its size and its
 /// programs name paths without a zero byte: who is named is there and who is there is named; pipes count their ends; sockets
 /// are linked, and each is named or waits; the tree is one, and a file without links is open; whoever lives works in a
 /// directory. And what memory, pipes and sockets hold are bytes.

@@ -8,3 +8,4 @@ pub mod Starts
 pub mod Sockets
 pub mod Lives
 pub mod Signals
+pub mod Fifos

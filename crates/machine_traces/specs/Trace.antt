@@ -34,7 +34,7 @@ gets pid call reply = record { pid = pid; call = call; told = turned.Done reply 
 abbrev pub fails : ℕ → Call → Errno → Line
 fails pid call errno = gets pid call (reply.Fail errno)
 
--- a write that moved so many bytes, and goes on later
+-- a write that moved so many bytes, or an open of a FIFO that made its end, which goes on later
 abbrev pub moves : ℕ → Call → ℕ → Line
 moves pid call count = record { pid = pid; call = call; told = turned.Part count }
 

@@ -3,6 +3,7 @@
 //! that does nothing.
 #![tactic(auto)]
 
+mod fifos;
 mod lives;
 mod opens;
 mod pairs;
@@ -13,6 +14,9 @@ mod signals;
 mod sockets;
 mod starts;
 
+pub use fifos::{
+    faults_on_fifos_are_told, other_sides_that_went_are_told, sleeping_opens_are_told,
+};
 pub use lives::{breaks_are_told, faults_of_processes_are_told, orphans_are_told};
 pub use opens::{
     cut_and_grown_are_told, faults_on_files_are_told, files_without_names_are_told,

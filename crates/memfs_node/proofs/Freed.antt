@@ -16,7 +16,10 @@ may_shrink inode is used some = elim (cases_eq inode.kind 1) [
   | inl file ↦ inl file
   | inr other ↦ elim (cases_eq inode.kind 2) [
     | inl directory ↦ inr (directory, refl)
-    | inr neither ↦ absurd (some (is.name (omega (arith, is.kind, used, other, neither))))
+    | inr neither ↦ elim (cases_eq inode.kind 3) [
+      | inl name ↦ absurd (some (is.name name))
+      | inr last ↦ absurd (some (is.fifo (omega (arith, is.kind, used, other, neither, last))))
+    ]
   ]
 ]
 

@@ -16,7 +16,7 @@ use Rattle.memfs_node.specs.Dots.{PutsDots}
 -- ---- the kind that an inode may have
 
 -- without bytes any kind may be
-pub tag_empty : (inode : Inode) (kind links : ℕ) → IsOfKind inode → inode.size ≡ 0 → kind ≤ 3 → links ≤ 127 → (kind ≡ 0 → links ≡ 0) → IsOfKind (record inode { kind = kind; nlink = links })
+pub tag_empty : (inode : Inode) (kind links : ℕ) → IsOfKind inode → inode.size ≡ 0 → kind ≤ 4 → links ≤ 127 → (kind ≡ 0 → links ≡ 0) → IsOfKind (record inode { kind = kind; nlink = links })
 tag_empty inode kind links was empty few_kinds few free = record {
   kind = few_kinds;
   links = few;
@@ -24,6 +24,7 @@ tag_empty inode kind links was empty few_kinds few free = record {
   free = λ none. (free none, empty);
   entries = λ is. omega (arith, empty);
   name = λ is. empty;
+  fifo = λ is. empty;
 }
 
 -- a node in use may have any links
@@ -35,12 +36,14 @@ relink inode links was used few = record {
   free = λ none. absurd (used none);
   entries = was.entries;
   name = was.name;
+  fifo = was.fifo;
 }
 
-pub new_kind : (new : NewNode) → (0 < kind_of (content_of new)) × (kind_of (content_of new) ≤ 3)
+pub new_kind : (new : NewNode) → (0 < kind_of (content_of new)) × (kind_of (content_of new) ≤ 4)
 new_kind kinds.File = (omega arith, omega arith)
 new_kind (kinds.Directory parent) = (omega arith, omega arith)
 new_kind kinds.SocketName = (omega arith, omega arith)
+new_kind kinds.Fifo = (omega arith, omega arith)
 
 -- ---- what a free node has
 
@@ -91,15 +94,25 @@ module _ (number : ℕ) (before : List (List ℕ)) (old : Inode) (kind : ℕ) (b
     free = omega (arith, t.retags.free);
   }
 
+  fifo : kind ≡ 4 → Makes number before (content_of kinds.Fifo) between inode
+  fifo is = record {
+    changes = t.retags.changes;
+    has = t.retags.has;
+    shows = record { kind = kind_is ∙ is; links = links_is; size = size_is };
+    holds = tt;
+    free = omega (arith, t.retags.free);
+  }
+
   -- one that takes no block is there
   pub made_plain : (new : NewNode) → kind ≡ kind_of (content_of new) → ((parent : ℕ) → new ≢ kinds.Directory parent) → Makes number before (content_of new) between inode
   made_plain kinds.File is other = file is
   made_plain (kinds.Directory parent) is other = absurd (other parent refl)
   made_plain kinds.SocketName is other = socket is
+  made_plain kinds.Fifo is other = fifo is
 
   -- a directory gets its first entries
-  pub made_directory : (parent : ℕ) (after : List (List ℕ)) (new : Inode) → kind ≡ 2 → PutsDots number between inode parent after new → Makes number before (content_of (kinds.Directory parent)) after new
-  made_directory parent after new is puts = record {
+  pub made_node : (parent : ℕ) (after : List (List ℕ)) (new : Inode) → kind ≡ 2 → PutsDots number between inode parent after new → Makes number before (content_of (kinds.Directory parent)) after new
+  made_node parent after new is puts = record {
     changes = changes_follow number before between after t.retags.changes puts.changes;
     has = puts.has;
     shows = record { kind = puts.list.kind; links = puts.links ∙ links_is; size = puts.size };

@@ -6,7 +6,7 @@ use Rattle.kabi_types.specs.declared.inodes.Inode.{Inode}
 use Rattle.posix_defs.specs.DiskFormat.{table_nodes}
 use Rattle.posix_defs.specs.SoundDisk.{HasInode, HasNode}
 use Rattle.posix_defs.specs.DiskTree.{HasContent, HasThere, StandsFor, ChangesNode}
-use Rattle.posix_defs.specs.Tree.{Content, File, Directory, SocketName, Node, Tree, node_at, with_node, links_in, IsInodeOf}
+use Rattle.posix_defs.specs.Tree.{Content, File, Directory, SocketName, Fifo, Node, Tree, node_at, with_node, links_in, IsInodeOf}
 use Rattle.posix_defs.specs.TreeChanges.{closed, link_added, link_dropped, left_in}
 use Rattle.posix_defs.specs.DiskContents.{node_bytes}
 use Rattle.disk_laws.proofs.DiskNodes.{node_of_inode}
@@ -36,6 +36,7 @@ content_stays : (before after : List (List ℕ)) (number : ℕ) (old new : Inode
 content_stays before after number old new (File bytes) kind same has = same ∙ has
 content_stays before after number old new (Directory parent entries) kind same has = record { kind = kind ∙ has.kind; each = has.each; bytes = same ∙ has.bytes }
 content_stays before after number old new SocketName kind same has = tt
+content_stays before after number old new Fifo kind same has = tt
 
 relinked : (before after : List (List ℕ)) (tree : Tree) (number links : ℕ) (old new : Inode) (node : Node) → StandsFor before tree → IsInodeOf node old → HasContent before number old node.content
     → Retags number before old old.kind links after new → StandsFor after (with_node tree number (Some (record node { links = links })))

@@ -6,7 +6,7 @@ use Rattle.posix_defs.specs.DiskFormat.{blocks_of}
 use Rattle.posix_defs.specs.SoundDisk.{block_bytes, HasInode, HasNode, IsFreeNode, free_in_map}
 use Rattle.posix_defs.specs.DiskContents.{node_bytes}
 use Rattle.posix_defs.specs.DiskTree.{HasContent, StandsFor, ChangesNode}
-use Rattle.posix_defs.specs.Tree.{Content, File, Directory, SocketName, Node, Tree, IsInodeOf, size_of}
+use Rattle.posix_defs.specs.Tree.{Content, File, Directory, SocketName, Fifo, Node, Tree, IsInodeOf, size_of}
 use Rattle.posix_defs.specs.IsTree.{IsTree}
 use Rattle.memfs_node.specs.declared.making.NewNode.{NewNode}
 use Rattle.memfs_node.specs.declared.making.NewNode.TheVariants as kinds
@@ -16,6 +16,7 @@ abbrev pub content_of : NewNode → Content
 content_of kinds.File = File []
 content_of (kinds.Directory parent) = Directory parent []
 content_of kinds.SocketName = SocketName
+content_of kinds.Fifo = Fifo
 
 -- a directory has a parent
 abbrev pub HasParent : NewNode → Type 0

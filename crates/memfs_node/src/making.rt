@@ -23,6 +23,8 @@ pub enum NewNode {
     Directory { parent: u32 },
     /// The name of a socket.
     SocketName,
+    /// Nothing: a FIFO.
+    Fifo,
 }
 
 impl NewNode {
@@ -34,6 +36,7 @@ impl NewNode {
             NewNode::File => 1,
             NewNode::Directory { .. } => 2,
             NewNode::SocketName => 3,
+            NewNode::Fifo => 4,
         }
     }
 

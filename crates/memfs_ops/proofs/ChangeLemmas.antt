@@ -214,6 +214,7 @@ pub has_parent : (parent : ℕ) (new : NewNode) → 0 < parent → IsNewContent 
 has_parent parent kinds.File some is = tt
 has_parent parent (kinds.Directory above) some is = omega (arith, is.0, some)
 has_parent parent kinds.SocketName some is = tt
+has_parent parent kinds.Fifo some is = tt
 
 -- at the end the cached inode is that of the disk
 pub lags_led : (number : ℕ) (heap last : Heap) (fs end : TreeView) (tree : Tree) (led : Result (ℕ × Tree) Errno) (pins : ℕ → ℕ) (answer : Result ℕ Errno) → LagsAs number heap fs tree led pins answer

@@ -1,5 +1,5 @@
 -- What an open comes to, on the disk and in the tree.
-use Rattle.std.proofs.Common.{◌≡◌, ℕ, zero, suc, true, false, cond, List, Option, Some, None, IsSome, Result, Ok, Err, ltb, refl, sym, ap, ◌∙◌, subst, arith}
+use Rattle.std.proofs.Common.{◌≡◌, ℕ, zero, suc, Bool, true, false, not, ◌||◌, cond, List, Option, Some, None, IsSome, Result, Ok, Err, ltb, refl, sym, ap, ◌∙◌, subst, arith}
 use Rattle.std.specs.Option.{option_map}
 use Rattle.std.proofs.lemmas.Bool.{cond-false, le-ltb}
 use Rattle.std.proofs.lemmas.List.{set-get_or}
@@ -9,8 +9,8 @@ use Rattle.kabi_types.specs.declared.errnos.Errno.TheVariants.{EFBIG, ENOSPC}
 use Rattle.kheap_slabs.specs.Heap.{Heap}
 use Rattle.posix_defs.specs.DiskFormat.{blocks_of, greatest_size}
 use Rattle.posix_defs.specs.FileBytes.{resized}
-use Rattle.posix_defs.specs.PathCalls.{is_socket, is_socket_kind, kind_of_content, kind_in}
-use Rattle.posix_defs.specs.Tree.{Content, File, Directory, SocketName, Node, Tree, node_at, with_node, is_directory, is_directory_in, is_directory_content, IsInodeAt, IsInodeIn, found}
+use Rattle.posix_defs.specs.PathCalls.{is_fifo, is_fifo_kind, is_socket, is_socket_kind, kind_of_content, kind_in}
+use Rattle.posix_defs.specs.Tree.{Content, File, Directory, SocketName, Fifo, Node, Tree, node_at, with_node, is_directory, is_directory_in, is_directory_content, IsInodeAt, IsInodeIn, found}
 use Rattle.posix_defs.specs.TreeChanges.{blocks_for, make, resize, with_bytes, with_bytes_in}
 use Rattle.posix_defs.specs.declared.walked.Walked.{Walked}
 use Rattle.vnode_cache.specs.Nodes.{node_slot}
@@ -28,36 +28,47 @@ same_node : (tree : Tree) (number : ℕ) → with_node tree number (node_at tree
 same_node tree zero = refl
 same_node tree (suc before) = ap (λ (nodes : List (Option Node)). record tree { nodes = nodes }) (set-get_or tree.nodes before None)
 
--- what is neither a directory nor a socket's name is a file
-file_content : (tree : Tree) (number links : ℕ) (content : Content) → node_at tree number ≡ Some (record { links = links; content = content }) → is_directory_content content ≡ false → is_socket_kind (kind_of_content content) ≡ false → IsFile tree number
-file_content tree number links (File bytes) there dir sock = record { links = links; bytes = bytes; there = there }
-file_content tree number links (Directory parent entries) there dir sock = absurd (cc)
-file_content tree number links SocketName there dir sock = absurd (cc)
+-- what is neither a directory nor a socket's name nor a FIFO is a file
+file_content : (tree : Tree) (number links : ℕ) (content : Content) → node_at tree number ≡ Some (record { links = links; content = content }) → is_directory_content content ≡ false → is_socket_kind (kind_of_content content) ≡ false
+    → is_fifo_kind (kind_of_content content) ≡ false → IsFile tree number
+file_content tree number links (File bytes) there dir sock fifo = record { links = links; bytes = bytes; there = there }
+file_content tree number links (Directory parent entries) there dir sock fifo = absurd (cc)
+file_content tree number links SocketName there dir sock fifo = absurd (cc)
+file_content tree number links Fifo there dir sock fifo = absurd (cc)
 
-file_there : (tree : Tree) (number : ℕ) (there : Option Node) → node_at tree number ≡ there → IsSome there → is_directory_in there ≡ false → is_socket_kind (kind_in there) ≡ false → IsFile tree number
-file_there tree number None at some dir sock = absurd (cc)
-file_there tree number (Some node) at some dir sock = file_content tree number node.links node.content at dir sock
+file_there : (tree : Tree) (number : ℕ) (there : Option Node) → node_at tree number ≡ there → IsSome there → is_directory_in there ≡ false → is_socket_kind (kind_in there) ≡ false → is_fifo_kind (kind_in there) ≡ false → IsFile tree number
+file_there tree number None at some dir sock fifo = absurd (cc)
+file_there tree number (Some node) at some dir sock fifo = file_content tree number node.links node.content at dir sock fifo
 
 shown_there : (there : Option Node) (inode : Inode) → IsInodeIn there inode → IsSome there
 shown_there None inode is = absurd is
 shown_there (Some node) inode is = refl
 
-pub is_file : (tree : Tree) (number : ℕ) (inode : Inode) → IsInodeAt tree number inode → is_directory tree number ≡ false → is_socket tree number ≡ false → IsFile tree number
-is_file tree number inode is dir sock = file_there tree number (node_at tree number) refl (shown_there (node_at tree number) inode is) dir sock
+pub is_file : (tree : Tree) (number : ℕ) (inode : Inode) → IsInodeAt tree number inode → is_directory tree number ≡ false → is_socket tree number ≡ false → is_fifo tree number ≡ false → IsFile tree number
+is_file tree number inode is dir sock fifo = file_there tree number (node_at tree number) refl (shown_there (node_at tree number) inode is) dir sock fifo
 
--- a directory has no bytes that could go
-dir_stays : (tree : Tree) (number : ℕ) (there : Option Node) → node_at tree number ≡ there → is_directory_in there ≡ true → with_bytes tree number (resized 0) ≡ tree
-dir_stays tree number None at is = absurd (cc)
-dir_stays tree number (Some node) at is = by_content node.links node.content at is
+-- what is no file has no bytes that could go
+abbrev is_plain : Option Node → Bool
+is_plain there = not (is_directory_in there || is_socket_kind (kind_in there) || is_fifo_kind (kind_in there))
+
+other_stays : (tree : Tree) (number : ℕ) (there : Option Node) → node_at tree number ≡ there → is_plain there ≡ false → with_bytes tree number (resized 0) ≡ tree
+other_stays tree number None at is = absurd (cc)
+other_stays tree number (Some node) at is = by_content node.links node.content at is
   where
-    by_content : (links : ℕ) (content : Content) → node_at tree number ≡ Some (record { links = links; content = content }) → is_directory_content content ≡ true → with_bytes tree number (resized 0) ≡ tree
-    by_content links (File bytes) at is = absurd (cc)
-    by_content links SocketName at is = absurd (cc)
-    by_content links (Directory parent entries) at is =
-        ap (λ (o : Option Node). with_node tree number (option_map {T = Node} (λ n. record n { content = with_bytes_in (resized 0) n.content }) o)) at ∙ sym (ap (with_node tree number) at) ∙ same_node tree number
+    stays : (links : ℕ) (content : Content) → node_at tree number ≡ Some (record { links = links; content = content }) → with_bytes_in (resized 0) content ≡ content → with_bytes tree number (resized 0) ≡ tree
+    stays links content at same =
+        ap (λ (o : Option Node). with_node tree number (option_map {T = Node} (λ n. record n { content = with_bytes_in (resized 0) n.content }) o)) at
+        ∙ ap (λ (content : Content). with_node tree number (Some (record { links = links; content = content }))) same ∙ sym (ap (with_node tree number) at) ∙ same_node tree number
 
-pub directory_stays : (tree : Tree) (number : ℕ) → is_directory tree number ≡ true → with_bytes tree number (resized 0) ≡ tree
-directory_stays tree number is = dir_stays tree number (node_at tree number) refl is
+    by_content : (links : ℕ) (content : Content) → node_at tree number ≡ Some (record { links = links; content = content }) → is_plain (Some (record { links = links; content = content })) ≡ false
+        → with_bytes tree number (resized 0) ≡ tree
+    by_content links (File bytes) at is = absurd (cc)
+    by_content links (Directory parent entries) at is = stays links (Directory parent entries) at refl
+    by_content links SocketName at is = stays links SocketName at refl
+    by_content links Fifo at is = stays links Fifo at refl
+
+pub no_bytes_stay : (tree : Tree) (number : ℕ) → not (is_directory tree number || is_socket tree number || is_fifo tree number) ≡ false → with_bytes tree number (resized 0) ≡ tree
+no_bytes_stay tree number is = other_stays tree number (node_at tree number) refl is
 
 -- there is always room for no bytes
 pub cut_is : (tree : Tree) (number : ℕ) → resize tree number 0 ≡ Ok (with_bytes tree number (resized 0))

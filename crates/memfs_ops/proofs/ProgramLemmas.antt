@@ -83,10 +83,11 @@ named bytes name rest there is = ap (λ (bs : List ℕ). starts_with nat_eq bs (
 
 -- ---- a node that is a file
 
-pub file_tests : (dir socket : Bool) → not (dir || socket) ≡ true → (dir ≡ false) × (socket ≡ false)
-file_tests false false is = (refl, refl)
-file_tests false true is = absurd (false≢true is)
-file_tests true socket is = absurd (false≢true is)
+pub file_tests : (dir socket fifo : Bool) → not (dir || socket || fifo) ≡ true → (dir ≡ false) × (socket ≡ false) × (fifo ≡ false)
+file_tests false false false is = (refl, refl, refl)
+file_tests false false true is = absurd (false≢true is)
+file_tests false true fifo is = absurd (false≢true is)
+file_tests true socket fifo is = absurd (false≢true is)
 
 pub no_file : (test : Bool) → not test ≡ false → test ≡ true
 no_file true is = refl

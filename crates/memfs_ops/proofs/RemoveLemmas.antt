@@ -21,7 +21,7 @@ use Rattle.posix_defs.specs.Paths.{IsLed, resolve}
 use Rattle.posix_defs.specs.declared.walked.Walked.{Walked}
 use Rattle.posix_defs.specs.declared.walked.Walked.TheVariants as walked
 use Rattle.posix_defs.specs.PathCalls.{is_socket, is_empty, unless}
-use Rattle.posix_defs.specs.Tree.{Content, File, Directory, SocketName, Node, Tree, node_at, found, found_among, is_directory, is_directory_in, is_in_use, entries_at, entries_in, size_of, is_directory_content, entries_of, IsInodeAt, IsInodeIn}
+use Rattle.posix_defs.specs.Tree.{Content, File, Directory, SocketName, Fifo, Node, Tree, node_at, found, found_among, is_directory, is_directory_in, is_in_use, entries_at, entries_in, size_of, is_directory_content, entries_of, IsInodeAt, IsInodeIn}
 use Rattle.posix_defs.specs.TreeChanges.{no_entry, place_of, unlink}
 use Rattle.posix_defs.proofs.TreeNodes.{found_in_directory}
 use Rattle.disk_laws.proofs.DiskNodes.{one_tree}
@@ -191,6 +191,7 @@ size_tells (Some node) inode is dir = by_content node.content inode.size is.size
     by_content (File bytes) size is dir = absurd (cc)
     by_content (Directory parent entries) size is dir = is
     by_content SocketName size is dir = absurd (cc)
+    by_content Fifo size is dir = absurd (cc)
 
 pub empty_is : (tree : Tree) (number : ℕ) (inode : Inode) → IsInodeAt tree number inode → is_directory tree number ≡ true → inode.size ≡ 64 → is_empty tree number ≡ true
 empty_is tree number inode shows dir is =

@@ -22,7 +22,7 @@ ghost use Rattle.memfs_ops.specs.Fetching.{MayFetch};
 ghost use Rattle.memfs_ops.specs.Opening.{asks_of, cut_tree, unless_fault, OpenedAs, KeepsOpened};
 
 use crate::FileTree;
-use crate::telling::{is_directory, is_socket};
+use crate::telling::{is_directory, is_file, is_socket};
 use bitflags::Flags;
 use kabi_types::{Errno, Inode, Name27, OpenFlags};
 use kheap_slabs::{KHeap, Purse};
@@ -188,7 +188,7 @@ impl FileTree {
         if !asked {
             return;
         }
-        if is_directory(inode) {
+        if !is_file(inode) {
             return;
         }
         let mut left = *inode;

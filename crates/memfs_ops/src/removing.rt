@@ -15,7 +15,7 @@ ghost use Rattle.memfs_ops.specs.Removing.{ToldTo, is_held, TellsHeld, TellsOpen
 
 use crate::FileTree;
 use crate::entries::EntryEdit;
-use crate::telling::{is_directory, is_file, is_socket};
+use crate::telling::{is_directory, is_kept_open, is_socket};
 use kabi_types::{Errno, Inode, Name27};
 use kheap_slabs::{KHeap, Purse};
 use path_walk::Walked;
@@ -172,7 +172,7 @@ impl FileTree {
         ensures { (tree : Tree) (pins : ℕ → ℕ) → Stands heap.now self.now tree pins
             → result ≡ calls.is_held tree (is_held pins) node }
     {
-        self.vnodes.pins(heap, node) != 0 && is_file(inode)
+        self.vnodes.pins(heap, node) != 0 && is_kept_open(inode)
     }
 
     /// A name goes that leads to a node, which loses a link.

@@ -27,6 +27,8 @@ const DIRECTORY: u8 = 2;
 
 const SOCKET_NAME: u8 = 3;
 
+const FIFO: u8 = 4;
+
 impl FileTree {
     /// Where a path leads from a working directory.
     ///
@@ -203,6 +205,7 @@ pub(crate) fn told(number: u32, inode: &Inode) -> StatInfo
     let kind = match inode.kind {
         2 => NodeKind::Dir,
         3 => NodeKind::Sock,
+        4 => NodeKind::Fifo,
         _ => NodeKind::File,
     };
     StatInfo {
@@ -216,10 +219,18 @@ pub(crate) fn told(number: u32, inode: &Inode) -> StatInfo
 /// Whether a node is a file, by its inode.
 pub(crate) fn is_file(inode: &Inode) -> bool
     ensures value { (tree : Tree) (number : ℕ) → IsInodeAt tree number inode.now
-        → result ≡ not (directory_in tree number || calls.is_socket tree number) }
+        → result ≡ not (directory_in tree number || calls.is_socket tree number || calls.is_fifo tree number) }
     ensures kind { result ≡ (inode.now.kind == file_kind) }
 {
     inode.kind == FILE
+}
+
+/// Whether a node stays without links while it is open, by its inode: a file and a FIFO do.
+pub(crate) fn is_kept_open(inode: &Inode) -> bool
+    ensures { (tree : Tree) (number : ℕ) → IsInodeAt tree number inode.now
+        → result ≡ not (directory_in tree number || calls.is_socket tree number) }
+{
+    matches!(inode.kind, FILE | FIFO)
 }
 
 /// Whether a node is a directory, by its inode.

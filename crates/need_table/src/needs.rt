@@ -177,7 +177,8 @@ fn objects(call: &Call) -> Need
         | Call::Mkdir { .. }
         | Call::Rmdir { .. }
         | Call::Unlink { .. }
-        | Call::Bind { .. } => walk(),
+        | Call::Bind { .. }
+        | Call::Mkfifo { .. } => walk(),
         Call::Link { .. } | Call::Rename { .. } => two_walks(),
         Call::Read { addr, n, .. } | Call::Pread { addr, n, .. } | Call::Readdir { addr, n, .. } =>
             read_into(*addr, *n),

@@ -15,7 +15,8 @@ pub fn price(kind: CallKind) -> Price
         | CallKind::Mkdir
         | CallKind::Rmdir
         | CallKind::Unlink
-        | CallKind::Bind => Price::Always(2560),
+        | CallKind::Bind
+        | CallKind::Mkfifo => Price::Always(2560),
         CallKind::Fork => Price::Always(3328),
         CallKind::OpenFile => Price::Always(3008),
         CallKind::Link | CallKind::Rename => Price::Always(2944),

@@ -8,11 +8,12 @@ use Rattle.kheap_slabs.specs.declared.objects.Target.{Target}
 use Rattle.kheap_slabs.specs.declared.objects.Target.TheVariants as target
 use Rattle.kheap_slabs.specs.Heap.{Heap}
 use Rattle.chunk_queue.proofs.HeldLemmas.{HasBytes-same}
+use Rattle.pipe_ends.specs.Links.{KeepsLinks, link_at}
 use Rattle.pipe_ends.specs.Standing.{LeavesOthers as LeavesOtherPipes}
 use Rattle.pipe_ends.proofs.StandingLemmas.{stands_same as pipe_stands_same}
 use Rattle.usock_core.specs.Standing.{LeavesOthers as LeavesOtherThanSockets}
 use Rattle.usock_core.proofs.StandingLemmas.{stands_same as sockets_stand_same, held_on}
-use Rattle.open_laws.specs.Closing.{IsClosable, TargetCloses, QueuesChange}
+use Rattle.open_laws.specs.Closing.{ClosesLinks, IsClosable, TargetCloses, QueuesChange}
 
 -- the heap with other Descs
 abbrev pub described : Heap → List (Option Desc) → Heap
@@ -72,3 +73,13 @@ pub change_with_descs : (old new : Heap) (descs : List (Option Desc)) → Queues
     → new ≡ record old { descs = new.descs; pipes = new.pipes; chunks = new.chunks; socks = new.socks }
 change_with_descs old new descs change =
     change ∙ ap (λ (d : List (Option Desc)). record old { descs = d; pipes = new.pipes; chunks = new.chunks; socks = new.socks }) (sym (ap (λ (h : Heap). h.descs) change))
+
+-- the links of FIFOs' pipes are those of a heap with other Descs
+pub links_with : (h new : Heap) (descs : List (Option Desc)) (access : Access) (what : Target) → ClosesLinks (described h descs) new access what → ClosesLinks h new access what
+links_with h new descs access (target.Inode number) keeps = keeps
+links_with h new descs access (target.Pipe key) closes = record { here = closes.here; others = closes.others }
+links_with h new descs access (target.Sock key) keeps = keeps
+
+-- a call on a socket leaves them
+pub links_by_socket : (old new : Heap) → LeavesOtherThanSockets old new → KeepsLinks old new
+links_by_socket old new others key = ap (λ (h : Heap). link_at h key) others.kept

@@ -3,6 +3,7 @@ use Rattle.std.proofs.Common.{◌≡◌, ◌≢◌, ℕ, zero, suc, ◌+◌, ◌
 use Rattle.std.specs.Option.{option_map}
 use Rattle.kheap_slabs.specs.Objects.{object, InUse, put, without}
 use Rattle.kheap_slabs.specs.declared.objects.Desc.{Desc}
+use Rattle.kheap_slabs.specs.declared.objects.Pipe.{Pipe}
 use Rattle.kheap_slabs.specs.Heap.{Heap}
 use Rattle.posix_defs.specs.Files.Descriptions.{with_description}
 use Rattle.open_laws.specs.Placed.{Numbers}
@@ -56,11 +57,11 @@ pub left_named : (old new : Heap) (key : ℕ) (found : Desc) → 1 < found.count
     → new ≡ record old { descs = descs_left old.descs key found }
 left_named old new key found more is = is ∙ ap (λ (d : List (Option Desc)). record old { descs = d }) (sym (left_more old.descs key found more))
 
-pub node_last : (found : Desc) → found.count ≡ 1 → node_left found ≡ node_in found.target
-node_last found last = ap (λ b. cond b (node_in found.target) None) (eq-eqb found.count 1 last)
+pub node_last : (pipes : List (Option Pipe)) (found : Desc) → found.count ≡ 1 → node_left pipes found ≡ node_in pipes found.target
+node_last pipes found last = ap (λ b. cond b (node_in pipes found.target) None) (eq-eqb found.count 1 last)
 
-pub node_more : (found : Desc) → 1 < found.count → node_left found ≡ None
-node_more found more = ap (λ b. cond b (node_in found.target) None) (ne_eqb found.count 1 (λ one. omega (arith, more, one)))
+pub node_more : (pipes : List (Option Pipe)) (found : Desc) → 1 < found.count → node_left pipes found ≡ None
+node_more pipes found more = ap (λ b. cond b (node_in pipes found.target) None) (ne_eqb found.count 1 (λ one. omega (arith, more, one)))
 
 -- a key names one Desc
 pub one_desc : (descs : List (Option Desc)) (key : ℕ) (one other : Desc) → object descs key ≡ Some one → object descs key ≡ Some other → one ≡ other

@@ -8,11 +8,11 @@ use Rattle.kheap_slabs.specs.declared.objects.Desc.{Desc}
 use Rattle.kheap_slabs.specs.declared.objects.Target.{Target}
 use Rattle.kheap_slabs.specs.declared.objects.Target.TheVariants as target
 use Rattle.kheap_slabs.specs.Heap.{Heap}
-use Rattle.posix_defs.specs.Pipe.{Pipe}
+use Rattle.posix_defs.specs.Pipe.{Pipe, after_close as pipe_after_close}
 use Rattle.posix_defs.specs.Sockets.{Sockets, after_close as sockets_after_close}
 use Rattle.posix_defs.specs.Files.Descriptions.{Access as PlainAccess, Target as PlainTarget, OnNode, OnPipe, OnSocket, Description, description_at, with_description, may_write}
-use Rattle.posix_defs.specs.Files.State.{Files, opens, with_descriptions, with_tree}
-use Rattle.posix_defs.specs.Files.Closing.{gone_in, target_closed, description_gone}
+use Rattle.posix_defs.specs.Files.State.{Files, node_of, opens, pipe_at, with_descriptions, with_pipe, with_tree}
+use Rattle.posix_defs.specs.Files.Closing.{gone_in, left_fifo, target_closed, description_gone}
 use Rattle.posix_defs.specs.TreeChanges.{closed}
 use Rattle.chunk_queue.specs.Held.{PipeKeepsBytes, SockKeepsBytes}
 use Rattle.chunk_queue.proofs.HeldLemmas.{HasBytes-same}
@@ -99,6 +99,15 @@ socket_closed numbers old new files key closable closes both =
       },
     )
 
+-- a FIFO that is left changes the tree alone
+left_both : (numbers : Numbers) (h : Heap) (files : Files) (node : Option ℕ) → StandBoth numbers h files → StandBoth numbers h (left_fifo files node)
+left_both numbers h files None both = both
+left_both numbers h files (Some number) both = go (opens files number)
+  where
+    go : (opened : Bool) → StandBoth numbers h (cond opened files (with_tree files (closed files.tree number)))
+    go true = both
+    go false = record { piped = both.piped; socketed = both.socketed }
+
 target_closes : (numbers : Numbers) (old new : Heap) (files : Files) (access : Access) (what : Target) → IsClosable old access what → TargetCloses old new access what
     → StandBoth numbers old files → StandBoth numbers new (target_closed files (access_in access) (target_in numbers what))
 target_closes numbers old new files access (target.Inode number) closable closes both = go (opens files number)
@@ -112,10 +121,19 @@ target_closes numbers old new files access (target.Inode number) closable closes
 target_closes numbers old new files access (target.Pipe key) closable closes both =
     let stands = closable.2 in
     let is = pipe_closed numbers old new files key (may_write (access_in access)) (subst IsSome (sym stands.there) refl) closes both in
-    record { piped = is.0; socketed = is.1 }
+    let place = numbers.pipes key in
+    left_both numbers new (with_pipe files place (pipe_after_close (pipe_at files place) (may_write (access_in access)))) (node_of files (OnPipe place)) (record { piped = is.0; socketed = is.1 })
 target_closes numbers old new files access (target.Sock key) closable closes both =
     let is = socket_closed numbers old new files key closable closes both in
     record { piped = is.0; socketed = is.1 }
+
+left_descriptions : (files : Files) (node : Option ℕ) → (left_fifo files node).descriptions ≡ files.descriptions
+left_descriptions files None = refl
+left_descriptions files (Some number) = go (opens files number)
+  where
+    go : (opened : Bool) → (cond opened files (with_tree files (closed files.tree number))).descriptions ≡ files.descriptions
+    go true = refl
+    go false = refl
 
 -- what is closed leaves the other descriptions
 closed_descriptions : (files : Files) (access : PlainAccess) (what : PlainTarget) → (target_closed files access what).descriptions ≡ files.descriptions
@@ -124,7 +142,7 @@ closed_descriptions files access (OnNode number) = go (opens files number)
     go : (opened : Bool) → (cond opened files (with_tree files (closed files.tree number))).descriptions ≡ files.descriptions
     go true = refl
     go false = refl
-closed_descriptions files access (OnPipe place) = refl
+closed_descriptions files access (OnPipe place) = left_descriptions (with_pipe files place (pipe_after_close (pipe_at files place) (may_write access))) (node_of files (OnPipe place))
 closed_descriptions files access (OnSocket place) = refl
 
 -- ---- a descriptor fewer

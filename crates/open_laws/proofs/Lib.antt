@@ -9,3 +9,4 @@ pub mod PolledLemmas
 pub mod ShareLemmas
 pub mod SocketLemmas
 pub mod LeafNamings
+pub mod RelinkedLemmas

@@ -10,6 +10,7 @@ use Rattle.kheap_slabs.specs.Heap.{Heap}
 use Rattle.posix_defs.specs.Pipe.{Pipe, after_close as pipe_after_close}
 use Rattle.posix_defs.specs.Sockets.{Sockets, after_close as sockets_after_close}
 use Rattle.posix_defs.specs.Files.Descriptions.{may_write}
+use Rattle.pipe_ends.specs.Links.{AreRelinked, ClosesLink, KeepsLinks}
 use Rattle.pipe_ends.specs.Standing.{StandsFor as PipeStandsFor, HasEndAt, place_with, LeavesOthers as LeavesOtherPipes}
 use Rattle.usock_core.specs.Standing.{StandsFor as SocketsStandFor, IsClosableIn, IsHeldIn, QueuesStay, LeavesOthers as LeavesOtherThanSockets}
 use Rattle.open_laws.specs.Described.{access_in, descs_left}
@@ -59,3 +60,20 @@ pub record Drops (old new : Heap) (key : ℕ) (desc : Desc) : Type 0 where
   pub descs : new.descs ≡ descs_left old.descs key desc
   pub stays : 1 < desc.count → new ≡ record old { descs = new.descs }
   pub closes : desc.count ≡ 1 → TargetCloses old new desc.access desc.target
+
+-- the same, once at most one FIFO's pipe stands before another one
+pub record DropsRelinked (old new : Heap) (key : ℕ) (desc : Desc) : Type 0 where
+  pub mid : Heap
+  pub relinked : AreRelinked old mid
+  pub drops : Drops mid new key desc
+
+-- of the pipes of FIFOs that one alone is other than before whose end is closed
+abbrev pub ClosesLinks : Heap → Heap → HeldAccess → HeldTarget → Type 0
+ClosesLinks old new access (target.Inode number) = KeepsLinks old new
+ClosesLinks old new access (target.Pipe key) = ClosesLink old new key (may_write (access_in access))
+ClosesLinks old new access (target.Sock key) = KeepsLinks old new
+
+-- the pipes of FIFOs, once a descriptor fewer names a Desc
+pub record DropsLinks (old new : Heap) (desc : Desc) : Type 0 where
+  pub stays : 1 < desc.count → KeepsLinks old new
+  pub closes : desc.count ≡ 1 → ClosesLinks old new desc.access desc.target

@@ -1,10 +1,11 @@
 -- Open descriptions, each with how many descriptors name it, and what a Desc of the heap says of one.
 use Rattle.std.specs.Prelude.{◌≡◌, ◌+◌, ◌-◌, ◌==◌, ℕ, List, map, Option, None, Some, if◌then◌else◌, slice_set}
-use Rattle.std.specs.Option.{option_map}
+use Rattle.std.specs.Option.{option_and_then, option_map}
 use Rattle.kheap_slabs.specs.Objects.{object}
 use Rattle.kheap_slabs.specs.declared.objects.Access.{Access as HeldAccess}
 use Rattle.kheap_slabs.specs.declared.objects.Access.TheVariants as access
 use Rattle.kheap_slabs.specs.declared.objects.Desc.{Desc}
+use Rattle.kheap_slabs.specs.declared.objects.Pipe.{Pipe}
 use Rattle.kheap_slabs.specs.declared.objects.Target.{Target as HeldTarget}
 use Rattle.kheap_slabs.specs.declared.objects.Target.TheVariants as target
 use Rattle.posix_defs.specs.Files.Descriptions.{Target, OnNode, OnPipe, OnSocket, Access, ReadOnly, WriteOnly, ReadWrite, Description, Descriptions}
@@ -76,15 +77,25 @@ after_drop list place = slice_set list place (named_less (object list place))
 abbrev pub counting : Desc → ℕ → Desc
 counting desc count = record desc { count = count }
 
--- the node that a target has
-abbrev pub node_in : HeldTarget → Option ℕ
-node_in (target.Inode number) = Some number
-node_in (target.Pipe key) = None
-node_in (target.Sock key) = None
+-- the node of the FIFO whose pipe it is
+abbrev pub fifo_in : Pipe → Option ℕ
+fifo_in pipe = if pipe.node == 0 then None else Some pipe.node
+
+-- the node that a target names by its number
+abbrev pub inode_in : HeldTarget → Option ℕ
+inode_in (target.Inode number) = Some number
+inode_in (target.Pipe key) = None
+inode_in (target.Sock key) = None
+
+-- the node that a target has, where these are the pipes; an end of a FIFO's pipe has that of the FIFO
+abbrev pub node_in : List (Option Pipe) → HeldTarget → Option ℕ
+node_in pipes (target.Inode number) = Some number
+node_in pipes (target.Pipe key) = option_and_then fifo_in (object pipes key)
+node_in pipes (target.Sock key) = None
 
 -- the node whose pin is to be dropped with a descriptor: that of a description which goes
-abbrev pub node_left : Desc → Option ℕ
-node_left desc = if desc.count == 1 then node_in desc.target else None
+abbrev pub node_left : List (Option Pipe) → Desc → Option ℕ
+node_left pipes desc = if desc.count == 1 then node_in pipes desc.target else None
 
 -- the Descs after a descriptor of one is gone
 abbrev pub descs_left : List (Option Desc) → ℕ → Desc → List (Option Desc)

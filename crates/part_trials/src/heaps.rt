@@ -25,6 +25,7 @@ fn proc_of(pid: u32) -> Proc {
         ignores_pipe: true,
         ignores_term: true,
         control,
+        opening: None,
         descriptors: [None; 32],
         nodes: [None; 4],
         leaves: [None; 3],
@@ -114,6 +115,10 @@ fn pipe_of(readers: u32) -> Pipe {
         queue,
         readers,
         writers: 1,
+        node: 0,
+        read_opens: 0,
+        write_opens: 0,
+        next: None,
     }
 }
 

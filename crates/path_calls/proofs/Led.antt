@@ -11,7 +11,7 @@ use Rattle.memfs_ops.specs.Changing.{ChangedTo, DoneAs}
 use Rattle.memfs_ops.specs.FileTree.{Stands, TreeView}
 use Rattle.memfs_ops.specs.Removing.{TellsHeld, TellsOpened, ToldTo}
 use Rattle.posix_defs.specs.Answer.{Answer, failed, replied}
-use Rattle.posix_defs.specs.Calls.OnNames.{freed_in, is_busy, link, made_directory, mkdir, rename, renamed, retreed, rmdir, unlink}
+use Rattle.posix_defs.specs.Calls.OnNames.{freed_in, is_busy, link, made_node, mkdir, rename, renamed, retreed, rmdir, unlink}
 use Rattle.posix_defs.specs.Files.State.{opens}
 use Rattle.posix_defs.specs.IsTree.{IsTree}
 use Rattle.posix_defs.specs.Memory.{Frames}
@@ -82,7 +82,7 @@ module _ (script : Script) (h : Heap) (fs : TreeView) (plain : Plain) (pid : ℕ
 
   -- where a node is made
   made_led : (led : Result (ℕ × Tree) Errno) (done : Result (Unit {0}) Errno) → said ≡ done_reply done
-      → Worked plain.files.tree → ((made : ℕ) (next : Tree) → led ≡ Ok (made, next) → Worked next) → DoneAs h fs plain.files.tree led (pins_in plain) done → Led script h fs plain pid said (made_directory script plain pid led)
+      → Worked plain.files.tree → ((made : ℕ) (next : Tree) → led ≡ Ok (made, next) → Worked next) → DoneAs h fs plain.files.tree led (pins_in plain) done → Led script h fs plain pid said (made_node script plain pid led)
   made_led (Ok (made, next)) done is works still at = record {
     tree = next;
     stands = at.1;
@@ -146,7 +146,7 @@ module _ (script : Script) (h : Heap) (fs : TreeView) (plain : Plain) (pid : ℕ
         → Led script h fs plain pid said (mkdir script plain pid path)
     unfolding mkdir
     mkdir_led path done is at =
-        subst (λ dir. Led script h fs plain pid said (made_directory script plain pid (mkdir_path tree dir path))) (sym works)
+        subst (λ dir. Led script h fs plain pid said (made_node script plain pid (mkdir_path tree dir path))) (sym works)
         (made_led (mkdir_path tree cwd path) done is worked
         (λ made next told. works_after plain next (opens plain.files) None (mkdir_turns tree cwd path made next (opens plain.files) (is_busy plain) told) worked) at)
 

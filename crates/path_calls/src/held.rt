@@ -15,6 +15,7 @@ ghost use Rattle.path_calls.specs.Nodes.{Adds, has_node, holds_node, most_nodes,
 
 use crate::node_set::NodeSet;
 use kheap_slabs::{Desc, Descriptor, KHeap, Target};
+use pipe_ends::pipe_fifo;
 use proc_table::ProcTable;
 
 /// Puts the nodes that live processes work in, and those that are open, into a set that has none.
@@ -71,16 +72,25 @@ fn add_row(heap: &KHeap, row: &[Option<Descriptor>; 32], nodes: &mut NodeSet)
 {
     for descriptor in row {
         if let Some(held) = descriptor {
-            add_opened(heap.get_desc(held.desc), nodes);
+            add_opened(heap, heap.get_desc(held.desc), nodes);
         }
     }
 }
 
 // The node that a description opens, if it opens one.
-fn add_opened(desc: &Desc, nodes: &mut NodeSet)
+fn add_opened(heap: &KHeap, desc: &Desc, nodes: &mut NodeSet)
     ensures { Adds nodes.old nodes.new (λ number. is_number number (node_in desc.now.target)) }
 {
-    if let Target::Inode(node) = desc.target {
+    if let Some(node) = node_of(heap, desc.target) {
         nodes.add(node);
+    }
+}
+
+// The node of a target; an end of a FIFO's pipe has that of the FIFO.
+fn node_of(heap: &KHeap, target: Target) -> Option<u32> {
+    match target {
+        Target::Inode(node) => Some(node),
+        Target::Pipe(key) => pipe_fifo(heap, key),
+        Target::Sock(_) => None,
     }
 }

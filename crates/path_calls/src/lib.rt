@@ -1,5 +1,5 @@
 //! A turn of each call that looks along a path or changes names of the tree of files leads the objects of a store to what the call's
-//! definition says: `stat`, `chdir`, `mkdir`, `rmdir`, `unlink`, `link` and `rename`.
+//! definition says: `stat`, `chdir`, `mkdir`, `rmdir`, `unlink`, `link`, `rename` and `mkfifo`.
 #![tactic(auto)]
 
 mod directories;
@@ -10,7 +10,7 @@ mod replies;
 mod telling;
 mod working;
 
-pub use directories::{mkdir, rmdir};
+pub use directories::{mkdir, mkfifo, rmdir};
 pub use names::{link, rename, unlink};
 pub use telling::stat;
 pub use working::chdir;

@@ -1,1 +1,3 @@
 pub mod StandingLemmas
+pub mod LinkLemmas
+pub mod RelinkLemmas

@@ -46,14 +46,25 @@ pub held_writers : (h : Heap) (key : ℕ) (held : HeldPipe) (pipe : Pipe) (at : 
 held_writers h key held pipe at there stands =
     subst (λ (p : HeldPipe). p.writers ≡ pipe.writers) (held_is h key held pipe at there stands) stands.writers
 
+pub held_node : (h : Heap) (key : ℕ) (held : HeldPipe) (pipe : Pipe) (at : ℕ) → object h.pipes key ≡ Some held → StandsFor h key pipe at → held.node ≡ pipe.node
+held_node h key held pipe at there stands =
+    subst (λ (p : HeldPipe). p.node ≡ pipe.node) (held_is h key held pipe at there stands) stands.node
+
+pub held_opens : (h : Heap) (key : ℕ) (held : HeldPipe) (pipe : Pipe) (at : ℕ) → object h.pipes key ≡ Some held → StandsFor h key pipe at → (held.read_opens ≡ pipe.read_opens) × (held.write_opens ≡ pipe.write_opens)
+held_opens h key held pipe at there stands =
+    subst (λ (p : HeldPipe). (p.read_opens ≡ pipe.read_opens) × (p.write_opens ≡ pipe.write_opens)) (held_is h key held pipe at there stands) (stands.read_opens, stands.write_opens)
+
 abbrev place_at : ℕ → ℕ → QueuePlace
 place_at place len = record { place = place; len = len }
 
-abbrev pipe_with : List ℕ → ℕ → ℕ → Pipe
-pipe_with bytes readers writers = record { bytes = bytes; readers = readers; writers = writers }
+abbrev pub pipe_with : Pipe → List ℕ → ℕ → ℕ → Pipe
+pipe_with pipe bytes readers writers = record pipe { bytes = bytes; readers = readers; writers = writers }
 
-same_pipe : (a b : List ℕ) (c d e f : ℕ) → a ≡ b → c ≡ d → e ≡ f → pipe_with a c e ≡ pipe_with b d f
-same_pipe a b c d e f bytes readers writers = rw (bytes, readers, writers) refl
+abbrev all_of : List ℕ → ℕ → ℕ → ℕ → ℕ → ℕ → Pipe
+all_of bytes readers writers node reads writes = record { bytes = bytes; readers = readers; writers = writers; node = node; read_opens = reads; write_opens = writes }
+
+same_pipe : (a b : List ℕ) (c d e f g h i j k l : ℕ) → a ≡ b → c ≡ d → e ≡ f → g ≡ h → i ≡ j → k ≡ l → all_of a c e g i k ≡ all_of b d f h j l
+same_pipe a b c d e f g h i j k l bytes readers writers node reads writes = rw (bytes, readers, writers, node, reads, writes) refl
 
 -- it goes on where it is the same and keeps its bytes
 pub stands_on : (old new : Heap) (key : ℕ) (pipe : Pipe) (at : ℕ) → object new.pipes key ≡ object old.pipes key → PipeKeepsBytes old new key → StandsFor old key pipe at → StandsFor new key pipe at
@@ -65,6 +76,9 @@ stands_on old new key pipe at same keeps stands = record {
   place = stands.place;
   readers = stands.readers;
   writers = stands.writers;
+  node = stands.node;
+  read_opens = stands.read_opens;
+  write_opens = stands.write_opens;
   within = stands.within;
 }
 
@@ -75,10 +89,13 @@ stands_same old new key pipe at same chunks = stands_on old new key pipe at same
 -- it stands for one alone
 pub stands_for_one : (h : Heap) (key : ℕ) (first second : Pipe) (at other : ℕ) → StandsFor h key first at → StandsFor h key second other → (first ≡ second) × (at ≡ other)
 stands_for_one h key first second at other one also = (
-  same_pipe first.bytes second.bytes first.readers second.readers first.writers second.writers
+  same_pipe first.bytes second.bytes first.readers second.readers first.writers second.writers first.node second.node first.read_opens second.read_opens first.write_opens second.write_opens
       (HasBytes-unique h one.held.queue first.bytes second.bytes one.bytes (held_bytes h key one.held second other one.there also))
       (sym one.readers ∙ held_readers h key one.held second other one.there also)
-      (sym one.writers ∙ held_writers h key one.held second other one.there also),
+      (sym one.writers ∙ held_writers h key one.held second other one.there also)
+      (sym one.node ∙ held_node h key one.held second other one.there also)
+      (sym one.read_opens ∙ (held_opens h key one.held second other one.there also).0)
+      (sym one.write_opens ∙ (held_opens h key one.held second other one.there also).1),
   sym one.place ∙ held_place h key one.held second other one.there also,
 )
 
@@ -86,7 +103,7 @@ same_account : (a b c d : ℕ) → a ≡ b → c ≡ d → place_at a c ≡ plac
 same_account a b c d place len = rw (place, len) refl
 
 -- what a pipe stands for once its queue has turned
-pub stands_turned : (old new : Heap) (key : ℕ) (held : HeldPipe) (pipe : Pipe) (at : ℕ) (next : List ℕ → List ℕ) (place : QueuePlace) (readers writers : ℕ) → object old.pipes key ≡ Some held → StandsFor old key pipe at → Turned old new key held next place readers writers → place.len ≡ length (next pipe.bytes) → length (next pipe.bytes) ≤ capacity → StandsFor new key (record { bytes = next pipe.bytes; readers = readers; writers = writers }) place.place
+pub stands_turned : (old new : Heap) (key : ℕ) (held : HeldPipe) (pipe : Pipe) (at : ℕ) (next : List ℕ → List ℕ) (place : QueuePlace) (readers writers : ℕ) → object old.pipes key ≡ Some held → StandsFor old key pipe at → Turned old new key held next place readers writers → place.len ≡ length (next pipe.bytes) → length (next pipe.bytes) ≤ capacity → StandsFor new key (pipe_with pipe (next pipe.bytes) readers writers) place.place
 stands_turned old new key held pipe at next place readers writers there stands turned len within = record {
   held = turned.now;
   there = turned.stored;
@@ -95,6 +112,9 @@ stands_turned old new key held pipe at next place readers writers there stands t
   place = ap (λ (q : QueuePlace). q.place) turned.place_is;
   readers = turned.readers_are;
   writers = turned.writers_are;
+  node = ap (λ (p : HeldPipe). p.node) turned.fifo ∙ held_node old key held pipe at there stands;
+  read_opens = ap (λ (p : HeldPipe). p.read_opens) turned.fifo ∙ (held_opens old key held pipe at there stands).0;
+  write_opens = ap (λ (p : HeldPipe). p.write_opens) turned.fifo ∙ (held_opens old key held pipe at there stands).1;
   within = within;
 }
 
@@ -130,13 +150,14 @@ kept_parts old new pipes chunks high is =
     subst (λ (h : Heap). h ≡ record old { pipes = h.pipes; chunks = h.chunks; high = h.high }) (sym is) refl
 
 -- a queue turns in its chunks, and its pipe gets it
-pub turned_by : (old mid new : Heap) (key : ℕ) (pipe now : HeldPipe) (next : List ℕ → List ℕ) (place : QueuePlace) → OwnsItsObjects old → object old.pipes key ≡ Some pipe → OnlyChunks old mid → Turns old mid pipe.queue now.queue next → place_of now.queue ≡ place → object new.pipes key ≡ Some now → new ≡ record mid { pipes = put mid.pipes key now } → Turned old new key pipe next place now.readers now.writers
-turned_by old mid new key pipe now next place is there only turns place_is stored put_in = record {
+pub turned_by : (old mid new : Heap) (key : ℕ) (pipe now : HeldPipe) (next : List ℕ → List ℕ) (place : QueuePlace) → OwnsItsObjects old → object old.pipes key ≡ Some pipe → OnlyChunks old mid → Turns old mid pipe.queue now.queue next → place_of now.queue ≡ place → object new.pipes key ≡ Some now → new ≡ record mid { pipes = put mid.pipes key now } → now ≡ record pipe { queue = now.queue; readers = now.readers; writers = now.writers } → Turned old new key pipe next place now.readers now.writers
+turned_by old mid new key pipe now next place is there only turns place_is stored put_in fifo = record {
   now = now;
   stored = stored;
   place_is = place_is;
   readers_are = refl;
   writers_are = refl;
+  fifo = fifo;
   turns = pipe_turns old mid new key pipe now next is there only turns stored put_in;
   kept = kept_parts old new (put mid.pipes key now) mid.chunks mid.high (put_in ∙ ap (λ (h : Heap). record h { pipes = put mid.pipes key now }) only);
   objects = keeps_pipes old new key now (ap (λ (h : Heap). h.pipes) put_in ∙ ap (λ (h : Heap). put h.pipes key now) only);
@@ -146,8 +167,8 @@ pub Turns-same : (h : Heap) (parts : QueueParts) → Turns h h parts parts (λ b
 Turns-same h parts = Turns-as h h parts parts (drop 0) (λ bytes. bytes) (λ bytes. refl) (Turns-none h parts)
 
 -- a pipe that is made
-pub stands_new : (old new : Heap) (key : ℕ) (pipe : HeldPipe) → pipe.queue ≡ empty_queue → pipe.readers ≡ 1 → pipe.writers ≡ 1 → object new.pipes key ≡ Some pipe → StandsFor new key new_pipe 0
-stands_new old new key pipe queue readers writers stored = record {
+pub stands_new : (old new : Heap) (key : ℕ) (pipe : HeldPipe) → pipe.queue ≡ empty_queue → pipe.readers ≡ 1 → pipe.writers ≡ 1 → pipe.node ≡ 0 → pipe.read_opens ≡ 0 → pipe.write_opens ≡ 0 → object new.pipes key ≡ Some pipe → StandsFor new key new_pipe 0
+stands_new old new key pipe queue readers writers node reads writes stored = record {
   held = pipe;
   there = stored;
   bytes = rw queue (record { keys = []; owns = OwnsChunks-fresh new.chunks; has = refl });
@@ -155,6 +176,9 @@ stands_new old new key pipe queue readers writers stored = record {
   place = ap (λ (q : QueueParts). q.place) queue;
   readers = readers;
   writers = writers;
+  node = node;
+  read_opens = reads;
+  write_opens = writes;
   within = omega arith;
 }
 
@@ -188,8 +212,8 @@ stands_read old new key held pipe at count there stands turned =
     let left : (after_take (place_of held.queue) count).len ≡ length (drop count pipe.bytes) = len_taken (place_of held.queue) count ∙ ap (λ (n : ℕ). n - count) len ∙ sym (length-drop count pipe.bytes) in
     let now = stands_turned old new key held pipe at (drop count) (after_take (place_of held.queue) count) held.readers held.writers there stands turned left (rw length-drop (omega (arith, stands.within))) in
     subst (λ (q : QueuePlace). StandsFor new key (after_read pipe count) (after_take q count).place) same
-    (subst (λ (n : ℕ). StandsFor new key (pipe_with (drop count pipe.bytes) pipe.readers n) (after_take (place_of held.queue) count).place) writers
-    (subst (λ (n : ℕ). StandsFor new key (pipe_with (drop count pipe.bytes) n held.writers) (after_take (place_of held.queue) count).place) readers now))
+    (subst (λ (n : ℕ). StandsFor new key (pipe_with pipe (drop count pipe.bytes) pipe.readers n) (after_take (place_of held.queue) count).place) writers
+    (subst (λ (n : ℕ). StandsFor new key (pipe_with pipe (drop count pipe.bytes) n held.writers) (after_take (place_of held.queue) count).place) readers now))
 
 -- the bytes that were read are its first ones
 pub read_out : (h : Heap) (key : ℕ) (held : HeldPipe) (pipe : Pipe) (at count : ℕ) (before after : List ℕ) → OwnsItsObjects h → object h.pipes key ≡ Some held → StandsFor h key pipe at → TakesOut h held.queue before after 0 count → after ≡ take count pipe.bytes ++ drop count before
@@ -208,8 +232,8 @@ stands_written old new key held pipe at bytes there stands turned room =
     let more : held.queue.len + length bytes ≡ length (pipe.bytes ++ bytes) = ap (λ (n : ℕ). n + length bytes) len ∙ sym (length-append pipe.bytes bytes) in
     let now = stands_turned old new key held pipe at (λ before. before ++ bytes) (after_put (place_of held.queue) (length bytes)) held.readers held.writers there stands turned more (rw length-append room) in
     subst (λ (n : ℕ). StandsFor new key (record pipe { bytes = pipe.bytes ++ bytes }) n) (held_place old key held pipe at there stands)
-    (subst (λ (n : ℕ). StandsFor new key (pipe_with (pipe.bytes ++ bytes) pipe.readers n) held.queue.place) writers
-    (subst (λ (n : ℕ). StandsFor new key (pipe_with (pipe.bytes ++ bytes) n held.writers) held.queue.place) readers now))
+    (subst (λ (n : ℕ). StandsFor new key (pipe_with pipe (pipe.bytes ++ bytes) pipe.readers n) held.queue.place) writers
+    (subst (λ (n : ℕ). StandsFor new key (pipe_with pipe (pipe.bytes ++ bytes) n held.writers) held.queue.place) readers now))
 
 none_false : (n : ℕ) → 0 < n → (n == 0) ≡ false
 none_false n some = grind (arith, nat_tests)

@@ -1,6 +1,7 @@
 -- When a pipe of the heap stands for a plain one, and what a call on it leaves as it was.
 use Rattle.std.specs.Prelude.{◌≡◌, ◌≢◌, ◌==◌, ℕ, ◌<◌, ◌≤◌, Bool, List, [], ◌∷◌, Some, length, if◌then◌else◌}
 use Rattle.posix_defs.specs.Pipe.{Pipe, capacity}
+pub use Rattle.posix_defs.specs.Pipe.{ends_of}
 use Rattle.posix_defs.specs.QueuePlace.{QueuePlace}
 use Rattle.kheap_slabs.specs.Objects.{object}
 use Rattle.kheap_slabs.specs.declared.objects.Pipe.{Pipe as HeldPipe}
@@ -18,6 +19,9 @@ pub record StandsFor (h : Heap) (key : ℕ) (pipe : Pipe) (at : ℕ) : Type 0 wh
   pub place : held.queue.place ≡ at
   pub readers : held.readers ≡ pipe.readers
   pub writers : held.writers ≡ pipe.writers
+  pub node : held.node ≡ pipe.node
+  pub read_opens : held.read_opens ≡ pipe.read_opens
+  pub write_opens : held.write_opens ≡ pipe.write_opens
   pub within : length pipe.bytes ≤ capacity
 
 -- the key is a pipe's
@@ -31,10 +35,6 @@ account pipe at = record { place = at; len = length pipe.bytes }
 -- a queue without bytes begins at its chunk's front
 abbrev pub place_with : List ℕ → ℕ → ℕ
 place_with bytes at = if length bytes == 0 then 0 else at
-
--- how many descriptions have an end of the pipe
-abbrev pub ends_of : Pipe → Bool → ℕ
-ends_of pipe writing = if writing then pipe.writers else pipe.readers
 
 -- and has an end of this side
 abbrev pub HasEndAt : Heap → ℕ → Bool → Type 0
@@ -55,6 +55,7 @@ pub record Turned (old new : Heap) (key : ℕ) (pipe : HeldPipe) (next : List �
   pub place_is : place_of now.queue ≡ place
   pub readers_are : now.readers ≡ readers
   pub writers_are : now.writers ≡ writers
+  pub fifo : now ≡ record pipe { queue = now.queue; readers = now.readers; writers = now.writers }
   pub turns : PipeTurns old new key pipe.queue now.queue next
   pub kept : new ≡ record old { pipes = new.pipes; chunks = new.chunks; high = new.high }
   pub objects : KeepsOutside (key ∷ []) old.pipes new.pipes

@@ -1,4 +1,5 @@
 ghost use Rattle.std.specs.Prelude.{◌≡◌, ℕ, Some, None, []};
+ghost use Rattle.pipe_ends.specs.Links.{ClosesLink};
 ghost use Rattle.kheap_slabs.specs.Objects.{object};
 ghost use Rattle.kheap_slabs.specs.Owners.{OwnsItsObjects};
 ghost use Rattle.kheap_slabs.specs.Paid.{TakesNothing};
@@ -21,6 +22,7 @@ pub fn close_end(heap: &mut KHeap, key: u32, writing: bool)
         → after_close pipe writing ≡ Some left → StandsFor heap.new key left (place_with left.bytes at) }
     ensures owned { OwnsItsObjects heap.new }
     ensures others { LeavesOthers heap.old heap.new key }
+    ensures link { ClosesLink heap.old heap.new key writing }
     ensures takes { TakesNothing heap.old heap.new }
 {
     let pipe = *heap.get_pipe(key);
@@ -79,6 +81,7 @@ fn drop_bytes(heap: &mut KHeap, key: u32, pipe: Pipe, writers: u32)
             queue: queue.parts(),
             readers: 0,
             writers,
+            ..pipe
         },
     );
 }

@@ -6,12 +6,14 @@
 mod closing;
 pub mod laws;
 mod making;
+mod opens;
 mod polling;
 mod reading;
 mod writing;
 
 pub use closing::close_end;
 pub use making::pipe_make;
+pub use opens::{pipe_fifo, pipe_opens};
 pub use polling::pipe_polled;
 pub use reading::{pipe_read, pipe_read_waits};
 pub use writing::{pipe_is_unread, pipe_write, pipe_write_waits};

@@ -5,6 +5,7 @@ ghost use Rattle.kheap_slabs.specs.Objects.{object};
 ghost use Rattle.kheap_slabs.specs.Owners.{OwnsItsObjects};
 ghost use Rattle.kheap_slabs.specs.Paid.{CanPay, IsPaid};
 ghost use Rattle.posix_defs.specs.Pipe.{new_pipe};
+ghost use Rattle.pipe_ends.specs.Links.{KeepsLinks};
 ghost use Rattle.pipe_ends.specs.Standing.{StandsFor, LeavesOthers};
 
 use kabi_types::Class;
@@ -19,6 +20,7 @@ pub fn pipe_make(heap: &mut KHeap, purse: &mut Purse) -> u32
     ensures stands { StandsFor heap.new result new_pipe 0 }
     ensures owned { OwnsItsObjects heap.new }
     ensures others { LeavesOthers heap.old heap.new result }
+    ensures links { KeepsLinks heap.old heap.new }
     ensures chunks { heap.new.chunks ≡ heap.old.chunks }
     ensures paid { IsPaid heap.old purse.old heap.new purse.new }
     ensures pays { CanPay heap.new purse.new }
@@ -35,5 +37,9 @@ pub fn pipe_make(heap: &mut KHeap, purse: &mut Purse) -> u32
         },
         readers: 1,
         writers: 1,
+        node: 0,
+        read_opens: 0,
+        write_opens: 0,
+        next: None,
     })
 }

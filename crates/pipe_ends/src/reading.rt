@@ -7,6 +7,7 @@ ghost use Rattle.posix_defs.specs.Pipe.{Pipe as PlainPipe, pipe_read as read_ans
 ghost use Rattle.posix_defs.specs.QueuePlace.{after_take};
 ghost use Rattle.chunk_queue.specs.Chained.{place_of, TakesOut};
 ghost use Rattle.chunk_queue.specs.Moving.{moving_of, moved_by, UnlessMoved, would_wait};
+ghost use Rattle.pipe_ends.specs.Links.{KeepsLinks};
 ghost use Rattle.pipe_ends.specs.Standing.{StandsFor, IsPipeAt, account, LeavesOthers, Turned};
 
 use chunk_queue::{Moved, Queue};
@@ -30,6 +31,7 @@ pub fn pipe_read(heap: &mut KHeap, key: u32, nonblock: bool, out: &mut [u8]) -> 
     ensures there { IsPipeAt heap.new key }
     ensures others { LeavesOthers heap.old heap.new key }
     ensures takes { TakesNothing heap.old heap.new }
+    ensures links { KeepsLinks heap.old heap.new }
     ensures refused { UnlessMoved result ((heap.new ≡ heap.old) × (out.new ≡ out.old)) }
 {
     let pipe = *heap.get_pipe(key);

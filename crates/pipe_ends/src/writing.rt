@@ -6,6 +6,7 @@ ghost use Rattle.posix_defs.specs.Pipe.{Pipe as PlainPipe, capacity, Moves, free
 ghost use Rattle.posix_defs.specs.QueuePlace.{chunks_of, after_put};
 ghost use Rattle.chunk_queue.specs.Chained.{place_of, PaysChunks};
 ghost use Rattle.chunk_queue.specs.Moving.{moving_of, moved_by, UnlessMoved, would_wait};
+ghost use Rattle.pipe_ends.specs.Links.{KeepsLinks};
 ghost use Rattle.pipe_ends.specs.Standing.{StandsFor, IsPipeAt, account, LeavesOthers, Turned};
 
 use crate::WHOLE;
@@ -43,6 +44,7 @@ pub fn pipe_write(
     ensures spent { (pipe : PlainPipe) (at : ℕ) → StandsFor heap.old key pipe at
         → purse.new.left.chunk + chunks_of (account (after_write pipe bytes.now (moved_by result)) at)
         ≡ purse.old.left.chunk + chunks_of (account pipe at) }
+    ensures links { KeepsLinks heap.old heap.new }
     ensures refused { UnlessMoved result ((heap.new ≡ heap.old) × (purse.new ≡ purse.old)) }
 {
     let pipe = *heap.get_pipe(key);

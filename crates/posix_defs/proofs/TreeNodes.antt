@@ -5,7 +5,7 @@ use Rattle.std.proofs.lemmas.Bool.{cases_lt, cases_eq, false≢true}
 use Rattle.std.proofs.lemmas.Option.{same_Some, none-some}
 use Rattle.std.proofs.lemmas.List.{length-replicate, get_or-replicate, get_or_past, set_past, length-set, get_or-set_same, get_or-set_other}
 use Rattle.std.proofs.lemmas.List.Sums.{sum_by-set}
-use Rattle.posix_defs.specs.Tree.{Content, File, Directory, SocketName, Node, Tree, node_at, with_node, is_in_use, is_directory, is_directory_in, entries_of, entries_in, free_node, found, found_among}
+use Rattle.posix_defs.specs.Tree.{Content, File, Directory, SocketName, Fifo, Node, Tree, node_at, with_node, is_in_use, is_directory, is_directory_in, entries_of, entries_in, free_node, found, found_among}
 
 -- a number that a node may have
 pub record IsNumber (tree : Tree) (number : ℕ) : Type 0 where
@@ -82,6 +82,7 @@ found_in (Some node) name number at = found_in_content node.content at
     found_in_content (File bytes) at = absurd (none-some number at)
     found_in_content (Directory parent entries) at = refl
     found_in_content SocketName at = absurd (none-some number at)
+    found_in_content Fifo at = absurd (none-some number at)
 
 pub found_in_directory : (tree : Tree) (dir : ℕ) (name : List ℕ) (number : ℕ) → found tree dir name ≡ Some number → is_directory tree dir ≡ true
 found_in_directory tree dir name number at = found_in (node_at tree dir) name number at

@@ -12,7 +12,7 @@ pub data Answer : Type 0 where
   Blocked : Answer
   -- the call is over
   Done : Reply → Plain → Answer
-  -- a write moved so many bytes, and goes on later
+  -- a write moved so many bytes, or an open of a FIFO made its one end; it goes on later
   Part : ℕ → Plain → Answer
   -- the process has ended with a wait status
   Ended : ℕ → Plain → Answer

@@ -96,14 +96,15 @@ pub record Fits (inode : Inode) : Type 0 where
   pub indirect : inode.indirect < 2 ^ 32
   pub double : inode.double < 2 ^ 32
 
--- the kind (0 free, 1 a file, 2 a directory, 3 a socket's name), the links and the size go together
+-- the kind (0 free, 1 a file, 2 a directory, 3 a socket's name, 4 a FIFO), the links and the size go together
 pub record IsOfKind (inode : Inode) : Type 0 where
-  pub kind : inode.kind ≤ 3
+  pub kind : inode.kind ≤ 4
   pub links : inode.nlink ≤ 127
   pub size : inode.size ≤ greatest_size
   pub free : inode.kind ≡ 0 → (inode.nlink ≡ 0) × (inode.size ≡ 0)
   pub entries : inode.kind ≡ 2 → inode.size % 32 ≡ 0
   pub name : inode.kind ≡ 3 → inode.size ≡ 0
+  pub fifo : inode.kind ≡ 4 → inode.size ≡ 0
 
 -- just the pointers that the size needs are there
 pub record HasPointers (blocks : ℕ) (inode : Inode) : Type 0 where

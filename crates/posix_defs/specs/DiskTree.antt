@@ -4,13 +4,14 @@ use Rattle.kabi_types.specs.declared.inodes.Inode.{Inode}
 use Rattle.posix_defs.specs.DiskFormat.{table_nodes}
 use Rattle.posix_defs.specs.SoundDisk.{HasInode, Place, HasPlace, named_at, Sound, IsFreeNode}
 use Rattle.posix_defs.specs.DiskContents.{node_bytes, HasEntries, entry_for, own_name, parent_name}
-use Rattle.posix_defs.specs.Tree.{Content, File, Directory, SocketName, Node, Tree, node_at, IsInodeOf}
+use Rattle.posix_defs.specs.Tree.{Content, File, Directory, SocketName, Fifo, Node, Tree, node_at, IsInodeOf}
 
 -- what an inode, read through its pointers, holds
 abbrev pub HasContent : List (List ℕ) → ℕ → Inode → Content → Type 0
 HasContent disk number inode (File bytes) = node_bytes disk inode ≡ bytes
 HasContent disk number inode (Directory parent entries) = HasEntries disk inode (entry_for number own_name ∷ entry_for parent parent_name ∷ entries)
 HasContent disk number inode SocketName = Unit {0}
+HasContent disk number inode Fifo = Unit {0}
 
 -- the disk has this node under a number
 pub record HasNodeOf (disk : List (List ℕ)) (number : ℕ) (node : Node) : Type 0 where

@@ -5,7 +5,7 @@ use Rattle.kabi_types.specs.declared.inodes.DirEntry.{DirEntry}
 use Rattle.posix_defs.specs.DiskFormat.{greatest_size, table_end, table_nodes, IsName}
 use Rattle.posix_defs.specs.DiskContents.{own_name, parent_name}
 use Rattle.posix_defs.specs.PathCalls.{is_socket_kind, kind_of_content}
-use Rattle.posix_defs.specs.Tree.{Content, File, Directory, SocketName, Node, Tree, root, node_at, is_directory, is_directory_content, links_at, entries_in, entries_at, parent_at, climbed, size_of, used_blocks}
+use Rattle.posix_defs.specs.Tree.{Content, File, Directory, SocketName, Fifo, Node, Tree, root, node_at, is_directory, is_directory_content, links_at, entries_in, entries_at, parent_at, climbed, size_of, used_blocks}
 
 -- a name that an entry may have: `.` and `..` stand before all entries
 pub record IsEntryName (name : List ℕ) : Type 0 where
@@ -23,12 +23,14 @@ abbrev pub IsContent : Content → Type 0
 IsContent (File bytes) = All (λ byte. byte < 2 ^ 8) bytes
 IsContent (Directory _ entries) = AreEntries entries
 IsContent SocketName = Unit {0}
+IsContent Fifo = Unit {0}
 
--- what a new node in a directory holds: a file without bytes, a directory below it without entries, or a socket's name
+-- what a new node in a directory holds: a file without bytes, a directory below it without entries, a socket's name, or a FIFO
 abbrev pub IsNewContent : ℕ → Content → Type 0
 IsNewContent dir (File bytes) = bytes ≡ []
 IsNewContent dir (Directory parent entries) = (parent ≡ dir) × (entries ≡ [])
 IsNewContent dir SocketName = Unit {0}
+IsNewContent dir Fifo = Unit {0}
 
 -- a node that may be there: a directory has one link, and a socket's name has links as long as it is there
 pub record IsNode (node : Node) : Type 0 where

@@ -45,6 +45,7 @@ node_text node.File = codes "file"
 node_text node.Dir = codes "dir"
 node_text node.Sock = codes "sock"
 node_text node.Pipe = codes "pipe"
+node_text node.Fifo = codes "fifo"
 
 -- a byte as two hexadecimal digits
 abbrev pub hex_byte : ℕ → List ℕ

@@ -20,7 +20,7 @@ use Rattle.posix_defs.specs.Calls.OnDescriptors.{close, dup, dup2, fcntl}
 use Rattle.posix_defs.specs.Calls.Reading.{read, pread, readdir}
 use Rattle.posix_defs.specs.Calls.Writing.{write, pwrite}
 use Rattle.posix_defs.specs.Calls.OnFiles.{open_file, lseek, ftruncate, fstat}
-use Rattle.posix_defs.specs.Calls.OnNames.{stat, chdir, mkdir, rmdir, unlink, link, rename}
+use Rattle.posix_defs.specs.Calls.OnNames.{stat, chdir, mkdir, mkfifo, rmdir, unlink, link, rename}
 use Rattle.posix_defs.specs.Calls.Starting.{exec}
 use Rattle.posix_defs.specs.Calls.OnPipes.{pipe}
 use Rattle.posix_defs.specs.Calls.OnSockets.{socket, socketpair, bind, listen, connect, accept, shutdown}
@@ -70,6 +70,7 @@ answer_to script plain pid (call.Accept fd) = accept script plain pid fd
 answer_to script plain pid (call.Shutdown fd how) = shutdown script plain pid fd how
 answer_to script plain pid (call.Poll timeout entries) = poll script plain pid timeout entries
 answer_to script plain pid (call.Signal which disposition) = signal script plain pid which disposition
+answer_to script plain pid (call.Mkfifo path) = mkfifo script plain pid path
 
 -- a wrong operand is told before anything else is looked at
 abbrev pub unless_wrong : Script → Plain → ℕ → Option Errno → Answer → Answer

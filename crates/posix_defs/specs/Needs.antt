@@ -151,6 +151,7 @@ objects_of (call.Accept _) = record leaf_need { desc = 1 }
 objects_of (call.Shutdown _ _) = no_need
 objects_of (call.Poll _ _) = no_need
 objects_of (call.Signal _ _) = no_need
+objects_of (call.Mkfifo _) = walk_need
 
 -- the objects that a call may make: none where an operand is wrong
 unfoldable pub need_of : Call → Need

@@ -5,13 +5,14 @@ use Rattle.posix_defs.specs.declared.nodes.Listed.{Listed}
 use Rattle.posix_defs.specs.declared.nodes.Listed.TheVariants as listed
 use Rattle.posix_defs.specs.declared.nodes.ListedNode.{ListedNode}
 use Rattle.posix_defs.specs.declared.nodes.NodeList.{NodeList}
-use Rattle.posix_defs.specs.Tree.{Content, File, Directory, SocketName, Node, Tree}
+use Rattle.posix_defs.specs.Tree.{Content, File, Directory, SocketName, Fifo, Node, Tree}
 
 -- what a node in memory holds, as a node of a tree holds it
 abbrev pub content_listed : Listed → Content
 content_listed (listed.File bytes) = File bytes.items
 content_listed (listed.Directory parent entries) = Directory parent entries.items
 content_listed listed.SocketName = SocketName
+content_listed listed.Fifo = Fifo
 
 -- a node in memory, as the node that it is
 abbrev pub node_listed : ListedNode → Node

@@ -17,7 +17,7 @@ use Rattle.posix_defs.specs.declared.walked.Walked.TheVariants as walked
 use Rattle.posix_defs.specs.DiskFormat.{entry_bytes}
 use Rattle.posix_defs.specs.DiskContents.{entry_for, own_name, parent_name}
 use Rattle.posix_defs.specs.FileBytes.{resized}
-use Rattle.posix_defs.specs.Tree.{Content, File, Directory, SocketName, Node, Tree, node_at, is_directory, links_at, entries_at, parent_at, size_at}
+use Rattle.posix_defs.specs.Tree.{Content, File, Directory, SocketName, Fifo, Node, Tree, node_at, is_directory, links_at, entries_at, parent_at, size_at}
 use Rattle.posix_defs.specs.TreeChanges.{with_bytes, make, link, unlink, rename_over, rename_to, takes_entry, is_at_or_above}
 use Rattle.posix_defs.specs.Paths.{resolve}
 
@@ -37,6 +37,7 @@ abbrev pub kind_of_content : Content → NodeKind
 kind_of_content (File _) = kinds.File
 kind_of_content (Directory _ _) = kinds.Dir
 kind_of_content SocketName = kinds.Sock
+kind_of_content Fifo = kinds.Fifo
 
 -- the kind of a node in use; a free one, to which no path leads, is taken for a file
 abbrev pub kind_in : Option Node → NodeKind
@@ -51,6 +52,15 @@ is_socket_kind _ = false
 -- the node is a socket's name
 abbrev pub is_socket : Tree → ℕ → Bool
 is_socket tree number = is_socket_kind (kind_in (node_at tree number))
+
+-- the kind is that of a FIFO
+abbrev pub is_fifo_kind : NodeKind → Bool
+is_fifo_kind kinds.Fifo = true
+is_fifo_kind _ = false
+
+-- the node is a FIFO
+abbrev pub is_fifo : Tree → ℕ → Bool
+is_fifo tree number = is_fifo_kind (kind_in (node_at tree number))
 
 -- what stat tells of a node
 abbrev pub stat_info : Tree → ℕ → StatInfo
@@ -94,7 +104,7 @@ pub record Opening : Type 0 where
   pub excludes : Bool
   pub truncates : Bool
 
--- a node that is there
+-- a node that is there; O_TRUNC takes the bytes of a file, and has no effect on a FIFO, whose node has none
 abbrev pub open_there : Tree → Opening → ℕ → Result (ℕ × Tree) Errno
 open_there tree how number =
     unless (how.creates && how.excludes) EEXIST
@@ -114,7 +124,7 @@ open_led tree how (walked.Fail errno) = Err errno
 abbrev pub open_path : Tree → ℕ → List ℕ → Opening → Result (ℕ × Tree) Errno
 open_path tree cwd path how = open_led tree how (resolve tree cwd path)
 
--- ---- mkdir, bind, rmdir, unlink
+-- ---- mkdir, mkfifo, bind, rmdir, unlink
 
 -- a mkdir where a path has led: EEXIST for all that is there; a free name may have a slash behind it
 abbrev pub mkdir_led : Tree → Walked → Result (ℕ × Tree) Errno
@@ -126,6 +136,17 @@ mkdir_led tree (walked.Fail errno) = Err errno
 -- the number of the new directory, and the tree then (POSIX mkdir)
 abbrev pub mkdir_path : Tree → ℕ → List ℕ → Result (ℕ × Tree) Errno
 mkdir_path tree cwd path = mkdir_led tree (resolve tree cwd path)
+
+-- a mkfifo where a path has led: EEXIST for all that is there, ENOENT for a free name with a slash behind it
+abbrev pub mkfifo_led : Tree → Walked → Result (ℕ × Tree) Errno
+mkfifo_led tree (walked.Node _) = Err EEXIST
+mkfifo_led tree (walked.Named _ _ _ _) = Err EEXIST
+mkfifo_led tree (walked.Free dir name slashed) = unless slashed ENOENT (make tree dir name Fifo)
+mkfifo_led tree (walked.Fail errno) = Err errno
+
+-- the number of the new FIFO, and the tree then (POSIX mkfifo)
+abbrev pub mkfifo_path : Tree → ℕ → List ℕ → Result (ℕ × Tree) Errno
+mkfifo_path tree cwd path = mkfifo_led tree (resolve tree cwd path)
 
 -- a bind where a path has led: EADDRINUSE for all that is there, ENOENT for a free name with a slash behind it
 abbrev pub bind_led : Tree → Walked → Result (ℕ × Tree) Errno
@@ -162,7 +183,7 @@ abbrev pub rmdir_path : Tree → ℕ → List ℕ → (ℕ → Bool) → Result 
 rmdir_path tree cwd path busy =
     unless (ends_in own_name path) EINVAL (unless (ends_in parent_name path) ENOTEMPTY (rmdir_led tree busy (resolve tree cwd path)))
 
--- a file stays while a description opens it, a socket's name doesn't
+-- a file and a FIFO stay while a description opens them, a socket's name doesn't
 abbrev pub is_held : Tree → (ℕ → Bool) → ℕ → Bool
 is_held tree opened number = opened number && not (is_directory tree number || is_socket tree number)
 
@@ -251,7 +272,7 @@ rename_path tree cwd old new opened busy = rename_led tree opened busy (resolve 
 
 -- ---- exec, and what is read
 
--- the bytes of a file; a directory and a socket's name have none
+-- the bytes of a file; a directory, a socket's name and a FIFO have none
 abbrev pub bytes_of : Content → List ℕ
 bytes_of (File bytes) = bytes
 bytes_of _ = []
@@ -281,10 +302,10 @@ first_line program = codes "#!" ++ program.name ++ codes "\n"
 abbrev pub program_of : List Program → List ℕ → Result ℕ Errno
 program_of programs bytes = ok_or (position_from (λ program. starts_with nat_eq bytes (first_line program)) 0 programs) ENOEXEC
 
--- the program of the file that was found: the fault of the path, EACCES for a directory and a socket's name, then ENOEXEC
+-- the program of the file that was found: the fault of the path, EACCES for a directory, a socket's name and a FIFO, then ENOEXEC
 abbrev pub exec_found : Tree → List Program → Result ℕ Errno → Result ℕ Errno
 exec_found tree programs (Ok number) =
-    unless (is_directory tree number || is_socket tree number) EACCES (program_of programs (bytes_in (node_at tree number)))
+    unless (is_directory tree number || is_socket tree number || is_fifo tree number) EACCES (program_of programs (bytes_in (node_at tree number)))
 exec_found tree programs (Err errno) = Err errno
 
 -- the program that an exec starts, by its place in the script

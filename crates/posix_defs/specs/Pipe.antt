@@ -1,18 +1,50 @@
 -- A pipe, and what its calls answer and leave.
-use Rattle.std.specs.Prelude.{ℕ, ℤ, ◌+◌, ◌-◌, ◌/◌, ◌%◌, ◌==◌, ◌&&◌, nat_le, nat_lt, min, Bool, List, [], ◌++◌, length, take, drop, Option, None, Some, if◌then◌else◌}
+use Rattle.std.specs.Prelude.{ℕ, ℤ, ◌+◌, ◌-◌, ◌/◌, ◌%◌, ◌==◌, ◌&&◌, nat_le, nat_lt, min, Bool, false, List, [], ◌++◌, length, take, drop, Option, None, Some, if◌then◌else◌}
 use Rattle.std.specs.Int.{cast_unsigned, w64}
 use Rattle.kabi_types.specs.declared.errnos.Errno.{Errno}
 use Rattle.kabi_types.specs.declared.errnos.Errno.TheVariants as errno
 
--- the bytes that are unread, the first one first, and how many descriptions have each of its ends
+-- the bytes that are unread, the first one first, and how many descriptions have each of its ends; which FIFO's it is, if it is one's
 pub record Pipe : Type 0 where
   pub bytes : List ℕ
   pub readers : ℕ
   pub writers : ℕ
+  -- the number of the FIFO's node; 0 of a pipe that `pipe` made
+  pub node : ℕ
+  -- how often each side of the FIFO was opened so far; 0 of a pipe that `pipe` made
+  pub read_opens : ℕ
+  pub write_opens : ℕ
 
 -- a new pipe has both ends
 abbrev pub new_pipe : Pipe
-new_pipe = record { bytes = []; readers = 1; writers = 1 }
+new_pipe = record { bytes = []; readers = 1; writers = 1; node = 0; read_opens = 0; write_opens = 0 }
+
+-- the pipe of a FIFO that nobody has open: it has no end, and was never opened
+abbrev pub unopened : ℕ → Pipe
+unopened number = record { bytes = []; readers = 0; writers = 0; node = number; read_opens = 0; write_opens = 0 }
+
+-- how many descriptions have an end of one side
+abbrev pub ends_of : Pipe → Bool → ℕ
+ends_of pipe writing = if writing then pipe.writers else pipe.readers
+
+-- how often that side of a FIFO was opened
+abbrev pub opens_of : Pipe → Bool → ℕ
+opens_of pipe writing = if writing then pipe.write_opens else pipe.read_opens
+
+-- that side was opened once more, and has one end more
+abbrev pub with_end : Pipe → Bool → Pipe
+with_end pipe writing =
+    if writing then record pipe { writers = pipe.writers + 1; write_opens = pipe.write_opens + 1 }
+    else record pipe { readers = pipe.readers + 1; read_opens = pipe.read_opens + 1 }
+
+-- the node of a FIFO whose pipe it is
+abbrev pub fifo_of : Pipe → Option ℕ
+fifo_of pipe = if pipe.node == 0 then None else Some pipe.node
+
+-- a pipe is there, and it is that of this FIFO's node
+abbrev pub is_of_fifo : ℕ → Option Pipe → Bool
+is_of_fifo number None = false
+is_of_fifo number (Some pipe) = pipe.node == number
 
 -- how many bytes a pipe holds at most
 abbrev pub capacity : ℕ

@@ -48,3 +48,4 @@ price_of kind.Accept = Always 320
 price_of kind.Shutdown = Always 0
 price_of kind.Poll = Always 0
 price_of kind.Signal = Always 0
+price_of kind.Mkfifo = Always 2560

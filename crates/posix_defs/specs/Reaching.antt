@@ -20,7 +20,7 @@ use Rattle.posix_defs.specs.Paths.{begins_at, resolve}
 use Rattle.posix_defs.specs.Process.{directory_of}
 use Rattle.posix_defs.specs.Plain.{Plain}
 use Rattle.posix_defs.specs.Files.Descriptions.{description_at, has_flag, o_creat, o_trunc}
-use Rattle.posix_defs.specs.Files.State.{Files, node_of, opened_node}
+use Rattle.posix_defs.specs.Files.State.{Files, node_of, opened_node, opening_at}
 use Rattle.posix_defs.specs.Calls.Opened.{Opened, opened_at}
 use Rattle.posix_defs.specs.World.{Kept, is_in}
 
@@ -39,6 +39,7 @@ paths_of (call.Link old new) = old ∷ new ∷ []
 paths_of (call.Rename old new) = old ∷ new ∷ []
 paths_of (call.Bind fd path) = path ∷ []
 paths_of (call.Connect fd path) = path ∷ []
+paths_of (call.Mkfifo path) = path ∷ []
 paths_of _ = []
 
 -- the descriptors among its operands
@@ -65,7 +66,7 @@ descriptors_in _ = []
 
 -- ---- which calls reach a node
 
--- what is open is a file or a directory; false where nothing is open
+-- what is open is a node, a FIFO too; false where nothing is open
 abbrev pub is_on_node : Files → Option Opened → Bool
 is_on_node files None = false
 is_on_node files (Some opened) = is_some (node_of files opened.is.target)
@@ -89,14 +90,14 @@ reaches_node old pid call new =
 
 -- ---- what is left in the caches
 
--- the path whose last name a call leaves there
-abbrev pub path_to_leave : Call → Option (List ℕ)
-path_to_leave (call.Stat path) = Some path
-path_to_leave (call.OpenFile path flags) = Some path
-path_to_leave (call.Chdir path) = Some path
-path_to_leave (call.Exec path) = Some path
-path_to_leave (call.Connect fd path) = Some path
-path_to_leave _ = None
+-- the path whose last name a process's call leaves there; an open that has made its end of a FIFO already walks no path
+abbrev pub path_to_leave : Plain → ℕ → Call → Option (List ℕ)
+path_to_leave plain pid (call.Stat path) = Some path
+path_to_leave plain pid (call.OpenFile path flags) = if is_some (opening_at plain.files pid) then None else Some path
+path_to_leave plain pid (call.Chdir path) = Some path
+path_to_leave plain pid (call.Exec path) = Some path
+path_to_leave plain pid (call.Connect fd path) = Some path
+path_to_leave plain pid _ = None
 
 -- the last name that a walk leads to, with its directory
 abbrev pub last_of : Walked → Option (ℕ × List ℕ)
@@ -108,7 +109,7 @@ last_of (walked.Fail _) = None
 -- the name that a process's call leaves there, if it succeeds
 abbrev pub name_to_leave : Plain → ℕ → Call → Option (ℕ × List ℕ)
 name_to_leave plain pid call =
-    option_and_then (λ path. last_of (resolve plain.files.tree (directory_of plain.table pid) path)) (path_to_leave call)
+    option_and_then (λ path. last_of (resolve plain.files.tree (directory_of plain.table pid) path)) (path_to_leave plain pid call)
 
 -- the reply isn't a failure
 abbrev pub is_reply : Reply → Bool

@@ -78,6 +78,7 @@ shape_of kind.Accept = shape.Values 1
 shape_of kind.Shutdown = shape.Values 2
 shape_of kind.Poll = shape.Pairs
 shape_of kind.Signal = shape.Values 2
+shape_of kind.Mkfifo = shape.OnePath
 
 -- what a call gets: its values, and its texts
 abbrev pub CallOperands : Type 0

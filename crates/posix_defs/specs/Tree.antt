@@ -16,6 +16,8 @@ pub data Content : Type 0 where
   Directory : ℕ → List DirEntry → Content
   -- the name of a socket
   SocketName : Content
+  -- a FIFO: its bytes are in a pipe, while it is open
+  Fifo : Content
 
 -- a node in use
 pub record Node : Type 0 where
@@ -130,6 +132,7 @@ abbrev pub size_of : Content → ℕ
 size_of (File bytes) = length bytes
 size_of (Directory _ entries) = 32 * (length entries + 2)
 size_of SocketName = 0
+size_of Fifo = 0
 
 -- the size in bytes of a node in use, else 0
 abbrev pub size_in : Option Node → ℕ
@@ -158,11 +161,12 @@ free_node tree = position_from is_none 1 tree.nodes
 
 -- ---- the inode of a node
 
--- 1 for a file, 2 for a directory, 3 for a socket's name
+-- 1 for a file, 2 for a directory, 3 for a socket's name, 4 for a FIFO
 abbrev pub kind_of : Content → ℕ
 kind_of (File _) = 1
 kind_of (Directory _ _) = directory
 kind_of SocketName = 3
+kind_of Fifo = 4
 
 -- the inode says of a node what there is beside its pointers
 pub record IsInodeOf (node : Node) (inode : Inode) : Type 0 where

@@ -38,7 +38,7 @@ hung tree dir parent = with_content tree dir (under parent)
 abbrev pub link_added : Tree → ℕ → Tree
 link_added tree number = with_node tree number (option_map {T = Node} (λ node. record node { links = node.links + 1 }) (node_at tree number))
 
--- what is left of a node that loses a link: nothing after the last one, unless it is a file that a description opens
+-- what is left of a node that loses a link: nothing after the last one, unless it is a file or a FIFO that a description opens
 abbrev pub left_of : Bool → Node → Option Node
 left_of opened node = if node.links == 1 && not opened then None else Some (record node { links = node.links - 1 })
 
@@ -119,7 +119,7 @@ resize tree number size =
     if nat_lt greatest_size size then Err EFBIG
     else (if nat_lt (blocks_for tree number) (blocks_of size) then Err ENOSPC else Ok (with_bytes tree number (resized size)))
 
--- the last description of a file is closed: without links it goes
+-- the last description of a file or a FIFO is closed: without links it goes
 abbrev pub closed : Tree → ℕ → Tree
 closed tree number = if links_at tree number == 0 then with_node tree number None else tree
 

@@ -32,6 +32,8 @@ pub enum Listed {
     Directory { parent: u32, entries: Vec<DirEntry> },
     /// The name of a socket.
     SocketName,
+    /// Nothing: a FIFO, whose bytes stand in its pipe.
+    Fifo,
 }
 
 /// A node in memory.
@@ -83,6 +85,7 @@ fn kind(content: &Listed) -> u8
         Listed::File(_) => 1,
         Listed::Directory { .. } => 2,
         Listed::SocketName => 3,
+        Listed::Fifo => 4,
     }
 }
 
@@ -94,7 +97,7 @@ fn size(content: &Listed) -> u32
     match content {
         Listed::File(bytes) => bytes.len() as u32,
         Listed::Directory { entries, .. } => 32 * (entries.len() as u32 + 2),
-        Listed::SocketName => 0,
+        Listed::SocketName | Listed::Fifo => 0,
     }
 }
 

@@ -26,6 +26,7 @@ ghost use Rattle.proc_files.specs.NameHolding.{HoldNames, HoldSomeNames};
 
 use crate::naming::take_name;
 use bound_table::BoundTable;
+use fifo_nodes::FifoTable;
 use kabi_types::Errno;
 use kheap_slabs::{Desc, KHeap, Purse, Target};
 use memfs_ops::FileTree;
@@ -45,6 +46,7 @@ pub fn close_number(
     procs: &ProcTable,
     tree: &mut FileTree,
     names: &mut BoundTable,
+    fifos: &mut FifoTable,
     place: Place,
     on: &Named,
 ) -> Result<(), Errno>
@@ -72,7 +74,7 @@ pub fn close_number(
     let Some(found) = on.found else {
         return Err(Errno::EBADF);
     };
-    close_open(heap, purse, procs, tree, names, place, &found);
+    close_open(heap, purse, procs, tree, names, fifos, place, &found);
     Ok(())
 }
 
@@ -86,6 +88,7 @@ pub(crate) fn close_at(
     procs: &ProcTable,
     tree: &mut FileTree,
     names: &mut BoundTable,
+    fifos: &mut FifoTable,
     place: Place,
     fd: u32,
 )
@@ -114,7 +117,7 @@ pub(crate) fn close_at(
     let Some(found) = on.found else {
         return;
     };
-    close_open(heap, purse, procs, tree, names, place, &found);
+    close_open(heap, purse, procs, tree, names, fifos, place, &found);
 }
 
 // A process closes a number of which was found what it names, whatever that is open on.
@@ -129,6 +132,7 @@ fn close_open(
     procs: &ProcTable,
     tree: &mut FileTree,
     names: &mut BoundTable,
+    fifos: &mut FifoTable,
     place: Place,
     found: &Found,
 )
@@ -155,7 +159,7 @@ fn close_open(
     ensures cached { KeepsCached tree.old tree.new }
 {
     unname_going(heap, names, found);
-    let Some(node) = close_one(heap, procs, place, found.number) else {
+    let Some(node) = close_one(heap, procs, fifos, place, found.number) else {
         return;
     };
     tree.close_node(heap, purse, node);

@@ -25,6 +25,7 @@ use crate::closing::close_at;
 use crate::nodes::is_well_formed;
 use bound_table::BoundTable;
 use desc_table::descriptor_of;
+use fifo_nodes::FifoTable;
 use kabi_types::MOST_DESCRIPTORS;
 use kheap_slabs::{Descriptor, KHeap, Purse};
 use memfs_ops::FileTree;
@@ -42,6 +43,7 @@ pub fn close_each(
     procs: &ProcTable,
     tree: &mut FileTree,
     names: &mut BoundTable,
+    fifos: &mut FifoTable,
     place: Place,
 )
     requires listed { AreListed heap.old procs.now }
@@ -72,7 +74,7 @@ pub fn close_each(
     }
     let marks = all_marks();
     let below = reach_of(heap, procs, place);
-    close_marked(heap, purse, procs, tree, names, place, &marks, below);
+    close_marked(heap, purse, procs, tree, names, fifos, place, &marks, below);
     is_well_formed(heap);
 }
 
@@ -88,6 +90,7 @@ pub fn close_at_exec(
     procs: &ProcTable,
     tree: &mut FileTree,
     names: &mut BoundTable,
+    fifos: &mut FifoTable,
     place: Place,
 )
     requires listed { AreListed heap.old procs.now }
@@ -115,7 +118,7 @@ pub fn close_at_exec(
 {
     let below = reach_of(heap, procs, place);
     let marks = marks_of(heap, procs, place, below);
-    close_marked(heap, purse, procs, tree, names, place, &marks, below);
+    close_marked(heap, purse, procs, tree, names, fifos, place, &marks, below);
 }
 
 // Whether nothing is open in a process.
@@ -206,6 +209,7 @@ fn close_marked(
     procs: &ProcTable,
     tree: &mut FileTree,
     names: &mut BoundTable,
+    fifos: &mut FifoTable,
     place: Place,
     marks: &[bool; 128],
     below: u32,
@@ -240,7 +244,7 @@ fn close_marked(
 {
     for fd in 0..below {
         let marked = mark_at(marks, fd);
-        close_if(heap, purse, procs, tree, names, place, fd, marked);
+        close_if(heap, purse, procs, tree, names, fifos, place, fd, marked);
     }
 }
 
@@ -251,6 +255,7 @@ fn close_if(
     procs: &ProcTable,
     tree: &mut FileTree,
     names: &mut BoundTable,
+    fifos: &mut FifoTable,
     place: Place,
     fd: u32,
     marked: bool,
@@ -285,5 +290,5 @@ fn close_if(
     if !marked {
         return;
     }
-    close_at(heap, purse, procs, tree, names, place, fd);
+    close_at(heap, purse, procs, tree, names, fifos, place, fd);
 }

@@ -4,7 +4,7 @@ ghost use Rattle.std.specs.Prelude.{◌≡◌, ℕ, Some};
 ghost use Rattle.kheap_slabs.specs.Objects.{object};
 ghost use Rattle.kheap_slabs.specs.Heap.{IsWellFormed};
 ghost use Rattle.kheap_slabs.specs.Paid.{TakesNothing};
-ghost use Rattle.posix_defs.specs.PathCalls.{stat_info};
+ghost use Rattle.posix_defs.specs.PathCalls.{is_fifo, stat_info};
 ghost use Rattle.posix_defs.specs.Tree.{Tree, is_directory};
 ghost use Rattle.proc_files.specs.Seeking.{MovesDesc};
 
@@ -18,7 +18,17 @@ pub(crate) fn is_directory(info: &StatInfo) -> bool
 {
     match info.kind {
         NodeKind::Dir => true,
-        NodeKind::File | NodeKind::Sock | NodeKind::Pipe => false,
+        NodeKind::File | NodeKind::Sock | NodeKind::Pipe | NodeKind::Fifo => false,
+    }
+}
+
+/// Whether what is told of a node is told of a FIFO.
+pub(crate) fn is_fifo(info: &StatInfo) -> bool
+    ensures { (tree : Tree) (number : ℕ) → info.now ≡ stat_info tree number → result ≡ is_fifo tree number }
+{
+    match info.kind {
+        NodeKind::Fifo => true,
+        NodeKind::File | NodeKind::Dir | NodeKind::Sock | NodeKind::Pipe => false,
     }
 }
 

@@ -32,10 +32,12 @@ ghost use Rattle.proc_files.specs.Closing.{ChangesHolding};
 ghost use Rattle.proc_files.specs.Holding.{CachesStay, HoldFiles, HoldSome};
 ghost use Rattle.proc_files.specs.Opening.{AnswersAnew, HaveAnew, MakesDesc, WorksSomewhere, desc_on, mode_of};
 
-use crate::nodes::is_well_formed;
-use kabi_types::{Class, Errno, OpenFlags};
-use kheap_slabs::{Access, Desc, DescFlags, Descriptor, KHeap, Purse, Target};
+use crate::nodes::{is_fifo, is_well_formed};
+use fifo_nodes::FifoTable;
+use kabi_types::{Class, Errno, OpenFlags, Reply};
+use kheap_slabs::{Access, Desc, DescFlags, Descriptor, HalfOpen, KHeap, Purse, Target};
 use memfs_ops::{FileTree, Opening};
+use posix_defs::Turned;
 use proc_numbers::{lowest_from, open_one};
 use proc_table::{Place, ProcTable};
 
@@ -51,11 +53,13 @@ const O_NONBLOCK: u64 = 2048;
 const O_CLOEXEC: u64 = 524288;
 
 /// The lowest number of a process that is free names a new description of what a path leads to from its working directory, which
-/// may be made by the way (O_CREAT). That number.
+/// may be made by the way (O_CREAT), and is told. Of a FIFO it is an end: where the other side has none, and without O_NONBLOCK, a
+/// part is told, and the process sleeps in its open until the other side is opened.
 ///
 /// EMFILE where no number is free, before the path is walked; then EEXIST where something is there that must not be, EISDIR where a
 /// directory is to be written, EOPNOTSUPP of the name of a socket, ENOENT and ENOSPC where nothing is there and nothing is made, else
-/// the faults of the walk.
+/// the faults of the walk. Of a FIFO EINVAL where it is to be read and written, ENXIO where it is to be written without waiting and
+/// nobody has it open to read, EAGAIN where that side was opened 4294967295 times.
 ///
 /// <https://pubs.opengroup.org/onlinepubs/9699919799/functions/open.html>
 pub fn open_path(
@@ -63,10 +67,11 @@ pub fn open_path(
     purse: &mut Purse,
     procs: &ProcTable,
     tree: &mut FileTree,
+    fifos: &mut FifoTable,
     place: Place,
     path: &[u8],
     flags: i64,
-) -> Result<u32, Errno>
+) -> Turned
     requires listed { AreListed heap.old procs.now }
     requires owners { HasItsOwners heap.old [] }
     requires there { IsPlaced procs.now place }
@@ -96,17 +101,110 @@ pub fn open_path(
         → Stands heap.old tree.old plain pins → OnOk result (KeepsLast tree.new (resolve plain proc.cwd path.now)) }
 {
     let Some(fd) = lowest_from(heap, procs, place, 0) else {
-        return Err(Errno::EMFILE);
+        return failed(Errno::EMFILE);
     };
     let cwd = directory_of(heap, procs, place);
     let how = asked_by(flags);
     is_well_formed(heap);
     match tree.open_node(heap, purse, cwd, path, how) {
-        Ok(node) => {
-            open_new(heap, purse, procs, place, fd, node, flags);
-            Ok(fd)
-        }
-        Err(errno) => Err(errno),
+        Ok(node) => open_found(heap, purse, procs, tree, fifos, place, fd, node, flags),
+        Err(errno) => failed(errno),
+    }
+}
+
+// An open is over, and has failed.
+fn failed(errno: Errno) -> Turned {
+    Turned::Done(Reply::Fail(errno))
+}
+
+// An open is over: its number is told.
+fn told(fd: u32) -> Turned {
+    Turned::Done(Reply::Val(i64::from(fd)))
+}
+
+// A number of a process that isn't open names a new description of a node, which is held for it already; an end, where that is a FIFO.
+fn open_found(
+    heap: &mut KHeap,
+    purse: &mut Purse,
+    procs: &ProcTable,
+    tree: &mut FileTree,
+    fifos: &mut FifoTable,
+    place: Place,
+    fd: u32,
+    node: u32,
+    flags: i64,
+) -> Turned {
+    if is_fifo(&tree.stat_node(heap, node)) {
+        return open_fifo(heap, purse, procs, tree, fifos, place, fd, node, flags);
+    }
+    open_new(heap, purse, procs, place, fd, Target::Inode(node), flags);
+    told(fd)
+}
+
+// The same of a FIFO: where it isn't opened, it is held no more for that.
+fn open_fifo(
+    heap: &mut KHeap,
+    purse: &mut Purse,
+    procs: &ProcTable,
+    tree: &mut FileTree,
+    fifos: &mut FifoTable,
+    place: Place,
+    fd: u32,
+    node: u32,
+    flags: i64,
+) -> Turned {
+    if let Some(errno) = fifo_fault(heap, fifos, node, flags) {
+        tree.close_node(heap, purse, node);
+        return failed(errno);
+    }
+    open_end(heap, purse, procs, fifos, place, fd, node, flags)
+}
+
+// Why a FIFO isn't opened, if it isn't.
+fn fifo_fault(heap: &KHeap, fifos: &FifoTable, node: u32, flags: i64) -> Option<Errno> {
+    let writing = match mode_of(flags) {
+        Access::Read => false,
+        Access::Write => true,
+        Access::Both => return Some(Errno::EINVAL),
+    };
+    if writing && has_flag(flags, O_NONBLOCK) && fifos.ends(heap, node, false) == 0 {
+        return Some(Errno::ENXIO);
+    }
+    if fifos.begun(heap, node, writing) == u32::MAX {
+        return Some(Errno::EAGAIN);
+    }
+    None
+}
+
+// A number of a process that isn't open names a new end of a FIFO; where the other side has none, the process waits for it, but with
+// O_NONBLOCK.
+fn open_end(
+    heap: &mut KHeap,
+    purse: &mut Purse,
+    procs: &ProcTable,
+    fifos: &mut FifoTable,
+    place: Place,
+    fd: u32,
+    node: u32,
+    flags: i64,
+) -> Turned {
+    let writing = is_to_write(flags);
+    let waits = !has_flag(flags, O_NONBLOCK) && fifos.ends(heap, node, !writing) == 0;
+    let pipe = fifos.open_end(heap, purse, node, writing);
+    open_new(heap, purse, procs, place, fd, Target::Pipe(pipe), flags);
+    if !waits {
+        return told(fd);
+    }
+    let seen = fifos.begun(heap, node, !writing);
+    heap.set_proc_opening(place.key, Some(HalfOpen { fd, seen }));
+    Turned::Part(1)
+}
+
+// Whether flags open for writing, or for both.
+fn is_to_write(flags: i64) -> bool {
+    match mode_of(flags) {
+        Access::Read => false,
+        Access::Write | Access::Both => true,
     }
 }
 
@@ -121,14 +219,14 @@ fn asked_by(flags: i64) -> Opening
     Opening::of(asked)
 }
 
-// A number of a process that isn't open names a new description of a node from now on, at its beginning and as the flags ask.
+// A number of a process that isn't open names a new description of a target from now on, at its beginning and as the flags ask.
 fn open_new(
     heap: &mut KHeap,
     purse: &mut Purse,
     procs: &ProcTable,
     place: Place,
     fd: u32,
-    node: u32,
+    target: Target,
     flags: i64,
 )
     requires listed { AreListed heap.old procs.now }
@@ -151,7 +249,7 @@ fn open_new(
     ensures paid { IsPaid heap.old purse.old heap.new purse.new }
     ensures fills { HasFills heap.new purse.new }
 {
-    let desc = describe(heap, purse, node, flags);
+    let desc = describe(heap, purse, target, flags);
     let descriptor = Descriptor {
         desc,
         close_on_exec: has_flag(flags, O_CLOEXEC),
@@ -169,8 +267,8 @@ pub(crate) fn directory_of(heap: &KHeap, procs: &ProcTable, place: Place) -> u32
     procs.at(heap, place).cwd
 }
 
-// A new description of a node, as the flags ask, which one descriptor in hand names. Its key.
-fn describe(heap: &mut KHeap, purse: &mut Purse, node: u32, flags: i64) -> u32
+// A new description of a target, as the flags ask, which one descriptor in hand names. Its key.
+fn describe(heap: &mut KHeap, purse: &mut Purse, target: Target, flags: i64) -> u32
     requires pays { CanPay heap.old purse.old }
     requires left { 0 < purse.old.left.desc }
     ensures makes { MakesDesc heap.old heap.new result node flags }
@@ -179,15 +277,15 @@ fn describe(heap: &mut KHeap, purse: &mut Purse, node: u32, flags: i64) -> u32
         ≡ record purse.old { left = with_count purse.old.left class.Desc (purse.old.left.desc - 1) } }
 {
     purse.spend(Class::Desc);
-    heap.insert_desc(desc_on(node, flags))
+    heap.insert_desc(desc_on(target, flags))
 }
 
-// A description of a node at its beginning, as the flags ask.
-fn desc_on(node: u32, flags: i64) -> Desc
+// A description of a target at its beginning, as the flags ask.
+fn desc_on(target: Target, flags: i64) -> Desc
     ensures { result ≡ desc_on node flags }
 {
     Desc {
-        target: Target::Inode(node),
+        target,
         offset: 0,
         access: mode_of(flags),
         flags: DescFlags {

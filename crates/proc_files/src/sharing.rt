@@ -20,6 +20,7 @@ ghost use Rattle.proc_files.specs.NameHolding.{HoldNames, HoldSomeNames};
 use crate::closing::close_at;
 use crate::nodes::is_well_formed;
 use bound_table::BoundTable;
+use fifo_nodes::FifoTable;
 use kabi_types::Errno;
 use kheap_slabs::{KHeap, Purse};
 use memfs_ops::FileTree;
@@ -41,6 +42,7 @@ pub fn dup_number(
     procs: &ProcTable,
     tree: &mut FileTree,
     names: &mut BoundTable,
+    fifos: &mut FifoTable,
     place: Place,
     on: &Named,
     to: i64,
@@ -80,7 +82,7 @@ pub fn dup_number(
         return Ok(number);
     }
     is_well_formed(heap);
-    close_at(heap, back, procs, tree, names, place, number);
+    close_at(heap, back, procs, tree, names, fifos, place, number);
     share_at(heap, purse, procs, place, number, found.key);
     Ok(number)
 }

@@ -19,6 +19,7 @@ ghost use Rattle.proc_files.specs.Holding.{HoldFiles, HoldSome, IsHeldIn};
 use kabi_types::{Errno, NodeKind, StatInfo};
 use kheap_slabs::{KHeap, Target};
 use memfs_ops::FileTree;
+use pipe_ends::pipe_fifo;
 use proc_numbers::Named;
 use proc_table::{Place, ProcTable};
 
@@ -63,8 +64,16 @@ fn info_of(heap: &KHeap, tree: &mut FileTree, target: Target) -> StatInfo
 {
     match target {
         Target::Inode(node) => tree.stat_node(heap, node),
-        Target::Pipe(_) => without_node(NodeKind::Pipe),
+        Target::Pipe(key) => end_info(heap, tree, key),
         Target::Sock(_) => without_node(NodeKind::Sock),
+    }
+}
+
+// What is told of an end of a pipe: all of the FIFO's node, and of a pipe that `pipe` made only that it is one.
+fn end_info(heap: &KHeap, tree: &mut FileTree, key: u32) -> StatInfo {
+    match pipe_fifo(heap, key) {
+        Some(node) => tree.stat_node(heap, node),
+        None => without_node(NodeKind::Pipe),
     }
 }
 

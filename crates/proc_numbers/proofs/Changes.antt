@@ -10,7 +10,7 @@ use Rattle.kheap_slabs.specs.declared.objects.Descriptor.{Descriptor as HeldDesc
 use Rattle.kheap_slabs.specs.declared.objects.Proc.{Proc}
 use Rattle.kheap_slabs.proofs.ObjectLemmas.{InUse-within}
 use Rattle.kheap_slabs.specs.Heap.{Heap}
-use Rattle.open_laws.specs.Described.{node_in}
+use Rattle.open_laws.specs.Described.{inode_in}
 use Rattle.proc_table.specs.Moves.{NumbersTurn}
 use Rattle.proc_table.specs.Procs.{numbers_in, proc_of, with_numbers}
 use Rattle.proc_table.specs.Table.{TableView, key_of, processes}
@@ -146,18 +146,18 @@ beside_shared old mid new descs e b =
 
 -- the node of a close, by what the number named
 pub node_of_number : (h new : Heap) (kept : TableView) (pid fd : ℕ) (told : Option ℕ) → AreListed h kept → ClosesNumber h new kept pid fd
-    → ((proc : Proc) → proc_of (processes h kept) pid ≡ Some proc → told ≡ node_closed h.descs (slice_index_or (numbers_in h proc) fd None))
-    → told ≡ node_closed h.descs (named_at h kept pid fd)
+    → ((proc : Proc) → proc_of (processes h kept) pid ≡ Some proc → told ≡ node_closed h (slice_index_or (numbers_in h proc) fd None))
+    → told ≡ node_closed h (named_at h kept pid fd)
 node_of_number h new kept pid fd told listed closes each =
     let found = found_before h.procs closes.key closes.proc closes.proc closes.turns.there refl kept.listed pid listed.stored closes.turns.found in
-    each closes.proc found ∙ sym (ap (λ o. node_closed h.descs (slice_index_or (places_in (numbers_in h) o) fd None)) found)
+    each closes.proc found ∙ sym (ap (λ o. node_closed h (slice_index_or (places_in (numbers_in h) o) fd None)) found)
 
 -- no description opens a node where a Desc becomes another that is open on the same
 pub put_opens : (descs : List (Option Desc)) (key : ℕ) (was now : Desc) → object descs key ≡ Some was → now.target ≡ was.target → OpensNoNode descs → OpensNoNode (put descs key now)
 put_opens descs key was now is same none other found at = by_key (eqb_tells other key)
   where
-    by_key : (((other == key) ≡ true) × (other ≡ key)) ⊎ (((other == key) ≡ false) × (other ≢ key)) → node_in found.target ≡ None
+    by_key : (((other == key) ≡ true) × (other ≡ key)) ⊎ (((other == key) ≡ false) × (other ≢ key)) → inode_in found.target ≡ None
     by_key (inl here) =
         let it : found ≡ now = some_same (object (put descs key now) key) found now (ap (object (put descs key now)) (sym here.1) ∙ at) (get_or-set_same descs key (Some now) None (InUse-within descs key (ap is_some is))) in
-        ap (λ (d : Desc). node_in d.target) it ∙ ap node_in same ∙ none key was is
+        ap (λ (d : Desc). inode_in d.target) it ∙ ap inode_in same ∙ none key was is
     by_key (inr apart) = none other found (sym (get_or-set_other descs key other (Some now) None apart.1) ∙ at)

@@ -9,7 +9,7 @@ use Rattle.kheap_slabs.specs.declared.objects.Target.{Target}
 use Rattle.kheap_slabs.specs.declared.objects.Target.TheVariants as target
 use Rattle.kheap_slabs.specs.Heap.{Heap}
 use Rattle.kheap_slabs.specs.Paid.{TakesNothing}
-use Rattle.open_laws.specs.Described.{node_in}
+use Rattle.open_laws.specs.Described.{inode_in}
 use Rattle.open_laws.specs.Owned.{HasItsOwners}
 use Rattle.page_space.specs.Contents.{IsOwnedWith, SpaceMoves}
 use Rattle.page_space.specs.Putting.{Puts}
@@ -61,7 +61,7 @@ pub only_queue : (h : Heap) (kept : TableView) (pid : ℕ) (fd : ℤ) (found : F
 only_queue h kept pid fd found off named is none =
     by_target found.desc.target (off named.held found.desc named.is (ap (object h.descs) named.same ∙ is)) none
   where
-    by_target : (what : Target) → node_in what ≡ None → end_of what ≡ None → ⊥
+    by_target : (what : Target) → inode_in what ≡ None → end_of what ≡ None → ⊥
     by_target (target.Inode number) node is_end = cc
     by_target (target.Pipe key) node is_end = cc
     by_target (target.Sock key) node is_end = cc

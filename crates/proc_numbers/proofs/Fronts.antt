@@ -15,6 +15,8 @@ use Rattle.kheap_slabs.specs.declared.objects.Target.{Target}
 use Rattle.kheap_slabs.specs.declared.objects.Target.TheVariants as target
 use Rattle.kheap_slabs.specs.Heap.{Heap}
 use Rattle.open_laws.specs.Closing.{Drops, TargetCloses}
+use Rattle.pipe_ends.specs.Links.{AreRelinked}
+use Rattle.pipe_ends.proofs.RelinkLemmas.{relinked_back, relinked_kept}
 use Rattle.open_laws.specs.Described.{CountedList, access_in}
 use Rattle.open_laws.specs.Open.{AreOpen, HaveFronts}
 use Rattle.open_laws.specs.Owned.{IsHeldOpen, IsThereFor}
@@ -76,6 +78,15 @@ left_bytes pipe writing left is some = by_end writing is
     by_end false e =
         let same = while_there _ (without_reader pipe) e in
         ap (λ (p : Pipe). p.bytes) (sym same) ∙ kept (pipe.readers == 1) (subst (λ (p : Pipe). 0 < length p.bytes) (sym same) some)
+
+-- a pipe that stands before another one has its queue
+pub queues_relinked : (old new : Heap) → AreRelinked old new → QueuesStand old new
+queues_relinked old new relinked = record {
+  pipes = λ other now at full.
+      let was = relinked_back old new other now relinked at in
+      (was.0, was.1, ap (λ (p : HeldPipe). place_of p.queue) (sym was.3));
+  socks = λ other full. ap (λ (h : Heap). queue_in (object h.socks other)) (relinked_kept old new relinked);
+}
 
 module _ (old new : Heap) (key : ℕ) (desc : Desc) (is : object old.descs key ≡ Some desc) (some : 0 < desc.count) (held : IsHeldOpen old) (drops : Drops old new key desc) where
   end_closed : (pipe : ℕ) → desc.target ≡ target.Pipe pipe → TargetCloses old new desc.access (target.Pipe pipe) → QueuesStand old new

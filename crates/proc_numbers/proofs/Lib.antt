@@ -49,3 +49,4 @@ pub mod EndLemmas
 pub mod ReadCall
 pub mod WriteCall
 pub mod Breaking
+pub mod Meeting

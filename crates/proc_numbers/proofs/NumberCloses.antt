@@ -17,14 +17,15 @@ use Rattle.kheap_slabs.specs.Keys.{AreKeysOf}
 use Rattle.kheap_slabs.specs.Leaves.{HoldLeaves, numbers_by}
 use Rattle.kheap_laws.proofs.LeafKeys.{LeavesChange-refl}
 use Rattle.open_laws.specs.Closing.{IsDroppable}
-use Rattle.open_laws.specs.Described.{Counted, after_drop, counting, descs_left, node_in}
+use Rattle.open_laws.specs.Described.{Counted, after_drop, counting, descs_left, inode_in}
 use Rattle.open_laws.specs.Open.{AreOpen, descriptor_by, descriptors_by, dropped_in, files_dropped}
 use Rattle.open_laws.specs.Owned.{HasItsOwners, all_namings, desc_count}
 use Rattle.open_laws.specs.Placed.{Numbers}
-use Rattle.posix_defs.specs.Files.Closing.{after_close, close_in, description_gone, gone_in, released, target_closed}
-use Rattle.posix_defs.specs.Files.Descriptions.{Target as PlainTarget, OnNode, OnPipe, OnSocket, Access as PlainAccess, Description, description_at, with_description}
+use Rattle.posix_defs.specs.Files.Closing.{after_close, close_in, description_gone, gone_in, left_fifo, released, target_closed}
+use Rattle.posix_defs.specs.Files.Descriptions.{Target as PlainTarget, OnNode, OnPipe, OnSocket, Access as PlainAccess, Description, description_at, may_write, with_description}
 use Rattle.posix_defs.specs.Files.Descriptors.{Descriptors, descriptor_at, none_open}
-use Rattle.posix_defs.specs.Files.State.{Files, descriptors_of, opens, with_descriptions, with_open, with_tree}
+use Rattle.posix_defs.specs.Files.State.{Files, descriptors_of, node_of, opens, pipe_at, with_descriptions, with_open, with_pipe, with_tree}
+use Rattle.posix_defs.specs.Pipe.{after_close as pipe_after_close}
 use Rattle.posix_defs.specs.TreeChanges.{closed}
 use Rattle.proc_table.specs.Procs.{numbers_in, proc_of}
 use Rattle.proc_table.specs.Table.{AreStored, TableView, key_of, keys_of, processes, procs_at}
@@ -48,9 +49,13 @@ gone_leaves files place = by_description (description_at files.descriptions plac
     by_opens true one other first second = first
     by_opens false one other first second = second
 
+    by_fifo : (from : Files) (node : Option ℕ) → from.descriptors ≡ files.descriptors → (left_fifo from node).descriptors ≡ files.descriptors
+    by_fifo from None same = same
+    by_fifo from (Some number) same = by_opens (opens from number) from (with_tree from (closed from.tree number)) same same
+
     by_target : (from : Files) (access : PlainAccess) (what : PlainTarget) → from.descriptors ≡ files.descriptors → (target_closed from access what).descriptors ≡ files.descriptors
     by_target from access (OnNode number) same = by_opens (opens from number) from (with_tree from (closed from.tree number)) same same
-    by_target from access (OnPipe place) same = same
+    by_target from access (OnPipe place) same = by_fifo (with_pipe from place (pipe_after_close (pipe_at from place) (may_write access))) (node_of from (OnPipe place)) same
     by_target from access (OnSocket place) same = same
 
     by_description : (o : Option Description) → (gone_in files place o).descriptors ≡ files.descriptors
@@ -228,12 +233,12 @@ listed_on old new kept same leaves listed = record {
 pub left_opens : (old new : List (Option Desc)) (key : ℕ) (desc : Desc) → object old key ≡ Some desc → new ≡ descs_left old key desc → OpensNoNode old → OpensNoNode new
 left_opens old new key desc is left none = λ other found at. by_key other found (eqb_tells other key) (ap (λ objects. object objects other) (sym left) ∙ at)
   where
-    counted_less : (b : Bool) (found : Desc) → cond b None (Some (counting desc (desc.count - 1))) ≡ Some found → node_in found.target ≡ None
+    counted_less : (b : Bool) (found : Desc) → cond b None (Some (counting desc (desc.count - 1))) ≡ Some found → inode_in found.target ≡ None
     counted_less true found e = cc
-    counted_less false found e = subst (λ (d : Desc). node_in d.target ≡ None) (some_same (Some found) (counting desc (desc.count - 1)) found (sym e) refl) (none key desc is)
+    counted_less false found e = subst (λ (d : Desc). inode_in d.target ≡ None) (some_same (Some found) (counting desc (desc.count - 1)) found (sym e) refl) (none key desc is)
 
     by_key : (other : ℕ) (found : Desc) → (((other == key) ≡ true) × (other ≡ key)) ⊎ (((other == key) ≡ false) × (other ≢ key))
-        → object (descs_left old key desc) other ≡ Some found → node_in found.target ≡ None
+        → object (descs_left old key desc) other ≡ Some found → inode_in found.target ≡ None
     by_key other found (inl same) at =
         counted_less (desc.count == 1) found
         (sym (ap (object (descs_left old key desc)) same.1 ∙ get_or-set_same old key _ None (InUse-within old key (ap is_some is))) ∙ at)

@@ -6,24 +6,23 @@ use Rattle.kheap_slabs.specs.declared.objects.Descriptor.{Descriptor as HeldDesc
 use Rattle.kheap_slabs.specs.declared.objects.Target.{Target}
 use Rattle.kheap_slabs.specs.declared.objects.Target.TheVariants as target
 use Rattle.kheap_slabs.specs.Heap.{Heap}
-use Rattle.open_laws.specs.Described.{node_in, target_in}
+use Rattle.open_laws.specs.Described.{inode_in, target_in}
 use Rattle.open_laws.specs.Placed.{Numbers}
-use Rattle.posix_defs.specs.Files.State.{Files, node_of}
 use Rattle.proc_table.specs.Table.{TableView}
 use Rattle.proc_table.proofs.PlaceLemmas.{some_same}
-use Rattle.proc_numbers.specs.Found.{IsOffNodes, IsOnNode}
+use Rattle.proc_numbers.specs.Found.{IsOffNodes, IsOnNode, number_in}
 use Rattle.proc_numbers.specs.Naming.{named_by}
 
-pub tells_target : (numbers : Numbers) (files : Files) (what : Target) → is_some (node_in what) ≡ is_some (node_of files (target_in numbers what))
-tells_target numbers files (target.Inode number) = refl
-tells_target numbers files (target.Pipe key) = refl
-tells_target numbers files (target.Sock key) = refl
+pub tells_target : (numbers : Numbers) (what : Target) → is_some (inode_in what) ≡ is_some (number_in (target_in numbers what))
+tells_target numbers (target.Inode number) = refl
+tells_target numbers (target.Pipe key) = refl
+tells_target numbers (target.Sock key) = refl
 
 pub on_named_node : (h : Heap) (kept : TableView) (pid : ℕ) (fd : ℤ) (held : HeldDescriptor) (desc : Desc) → named_by h kept pid fd ≡ Some held → object h.descs held.desc ≡ Some desc
-    → IsSome (node_in desc.target) → IsOnNode h kept pid fd
+    → IsSome (inode_in desc.target) → IsOnNode h kept pid fd
 on_named_node h kept pid fd held desc is there on = λ also found also_is found_there.
     let same = some_same (named_by h kept pid fd) held also is also_is in
-    subst (λ (d : Desc). IsSome (node_in d.target))
+    subst (λ (d : Desc). IsSome (inode_in d.target))
     (some_same (object h.descs held.desc) desc found there (ap (λ (d : HeldDescriptor). object h.descs d.desc) same ∙ found_there)) on
 
 none_so : {X : Type 0} (o : Option X) → is_some o ≡ false → o ≡ None
@@ -31,11 +30,11 @@ none_so None is = refl
 none_so (Some x) is = absurd (let both : true ≡ false = is in cc)
 
 pub off_named_node : (h : Heap) (kept : TableView) (pid : ℕ) (fd : ℤ) (held : HeldDescriptor) (desc : Desc) → named_by h kept pid fd ≡ Some held → object h.descs held.desc ≡ Some desc
-    → is_some (node_in desc.target) ≡ false → IsOffNodes h kept pid fd
+    → is_some (inode_in desc.target) ≡ false → IsOffNodes h kept pid fd
 off_named_node h kept pid fd held desc is there off = λ also found also_is found_there.
     let same = some_same (named_by h kept pid fd) held also is also_is in
-    subst (λ (d : Desc). node_in d.target ≡ None)
-    (some_same (object h.descs held.desc) desc found there (ap (λ (d : HeldDescriptor). object h.descs d.desc) same ∙ found_there)) (none_so (node_in desc.target) off)
+    subst (λ (d : Desc). inode_in d.target ≡ None)
+    (some_same (object h.descs held.desc) desc found there (ap (λ (d : HeldDescriptor). object h.descs d.desc) same ∙ found_there)) (none_so (inode_in desc.target) off)
 
 -- what isn't open is open on nothing
 pub off_unnamed : (h : Heap) (kept : TableView) (pid : ℕ) (fd : ℤ) → named_by h kept pid fd ≡ None → IsOffNodes h kept pid fd

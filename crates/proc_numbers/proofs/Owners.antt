@@ -15,7 +15,7 @@ use Rattle.kheap_slabs.specs.declared.objects.Target.TheVariants as target
 use Rattle.kheap_slabs.proofs.ObjectLemmas.{InUse-within}
 use Rattle.kheap_slabs.specs.Heap.{Heap}
 use Rattle.kheap_slabs.specs.Owners.{pipe_queues, sock_queues, spaces_of}
-use Rattle.open_laws.specs.Described.{node_in}
+use Rattle.open_laws.specs.Described.{inode_in}
 use Rattle.open_laws.specs.Owned.{CountsItsNames, HasItsEnds, HasItsOwners, IsThereFor, all_namings, desc_count, desc_count_at, has_read_end, has_write_end, sock_in, socks_named}
 use Rattle.open_laws.proofs.OwnerLemmas.{named_by, names}
 use Rattle.pipe_ends.proofs.StandingLemmas.{stands_on as pipe_stands_on, stands_same as pipe_stands_same}
@@ -179,8 +179,8 @@ module _ (old new : Heap) (sock key : ℕ) (vacant : object old.descs key ≡ No
   pub no_node_described : OpensNoNode old.descs → OpensNoNode new.descs
   no_node_described none other found at = by_which (which other found at)
     where
-      by_which : Which other found → node_in found.target ≡ None
-      by_which (is_it same it) = ap (λ (d : Desc). node_in d.target) it
+      by_which : Which other found → inode_in found.target ≡ None
+      by_which (is_it same it) = ap (λ (d : Desc). inode_in d.target) it
       by_which (is_other apart was) = none other found was
 
   module _ (hand loose : List ℕ) (but : HasOwnersBut old hand (sock ∷ loose)) where

@@ -15,7 +15,7 @@ use Rattle.kheap_slabs.specs.declared.objects.Target.TheVariants as target
 use Rattle.kheap_slabs.specs.Heap.{Heap}
 use Rattle.chunk_queue.specs.Chained.{place_of}
 use Rattle.chunk_queue.proofs.HeldLemmas.{HasBytes-same}
-use Rattle.open_laws.specs.Described.{AreDescribed, Counted, CountedList, access_in, counted_in, node_in, target_in, uncounted}
+use Rattle.open_laws.specs.Described.{AreDescribed, Counted, CountedList, access_in, counted_in, inode_in, target_in, uncounted}
 use Rattle.open_laws.specs.Open.{AreOpen, descriptor_by, descriptors_by}
 use Rattle.open_laws.specs.Owned.{CountsItsNames, HasItsEnds, HasItsOwners, IsHeldOpen, IsThereFor, all_namings, desc_count, desc_count_at, has_read_end, has_write_end, is_on_pipe, sock_in, socks_named}
 use Rattle.open_laws.specs.Piped.{ArePiped}
@@ -101,9 +101,9 @@ module _ (old new : Heap) (pipe reading writing : ℕ) (opens : PipeOpens old ne
   pub no_node : OpensNoNode old.descs → OpensNoNode new.descs
   no_node none key desc at = by_which (which key desc at)
     where
-      by_which : Which key desc → node_in desc.target ≡ None
-      by_which (is_reading same it) = ap (λ (d : Desc). node_in d.target) it
-      by_which (is_writing same it) = ap (λ (d : Desc). node_in d.target) it
+      by_which : Which key desc → inode_in desc.target ≡ None
+      by_which (is_reading same it) = ap (λ (d : Desc). inode_in d.target) it
+      by_which (is_writing same it) = ap (λ (d : Desc). inode_in d.target) it
       by_which (is_other away apart was) = none key desc was
 
   -- a new pipe has no bytes

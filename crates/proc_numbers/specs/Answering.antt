@@ -49,7 +49,7 @@ stat_of (Err errno) = Fail errno
 -- the node whose pin is to be dropped where a number names the description of another: that of the description that goes
 abbrev pub node_replaced : Heap → TableView → ℕ → ℤ → ℤ → Option ℕ
 node_replaced h kept pid fd to =
-    if count_of fd == count_of to then None else node_closed h.descs (named_at h kept pid (count_of to))
+    if count_of fd == count_of to then None else node_closed h (named_at h kept pid (count_of to))
 
 -- ---- flags
 

@@ -3,15 +3,17 @@ use Rattle.std.specs.Prelude.{ℕ, ◌≡◌, ◌+◌, List, length, Option, Non
 use Rattle.kheap_slabs.specs.Objects.{object}
 use Rattle.kheap_slabs.specs.declared.objects.Desc.{Desc}
 use Rattle.kheap_slabs.specs.declared.objects.Descriptor.{Descriptor as HeldDescriptor}
+use Rattle.kheap_slabs.specs.declared.objects.HalfOpen.{HalfOpen as HeldHalf}
+use Rattle.kheap_slabs.specs.declared.objects.Pipe.{Pipe}
 use Rattle.kheap_slabs.specs.declared.objects.Proc.{Proc}
 use Rattle.kheap_slabs.specs.Heap.{Heap}
 use Rattle.kheap_slabs.specs.Keys.{AreKeysOf}
 use Rattle.kheap_slabs.specs.Leaves.{HoldLeaves}
-use Rattle.open_laws.specs.Described.{CountedList, node_in, node_left}
+use Rattle.open_laws.specs.Described.{CountedList, inode_in, node_left}
 use Rattle.open_laws.specs.Open.{AreOpen, descriptors_by}
 use Rattle.open_laws.specs.Owned.{all_namings}
 use Rattle.open_laws.specs.Placed.{Numbers}
-use Rattle.posix_defs.specs.Files.State.{Files, descriptors_of}
+use Rattle.posix_defs.specs.Files.State.{Files, HalfOpen, descriptors_of}
 use Rattle.desc_table.specs.Numbered.{names_one}
 use Rattle.proc_table.specs.Moves.{NumbersTurn}
 use Rattle.proc_table.specs.Procs.{no_descriptors, numbers_in, proc_of}
@@ -23,6 +25,10 @@ pub record AreListed (h : Heap) (kept : TableView) : Type 0 where
   pub rising : AreBetween 0 kept.listed kept.last
   pub all : AreKeysOf h.procs (keys_of kept.listed)
   pub leaves : HoldLeaves h.leaves (processes h kept)
+
+-- what the heap says of an open that a process sleeps in
+abbrev pub half_in : HeldHalf → HalfOpen
+half_in held = record { fd = held.fd; seen = held.seen }
 
 -- what a process has open by number, if it is there; who isn't has nothing open
 abbrev pub places_in : (Proc → List (Option HeldDescriptor)) → Option Proc → List (Option HeldDescriptor)
@@ -40,20 +46,20 @@ pub record HaveOpen (numbers : Numbers) (h : Heap) (kept : TableView) (files : F
   pub opened : AreOpen numbers h list files
   pub descriptors : HaveDescriptors (numbers_in h) numbers.descs (processes h kept) kept.last files
 
--- no description is open on a node
+-- no description is open on a node by its number
 abbrev pub OpensNoNode : List (Option Desc) → Type 0
-OpensNoNode descs = (key : ℕ) (desc : Desc) → object descs key ≡ Some desc → node_in desc.target ≡ None
+OpensNoNode descs = (key : ℕ) (desc : Desc) → object descs key ≡ Some desc → inode_in desc.target ≡ None
 
 -- ---- closing
 
 -- the node whose pin is to be dropped with a descriptor: that of the description that goes with it
-abbrev pub node_dropped : Option Desc → Option ℕ
-node_dropped None = None
-node_dropped (Some desc) = node_left desc
+abbrev pub node_dropped : List (Option Pipe) → Option Desc → Option ℕ
+node_dropped pipes None = None
+node_dropped pipes (Some desc) = node_left pipes desc
 
-abbrev pub node_closed : List (Option Desc) → Option HeldDescriptor → Option ℕ
-node_closed descs None = None
-node_closed descs (Some held) = node_dropped (object descs held.desc)
+abbrev pub node_closed : Heap → Option HeldDescriptor → Option ℕ
+node_closed h None = None
+node_closed h (Some held) = node_dropped h.pipes (object h.descs held.desc)
 
 -- A number of a process is open no more, in its Proc or its Leaf; of the other objects only Descs, Pipes, Chunks and Socks are others.
 pub record ClosesNumber (old new : Heap) (kept : TableView) (pid fd : ℕ) : Type 0 where

@@ -5,6 +5,7 @@ ghost use Rattle.kheap_slabs.specs.declared.objects.Descriptor.{Descriptor as He
 ghost use Rattle.kheap_slabs.specs.declared.objects.Proc.{Proc as HeldProc};
 ghost use Rattle.kheap_slabs.specs.Heap.{IsWellFormed};
 ghost use Rattle.kheap_slabs.specs.Paid.{TakesNothing};
+ghost use Rattle.fifo_nodes.specs.Chain.{IsChain};
 ghost use Rattle.open_laws.specs.Owned.{HasItsOwners};
 ghost use Rattle.open_laws.specs.Placed.{Numbers};
 ghost use Rattle.posix_defs.specs.Files.Closing.{after_close};
@@ -16,17 +17,25 @@ ghost use Rattle.proc_numbers.specs.Queues.{QueuesStand};
 ghost use Rattle.proc_numbers.specs.Having.{AreListed, ClosesNumber, HaveOpen, OpensNoNode, node_closed};
 ghost use Rattle.proc_numbers.specs.Naming.{TurnsNumber, named_at};
 
-use desc_table::{Descs, drop_desc};
+use desc_table::{Descs, close_desc};
+use fifo_nodes::FifoTable;
 use kheap_slabs::KHeap;
 use proc_table::{Place, ProcTable};
 
 /// A process has a number open no more (POSIX close), which was found open. With the last of its numbers that is open a Leaf goes. With
 /// the last descriptor that names it a description goes, and what it was open on is closed.
 ///
-/// The answer is the node whose pin the caller then drops; None where no description of a node has gone.
-pub fn close_one(heap: &mut KHeap, procs: &ProcTable, place: Place, fd: u32) -> Option<u32>
+/// The answer is the node whose pin the caller then drops, that of a FIFO too; None where no description of a node has gone.
+pub fn close_one(
+    heap: &mut KHeap,
+    procs: &ProcTable,
+    fifos: &mut FifoTable,
+    place: Place,
+    fd: u32,
+) -> Option<u32>
     requires listed { AreListed heap.old procs.now }
     requires owners { HasItsOwners heap.old [] }
+    requires chain { IsChain heap.old fifos.old }
     requires there { IsPlaced procs.now place }
     requires number { fd < most_descriptors }
     requires is_open { IsSome (named_at heap.old procs.now place.pid fd) }
@@ -35,14 +44,15 @@ pub fn close_one(heap: &mut KHeap, procs: &ProcTable, place: Place, fd: u32) -> 
     ensures nodes { OpensNoNode heap.old.descs → OpensNoNode heap.new.descs }
     ensures listed { AreListed heap.new procs.now }
     ensures owners { HasItsOwners heap.new [] }
+    ensures chain { IsChain heap.new fifos.new }
     ensures closes { ClosesNumber heap.old heap.new procs.now place.pid fd }
     ensures node { (proc : HeldProc) → proc_of (processes heap.old procs.now) place.pid ≡ Some proc
-        → result ≡ node_closed heap.old.descs (slice_index_or (numbers_in heap.old proc) fd None) }
+        → result ≡ node_closed heap.old (slice_index_or (numbers_in heap.old proc) fd None) }
     ensures queues { QueuesStand heap.old heap.new }
     ensures takes { TakesNothing heap.old heap.new }
 {
     let desc = clear_number(heap, procs, place, fd);
-    drop_desc(heap, desc)
+    close_desc(heap, fifos, desc)
 }
 
 // A number of a process that is open names nothing any more, in its Proc or its Leaf, which goes with the last of its numbers. The key

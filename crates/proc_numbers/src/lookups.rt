@@ -5,7 +5,7 @@ ghost use Rattle.std.specs.Option.{option_map};
 ghost use Rattle.kabi_types.specs.Arguments.{may_be_descriptor, most_descriptors};
 ghost use Rattle.kabi_types.specs.declared.scripts.Script.{Script};
 ghost use Rattle.kheap_slabs.specs.Heap.{Heap};
-ghost use Rattle.open_laws.specs.Described.{access_in, node_in};
+ghost use Rattle.open_laws.specs.Described.{access_in, inode_in};
 ghost use Rattle.open_laws.specs.Owned.{HasItsOwners};
 ghost use Rattle.open_laws.specs.Placed.{Numbers};
 ghost use Rattle.posix_defs.specs.Answer.{Answer};
@@ -13,10 +13,9 @@ ghost use Rattle.posix_defs.specs.Calls.Opened.{Opened, answer_on, if_readable, 
 ghost use Rattle.posix_defs.specs.Files.Descriptions.{may_read, may_write};
 ghost use Rattle.posix_defs.specs.Files.State.{Files};
 ghost use Rattle.posix_defs.specs.Plain.{Plain};
-ghost use Rattle.posix_defs.specs.Reaching.{is_on_node as plain_on_node};
 ghost use Rattle.proc_numbers.specs.Having.{AreListed, HaveOpen};
 ghost use Rattle.proc_table.specs.Table.{IsPlaced, TableView};
-ghost use Rattle.proc_numbers.specs.Found.{IsOffNodes, IsOnNode, IsOpened, held_in, opened_in};
+ghost use Rattle.proc_numbers.specs.Found.{IsOffNodes, IsOnNode, IsOpened, held_in, is_in_tree, opened_in};
 
 use crate::closing::is_well_formed;
 use desc_table::descriptor_of;
@@ -108,10 +107,10 @@ impl Found {
 }
 
 impl Named {
-    /// Whether it is open on a node of the tree of files; pipes and sockets have none.
+    /// Whether it is open on a node of the tree of files by its number; pipes, those of FIFOs too, and sockets aren't.
     pub fn is_on_node(&self) -> bool
         ensures tells { (h : Heap) (kept : TableView) (pid : ℕ) (numbers : Numbers) (files : Files) → IsOpened h kept pid self.now
-            → HaveOpen numbers h kept files → result ≡ plain_on_node files (opened_at files pid self.now.fd) }
+            → HaveOpen numbers h kept files → result ≡ is_in_tree (opened_at files pid self.now.fd) }
         ensures on { (h : Heap) (kept : TableView) (pid : ℕ) → IsOpened h kept pid self.now → result ≡ true → IsOnNode h kept pid self.now.fd }
         ensures off { (h : Heap) (kept : TableView) (pid : ℕ) → IsOpened h kept pid self.now → result ≡ false → IsOffNodes h kept pid self.now.fd }
     {
@@ -160,7 +159,7 @@ impl Named {
 
 // Whether a target is a node.
 fn is_node(target: Target) -> bool
-    ensures { result ≡ is_some (node_in target) }
+    ensures { result ≡ is_some (inode_in target) }
 {
     match target {
         Target::Inode(_) => true,

@@ -30,9 +30,9 @@ cleared pid = with_nodes pid no_nodes
 abbrev pub replaced : ℕ → Proc → Proc → Proc
 replaced pid now proc = if proc.pid == pid then now else proc
 
--- a child of a process, with this pid, these nodes and these Leaves
+-- a child of a process, with this pid, these nodes and these Leaves; it sleeps in no open
 abbrev pub child_proc : Proc → ℕ → List (Option ℕ) → List (Option ℕ) → Proc
-child_proc parent pid nodes leaves = record parent { pid = pid; parent = parent.pid; nodes = nodes; leaves = leaves }
+child_proc parent pid nodes leaves = record parent { pid = pid; parent = parent.pid; opening = None; nodes = nodes; leaves = leaves }
 
 -- a live child gets the first process as parent; one that has ended goes
 abbrev pub left_child : Option ℕ → Proc → Option Proc

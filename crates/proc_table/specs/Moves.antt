@@ -78,11 +78,11 @@ pub record SpaceTurns (old mid new : Heap) (kept : TableView) (pid key : ℕ) (p
   pub moves : SpaceMoves old mid proc.nodes now
   pub after : new ≡ record mid { procs = put mid.procs key (record proc { nodes = now }) }
 
--- A process goes on: its Proc has another control, works in another directory, or ignores other signals.
+-- A process goes on: its Proc has another control, works in another directory, ignores other signals, or sleeps in another open.
 pub record ProcTurns (old new : Heap) (kept : TableView) (pid key : ℕ) (proc now : Proc) : Type 0 where
   pub found : key_of kept.listed pid ≡ Some key
   pub there : object old.procs key ≡ Some proc
-  pub same : now ≡ record proc { control = now.control; cwd = now.cwd; ignores_pipe = now.ignores_pipe; ignores_term = now.ignores_term }
+  pub same : now ≡ record proc { control = now.control; cwd = now.cwd; ignores_pipe = now.ignores_pipe; ignores_term = now.ignores_term; opening = now.opening }
   pub after : new ≡ record old { procs = put old.procs key now }
 
 -- A process ignores a signal now, or doesn't, and it is told whether it did before.

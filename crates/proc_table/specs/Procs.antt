@@ -89,6 +89,7 @@ first_proc = record {
   ignores_pipe = true;
   ignores_term = true;
   control = at_start 0;
+  opening = None;
   descriptors = no_row;
   nodes = no_nodes;
   leaves = no_leaves;

@@ -80,6 +80,7 @@ impl ProcTable {
                 regs: [0; 16],
                 done: 0,
             },
+            opening: None,
             descriptors: [None; 32],
             nodes: [None; 4],
             leaves: [None; 3],
@@ -179,6 +180,7 @@ impl ProcTable {
         let key = heap.insert_proc(Proc {
             pid: self.last,
             parent: parent.pid,
+            opening: None,
             nodes: space.nodes(),
             leaves,
             ..*parent

@@ -86,8 +86,10 @@ fn shut_down(objects: &mut Objects, purse: &mut Purse, place: Place, status: u16
         &objects.procs,
         &mut objects.tree,
         &mut objects.names,
+        &mut objects.fifos,
         place,
     );
+    objects.wait_in(place, None);
     objects.procs.end(&mut objects.heap, place.pid, status);
 }
 

@@ -64,6 +64,7 @@ kind_made kind.Accept numbers texts done = refl
 kind_made kind.Shutdown numbers texts done = refl
 kind_made kind.Poll numbers texts done = refl
 kind_made kind.Signal numbers texts done = refl
+kind_made kind.Mkfifo numbers texts done = refl
 
 -- a call whose price is nothing, whatever its operands are, may use nothing
 pub bound_free : (call : Call) → price_of (kind_of call) ≡ Always 0 → bound call ≡ 0
@@ -91,6 +92,7 @@ fault_on_path kind.Chdir numbers texts done takes = refl
 fault_on_path kind.Mkdir numbers texts done takes = refl
 fault_on_path kind.Rmdir numbers texts done takes = refl
 fault_on_path kind.Unlink numbers texts done takes = refl
+fault_on_path kind.Mkfifo numbers texts done takes = refl
 fault_on_path _ numbers texts done takes = absurd takes
 
 -- of these calls nothing can be wrong

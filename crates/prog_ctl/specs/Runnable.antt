@@ -32,6 +32,7 @@ TakesPath kind.Chdir = ⊤
 TakesPath kind.Mkdir = ⊤
 TakesPath kind.Rmdir = ⊤
 TakesPath kind.Unlink = ⊤
+TakesPath kind.Mkfifo = ⊤
 TakesPath _ = ⊥
 
 -- no operand of a call of this kind can be wrong, and the call may make objects
@@ -111,6 +112,7 @@ TakesFiles kind.Rmdir = ⊥
 TakesFiles kind.Unlink = ⊥
 TakesFiles kind.Link = ⊥
 TakesFiles kind.Rename = ⊥
+TakesFiles kind.Mkfifo = ⊥
 TakesFiles _ = ⊤
 
 -- a later place

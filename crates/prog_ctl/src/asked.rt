@@ -112,6 +112,7 @@ fn takes_path(kind: CallKind) -> bool
             | CallKind::Mkdir
             | CallKind::Rmdir
             | CallKind::Unlink
+            | CallKind::Mkfifo
     )
 }
 

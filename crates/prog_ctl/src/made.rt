@@ -3,6 +3,7 @@
 
 ghost use Rattle.std.specs.Prelude.{◌≡◌, ℕ, ℤ, List, ◌≤◌, drop, length, map, IfSome, option_copied};
 ghost use Rattle.std.specs.List.{AllByRecursion};
+ghost use Rattle.kabi_types.specs.declared.calls.CallKind.TheVariants as kinds;
 ghost use Rattle.kabi_types.specs.declared.scripts.Control.{Control as ControlOf};
 ghost use Rattle.posix_defs.specs.Control.{call_at, value_of};
 ghost use Rattle.posix_defs.specs.Made as spec;
@@ -116,6 +117,9 @@ fn made_on_path(kind: CallKind, texts: &[Text]) -> Call
             path: path_at(texts, 0),
         },
         CallKind::Unlink => return Call::Unlink {
+            path: path_at(texts, 0),
+        },
+        CallKind::Mkfifo => return Call::Mkfifo {
             path: path_at(texts, 0),
         },
         _ => Call::SchedYield,
@@ -350,6 +354,7 @@ pub(crate) fn made(control: &Control, kind: CallKind, operands: &[Operand], text
         CallKind::Mkdir => made_on_path(kind, texts),
         CallKind::Rmdir => made_on_path(kind, texts),
         CallKind::Unlink => made_on_path(kind, texts),
+        CallKind::Mkfifo => made_on_path(kind, texts),
         CallKind::Link => made_with_texts(control, kind, operands, texts),
         CallKind::Rename => made_with_texts(control, kind, operands, texts),
         _ => made_on_files(control, kind, operands, texts),
@@ -409,12 +414,34 @@ pub fn call_at(control: &Control, statement: Option<&Statement>) -> Call
     made(control, said.kind, said.operands, said.texts)
 }
 
-/// What a call of this kind waits for, with these operands in the order of its fields; None where calls of this kind never
-/// block.
-fn awaited(control: &Control, kind: CallKind, operands: &[Operand]) -> Option<Awaited>
+/// An `open` with right operands may wait for the other side of a FIFO. It stands by itself, since the call is made here, which has
+/// room for two paths.
+#[inline(never)]
+fn other_side(control: &Control, operands: &[Operand], texts: &[Text]) -> Option<Awaited>
     requires count { length operands.now ≤ 17 }
     requires each { AllByRecursion IsOperand operands.now }
-    ensures { (texts : List (List ℕ)) → result ≡ wait_of (spec.made kind (map (value_of control.now) operands.now) texts control.now.done) }
+    requires texts { AllByRecursion (λ text. length text ≤ most_text (shape_of kinds.OpenFile)) texts.now }
+    ensures { result ≡ wait_of (spec.made kinds.OpenFile (map (value_of control.now) operands.now) texts.now control.now.done) }
+{
+    let call = made_with_texts(control, CallKind::OpenFile, operands, texts);
+    match call.checked() {
+        Ok(()) => Some(Awaited::OtherSide),
+        Err(_) => None,
+    }
+}
+
+/// What a call of this kind waits for, with these operands in the order of its fields; None where calls of this kind never
+/// block.
+fn awaited(
+    control: &Control,
+    kind: CallKind,
+    operands: &[Operand],
+    texts: &[Text],
+) -> Option<Awaited>
+    requires count { length operands.now ≤ 17 }
+    requires each { AllByRecursion IsOperand operands.now }
+    requires texts { AllByRecursion (λ text. length text ≤ most_text (shape_of kind)) texts.now }
+    ensures { result ≡ wait_of (spec.made kind (map (value_of control.now) operands.now) texts.now control.now.done) }
 {
     match kind {
         CallKind::Waitpid => Some(Awaited::Child {
@@ -439,6 +466,7 @@ fn awaited(control: &Control, kind: CallKind, operands: &[Operand]) -> Option<Aw
             timeout: operand_at(control, operands, 0),
             entries: entries_of(numbers_of(control, operands).as_slice()),
         }),
+        CallKind::OpenFile => other_side(control, operands, texts),
         _ => None,
     }
 }
@@ -450,7 +478,14 @@ pub fn wait_at(control: &Control, statement: Option<&Statement>) -> Option<Await
     ensures { result ≡ wait_of (call_at control.now (option_copied statement.entry)) }
 {
     match statement {
-        Some(Statement::Invoke { kind, operands, .. }) => awaited(control, *kind, operands.items()),
+        Some(
+            Statement::Invoke {
+                kind,
+                operands,
+                texts,
+                ..
+            },
+        ) => awaited(control, *kind, operands.items(), texts.items()),
         Some(_) | None => None,
     }
 }

@@ -31,4 +31,6 @@ pub enum Awaited {
         timeout: i64,
         entries: PollList,
     },
+    /// The other side of a FIFO, for `open`. Whether it waits, and for which, is known by who opens it.
+    OtherSide,
 }

@@ -19,7 +19,7 @@ use Rattle.store_objects.specs.declared.objects.Objects.{Objects}
 use Rattle.store_objects.specs.Standing.{Performs, StandsFor, WorldAfter, answered_in}
 use Rattle.store_objects.proofs.Fronts.{settled_after}
 use Rattle.store_objects.proofs.Leading.{led_blocked}
-use Rattle.queue_calls.specs.Told.{behind_in, partly_in}
+use Rattle.store_objects.specs.Told.{behind_in, partly_in}
 use Rattle.queue_calls.proofs.Queueing.{LeavesRest, mid, queues_stand, stands_mid}
 use Rattle.queue_calls.proofs.Remaining.{Leaves}
 

@@ -14,7 +14,6 @@ mod polling;
 mod reading;
 mod replies;
 mod shutting;
-mod told;
 mod writing;
 
 pub use accepting::{accept, accept_would_block};

@@ -12,11 +12,10 @@ ghost use Rattle.proc_table.specs.Table.{IsPlaced};
 ghost use Rattle.store_objects.specs.Objects.{AreKept, Runs};
 ghost use Rattle.store_objects.specs.Standing.{Performs, StandsFor};
 
-use crate::told::go_on_done;
 use kabi_types::{PollList, Script};
 use posix_defs::Turned;
 use proc_table::Place;
-use store_objects::{Caller, Objects};
+use store_objects::{Caller, Objects, go_on_done};
 
 /// Tells what each entry is ready for; sleeps with timeout -1 where none is ready for anything (POSIX poll).
 #[inline(never)]

@@ -16,13 +16,12 @@ ghost use Rattle.store_objects.specs.Objects.{AreKept, Runs};
 ghost use Rattle.store_objects.specs.Standing.{Performs, StandsFor};
 
 use crate::operands::may_move;
-use crate::told::go_on_done;
 use kabi_types::Script;
 use kheap_slabs::Purse;
 use posix_defs::Turned;
 use proc_numbers::{Buffer, Named, opened, read_waits};
 use proc_table::Place;
-use store_objects::{Caller, Objects};
+use store_objects::{Caller, Objects, go_on_done};
 
 /// Reads at most n bytes from the pipe or the socket that a number is open on into memory, as many as are there; none are the end
 /// of the file. It sleeps where nothing is there and something can come (POSIX read).

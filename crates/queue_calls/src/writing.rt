@@ -16,13 +16,12 @@ ghost use Rattle.store_objects.specs.Objects.{AreKept, IsCaller, Runs};
 ghost use Rattle.store_objects.specs.Standing.{Performs, StandsFor};
 
 use crate::operands::may_move;
-use crate::told::{do_part, go_on_done};
 use kabi_types::Script;
 use kheap_slabs::Purse;
 use posix_defs::Turned;
 use proc_numbers::{Buffer, Named, opened, write_breaks as breaks, write_waits};
 use proc_table::Place;
-use store_objects::{Caller, Objects};
+use store_objects::{Caller, Objects, do_part, go_on_done};
 
 /// Writes n bytes of memory, of which so many were moved before, to the pipe or the socket that a number is open on: up to 512 go
 /// into a pipe whole or not at all; of more, and to a socket always, as many as there is room for. It sleeps where there is no room,

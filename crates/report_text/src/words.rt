@@ -139,6 +139,7 @@ fn node_name(kind: NodeKind) -> &'static str
         NodeKind::File => "file",
         NodeKind::Dir => "dir",
         NodeKind::Sock => "sock",
+        NodeKind::Fifo => "fifo",
         NodeKind::Pipe => "pipe",
     }
 }

@@ -99,10 +99,11 @@ word_back kind.Accept = refl
 word_back kind.Shutdown = refl
 word_back kind.Poll = refl
 word_back kind.Signal = refl
+word_back kind.Mkfifo = refl
 
 all_errnos : List Errno
 all_errnos =
-    errno.EPERM ∷ errno.ENOENT ∷ errno.ESRCH ∷ errno.ENOEXEC ∷ errno.EBADF ∷ errno.ECHILD ∷ errno.EAGAIN
+    errno.EPERM ∷ errno.ENOENT ∷ errno.ESRCH ∷ errno.ENXIO ∷ errno.ENOEXEC ∷ errno.EBADF ∷ errno.ECHILD ∷ errno.EAGAIN
     ∷ errno.ENOMEM ∷ errno.EACCES ∷ errno.EFAULT ∷ errno.EBUSY ∷ errno.EEXIST ∷ errno.ENOTDIR ∷ errno.EISDIR
     ∷ errno.EINVAL ∷ errno.EMFILE ∷ errno.EFBIG ∷ errno.ENOSPC ∷ errno.ESPIPE ∷ errno.EMLINK ∷ errno.EPIPE
     ∷ errno.ENAMETOOLONG ∷ errno.ENOTEMPTY ∷ errno.EOVERFLOW ∷ errno.ENOTSOCK ∷ errno.EDESTADDRREQ ∷ errno.EOPNOTSUPP
@@ -116,6 +117,7 @@ unfolding first_by errno_of_number all_errnos
 number_back errno.EPERM = refl
 number_back errno.ENOENT = refl
 number_back errno.ESRCH = refl
+number_back errno.ENXIO = refl
 number_back errno.ENOEXEC = refl
 number_back errno.EBADF = refl
 number_back errno.ECHILD = refl
@@ -146,7 +148,7 @@ number_back errno.ENOTCONN = refl
 number_back errno.ECONNREFUSED = refl
 
 node_of_word : List ℕ → Option NodeKind
-node_of_word text = first_by (λ other. bytes_eq (node_text other) text) (node.File ∷ node.Dir ∷ node.Sock ∷ node.Pipe ∷ [])
+node_of_word text = first_by (λ other. bytes_eq (node_text other) text) (node.File ∷ node.Dir ∷ node.Sock ∷ node.Pipe ∷ node.Fifo ∷ [])
 
 node_back : (which : NodeKind) → node_of_word (node_text which) ≡ Some which
 unfolding first_by node_of_word
@@ -154,6 +156,7 @@ node_back node.File = refl
 node_back node.Dir = refl
 node_back node.Sock = refl
 node_back node.Pipe = refl
+node_back node.Fifo = refl
 
 cache_of_word : List ℕ → Option Cached
 cache_of_word text = first_by (λ other. bytes_eq (cache_text other) text) (cached.Name ∷ cached.Block ∷ cached.Vnode ∷ [])

@@ -44,7 +44,8 @@ pub fn shape_of(kind: CallKind) -> Shape
         | CallKind::Chdir
         | CallKind::Mkdir
         | CallKind::Rmdir
-        | CallKind::Unlink => Shape::OnePath,
+        | CallKind::Unlink
+        | CallKind::Mkfifo => Shape::OnePath,
         CallKind::Exit
         | CallKind::Mmap
         | CallKind::Close

@@ -11,3 +11,4 @@ pub mod OpenMoves
 pub mod OpenWorlds
 pub mod FileMoves
 pub mod FileWorlds
+pub mod Told

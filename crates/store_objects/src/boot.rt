@@ -5,6 +5,7 @@ ghost use Rattle.store_objects.specs.Booting.{HasBooted};
 
 use crate::objects::Objects;
 use bound_table::BoundTable;
+use fifo_nodes::FifoTable;
 use kabi_types::{Control, Memory};
 use kheap_slabs::KHeap;
 use memfs_ops::FileTree;
@@ -42,6 +43,7 @@ pub fn booted(alloc: Global, heap: u64, blocks: u32, control: Control) -> Result
         procs,
         tree,
         names,
+        fifos: FifoTable::new(),
     };
     let key = objects.key_there(FIRST);
     objects.move_on(Place { pid: FIRST, key }, control);

@@ -5,6 +5,7 @@
 #![tactic(auto)]
 
 mod boot;
+mod continuing;
 mod directories;
 mod disposing;
 mod evicting;
@@ -18,6 +19,7 @@ mod purses;
 pub mod told;
 
 pub use boot::booted;
+pub use continuing::{do_part, go_on_done};
 pub use directories::{directory_of, hold_directory, let_go, work_in};
 pub use disposing::dispose;
 pub use evicting::{evict, evictable};

@@ -8,8 +8,9 @@ ghost use Rattle.proc_table.specs.Table.{AreStored, IsPlaced, key_of};
 ghost use Rattle.store_objects.specs.Objects.{IsCaller, MovesOn, WorksElsewhere, is_running, procs_of};
 
 use bound_table::BoundTable;
+use fifo_nodes::FifoTable;
 use kabi_types::Control;
-use kheap_slabs::{KHeap, Proc};
+use kheap_slabs::{HalfOpen, KHeap, Proc};
 use memfs_ops::FileTree;
 use proc_table::{Place, ProcTable};
 
@@ -25,6 +26,8 @@ pub struct Objects {
     pub tree: FileTree,
     /// Which socket is bound to each node of the tree.
     pub names: BoundTable,
+    /// Which FIFOs have a pipe.
+    pub fifos: FifoTable,
 }
 
 /// Who makes a call: a process that runs.
@@ -112,6 +115,11 @@ impl Objects {
         ensures { MovesOn self.old place.pid control self.new }
     {
         self.heap.set_proc_control(place.key, control);
+    }
+
+    /// Has a process sleep in an open of a FIFO, or in none any more.
+    pub fn wait_in(&mut self, place: Place, opening: Option<HalfOpen>) {
+        self.heap.set_proc_opening(place.key, opening);
     }
 
     /// Has a process work in another directory. Who holds which of them is left to the caller.

@@ -12,11 +12,11 @@ use Rattle.posix_defs.specs.declared.walked.Walked.TheVariants as walked
 use Rattle.posix_defs.specs.DiskFormat.{blocks_of}
 use Rattle.posix_defs.specs.DiskContents.{own_name, parent_name}
 use Rattle.posix_defs.specs.FileBytes.{resized}
-use Rattle.posix_defs.specs.Tree.{Content, File, Directory, SocketName, Node, Tree, node_at, with_node, is_in_use, is_directory, entries_at, found, climbed}
+use Rattle.posix_defs.specs.Tree.{Content, File, Directory, SocketName, Fifo, Node, Tree, node_at, with_node, is_in_use, is_directory, entries_at, found, climbed}
 use Rattle.posix_defs.specs.TreeChanges.{with_bytes, with_bytes_in, blocks_for, make, link, rename_over, rename_to, takes_entry, is_at_or_above, unlink}
 use Rattle.posix_defs.specs.IsTree.{IsEntryName, IsNewContent, IsTree}
 use Rattle.posix_defs.specs.Paths.{IsLed, resolve}
-use Rattle.posix_defs.specs.PathCalls.{unless, node_led, freed_by, is_socket, Opening, open_there, open_led, open_path, mkdir_led, mkdir_path, bind_led, bind_path, is_empty, ends_in, rmdir_led, rmdir_path, is_held, unlink_led, unlink_path, link_to, link_from, link_path, rename_onto, rename_away, goes_below, rename_named, rename_root, rename_led, rename_path}
+use Rattle.posix_defs.specs.PathCalls.{unless, node_led, freed_by, is_socket, Opening, open_there, open_led, open_path, mkdir_led, mkdir_path, mkfifo_led, mkfifo_path, bind_led, bind_path, is_empty, ends_in, rmdir_led, rmdir_path, is_held, unlink_led, unlink_path, link_to, link_from, link_path, rename_onto, rename_away, goes_below, rename_named, rename_root, rename_led, rename_path}
 use Rattle.tree_laws.proofs.TreeFacts.{found_in_use}
 use Rattle.tree_laws.proofs.TreeKeeps.{make_keeps, unlink_keeps, same_Ok, err-ok}
 use Rattle.tree_laws.proofs.TreeRenames.{rename_over_keeps, rename_to_keeps}
@@ -52,6 +52,13 @@ bind_keeps tree (walked.Free dir name slashed) number after is there names at =
     made_keeps tree dir name SocketName number after is there (names name refl) tt (unless_ok slashed errnos.ENOENT (make tree dir name SocketName) (number, after) at).1
 bind_keeps tree (walked.Fail errno) number after is there names at = absurd (err-ok errno (number, after) at)
 
+mkfifo_keeps : (tree : Tree) (led : Walked) (number : ℕ) (after : Tree) → IsTree tree → IsLed tree led → NamesEntry led → mkfifo_led tree led ≡ Ok (number, after) → IsTree after
+mkfifo_keeps tree (walked.Node n) number after is there names at = absurd (err-ok errnos.EEXIST (number, after) at)
+mkfifo_keeps tree (walked.Named parent name n slashed) number after is there names at = absurd (err-ok errnos.EEXIST (number, after) at)
+mkfifo_keeps tree (walked.Free dir name slashed) number after is there names at =
+    made_keeps tree dir name Fifo number after is there (names name refl) tt (unless_ok slashed errnos.ENOENT (make tree dir name Fifo) (number, after) at).1
+mkfifo_keeps tree (walked.Fail errno) number after is there names at = absurd (err-ok errno (number, after) at)
+
 -- a node put where it stands
 same_node : (tree : Tree) (number : ℕ) → with_node tree number (node_at tree number) ≡ tree
 same_node tree zero = refl
@@ -70,6 +77,8 @@ cut_keeps tree number (Some node) is at = by_content node.links node.content at
     by_content links (Directory parent entries) at =
         subst IsTree (sym (same_node tree number) ∙ ap (with_node tree number) at ∙ sym (ap (λ (o : Option Node). with_node tree number (option_map {T = Node} (λ n. record n { content = with_bytes_in (resized 0) n.content }) o)) at)) is
     by_content links SocketName at =
+        subst IsTree (sym (same_node tree number) ∙ ap (with_node tree number) at ∙ sym (ap (λ (o : Option Node). with_node tree number (option_map {T = Node} (λ n. record n { content = with_bytes_in (resized 0) n.content }) o)) at)) is
+    by_content links Fifo at =
         subst IsTree (sym (same_node tree number) ∙ ap (with_node tree number) at ∙ sym (ap (λ (o : Option Node). with_node tree number (option_map {T = Node} (λ n. record n { content = with_bytes_in (resized 0) n.content }) o)) at)) is
 
 there_keeps : (tree : Tree) (how : Opening) (node number : ℕ) (after : Tree) → IsTree tree → open_there tree how node ≡ Ok (number, after) → IsTree after
@@ -245,6 +254,9 @@ mkdir_path_keeps tree cwd path number after is at fine answered = mkdir_keeps tr
 
 pub bind_path_keeps : (tree : Tree) (cwd : ℕ) (path : List ℕ) (number : ℕ) (after : Tree) → IsTree tree → is_directory tree cwd ≡ true → IsFine path → bind_path tree cwd path ≡ Ok (number, after) → IsTree after
 bind_path_keeps tree cwd path number after is at fine answered = bind_keeps tree (resolve tree cwd path) number after is (path_led tree cwd path is at) (names_of_path tree cwd path fine) answered
+
+pub mkfifo_path_keeps : (tree : Tree) (cwd : ℕ) (path : List ℕ) (number : ℕ) (after : Tree) → IsTree tree → is_directory tree cwd ≡ true → IsFine path → mkfifo_path tree cwd path ≡ Ok (number, after) → IsTree after
+mkfifo_path_keeps tree cwd path number after is at fine answered = mkfifo_keeps tree (resolve tree cwd path) number after is (path_led tree cwd path is at) (names_of_path tree cwd path fine) answered
 
 pub rmdir_path_keeps : (tree : Tree) (cwd : ℕ) (path : List ℕ) (busy : ℕ → Bool) (after : Tree) → IsTree tree → is_directory tree cwd ≡ true → rmdir_path tree cwd path busy ≡ Ok after → IsTree after
 rmdir_path_keeps tree cwd path busy after is at answered =

@@ -7,7 +7,7 @@ use Rattle.kabi_types.specs.declared.errnos.Errno.TheVariants.{EFBIG, EMLINK, EN
 use Rattle.kabi_types.specs.declared.inodes.DirEntry.{DirEntry}
 use Rattle.posix_defs.specs.DiskFormat.{greatest_size, blocks_of}
 use Rattle.posix_defs.specs.FileBytes.{resized, overwritten}
-use Rattle.posix_defs.specs.Tree.{Content, File, Directory, SocketName, Node, Tree, node_at, with_node, is_directory, is_directory_in, is_directory_content, links_at, entries_of, entries_in, entries_at, found, found_among}
+use Rattle.posix_defs.specs.Tree.{Content, File, Directory, SocketName, Fifo, Node, Tree, node_at, with_node, is_directory, is_directory_in, is_directory_content, links_at, entries_of, entries_in, entries_at, found, found_among}
 use Rattle.posix_defs.specs.TreeChanges.{entry_put, entry_taken, entry_aimed, entry_renamed, with_content, with_bytes, with_bytes_in, with_entries, with_new, link_added, link_dropped, hung_if_directory, hung, under, most_links, takes_entry, blocks_for, make, link, unlink, rename_over, rename_to, write, resize, closed}
 use Rattle.posix_defs.specs.IsTree.{IsNewContent, IsTree}
 use Rattle.posix_defs.proofs.TreeNodes.{found_in_directory, free_is, node_at-with_node_other, seen_same}
@@ -218,6 +218,7 @@ same_list : (change : List ℕ → List ℕ) (content : Content) → entries_of 
 same_list change (File bytes) = refl
 same_list change (Directory parent entries) = refl
 same_list change SocketName = refl
+same_list change Fifo = refl
 
 same_entries : (change : List ℕ → List ℕ) (there : Option Node) → entries_in (option_map {T = Node} (λ node. record node { content = with_bytes_in change node.content }) there) ≡ entries_in there
 same_entries change None = refl
@@ -261,6 +262,7 @@ not_listing : (content : Content) → is_directory_content content ≡ false →
 not_listing (File bytes) not = refl
 not_listing (Directory parent entries) not = absurd (false≢true (sym not))
 not_listing SocketName not = refl
+not_listing Fifo not = refl
 
 none_listed : (there : Option Node) → is_directory_in there ≡ false → entries_in there ≡ []
 none_listed None not = refl

@@ -9,7 +9,7 @@ use Rattle.kabi_types.specs.declared.errnos.Errno.{Errno}
 use Rattle.kabi_types.specs.declared.inodes.DirEntry.{DirEntry}
 use Rattle.posix_defs.specs.DiskFormat.{greatest_size, table_end, table_nodes, blocks_of}
 use Rattle.posix_defs.specs.DiskContents.{entry_for}
-use Rattle.posix_defs.specs.Tree.{Content, File, Directory, SocketName, Node, Tree, root, node_at, with_node, is_in_use, is_directory, is_directory_in, is_directory_content, links_in, links_at, entries_of, entries_in, entries_at, parent_of, parent_in, parent_at, size_of, size_in, size_at, blocks_in, used_blocks, free_blocks, free_node, found, found_among, climbed}
+use Rattle.posix_defs.specs.Tree.{Content, File, Directory, SocketName, Fifo, Node, Tree, root, node_at, with_node, is_in_use, is_directory, is_directory_in, is_directory_content, links_in, links_at, entries_of, entries_in, entries_at, parent_of, parent_in, parent_at, size_of, size_in, size_at, blocks_in, used_blocks, free_blocks, free_node, found, found_among, climbed}
 use Rattle.posix_defs.specs.TreeChanges.{entry_put, entry_taken, with_entries, with_new, make, make_at, takes_entry, entry_growth, unlink, closed}
 use Rattle.posix_defs.specs.PathCalls.{is_socket}
 use Rattle.posix_defs.specs.IsTree.{AreEntries, IsEntryName, IsNewContent, IsNode, IsTree, names_node, names_of}
@@ -160,16 +160,19 @@ new_is_node dir (File bytes) is = subst (λ (b : List ℕ). IsNode (record { lin
 new_is_node dir (Directory parent entries) is = subst (λ (es : List DirEntry). IsNode (record { links = 1; content = Directory parent es })) (sym is.1)
     (record { content = record { names = λ k d lt. absurd (omega (arith, lt)); distinct = λ i j d lt within. absurd (omega (arith, within)) }; size = omega arith; links = omega arith; single = λ _. refl; socket = λ _. omega arith })
 new_is_node dir SocketName is = record { content = tt; size = omega arith; links = omega arith; single = λ _. refl; socket = λ _. omega arith }
+new_is_node dir Fifo is = record { content = tt; size = omega arith; links = omega arith; single = λ _. refl; socket = λ _. omega arith }
 
 pub new_entries_none : (dir : ℕ) (content : Content) → IsNewContent dir content → entries_of content ≡ []
 new_entries_none dir (File bytes) is = refl
 new_entries_none dir (Directory parent entries) is = is.1
 new_entries_none dir SocketName is = refl
+new_entries_none dir Fifo is = refl
 
 new_parent : (dir : ℕ) (content : Content) → IsNewContent dir content → is_directory_content content ≡ true → parent_of content ≡ dir
 new_parent dir (File bytes) is at = absurd (false≢true at)
 new_parent dir (Directory parent entries) is at = is.0
 new_parent dir SocketName is at = absurd (false≢true at)
+new_parent dir Fifo is at = absurd (false≢true at)
 
 climbed_directory : (tree : Tree) (steps dir : ℕ) → IsTree tree → is_directory tree dir ≡ true → is_directory tree (climbed tree steps dir) ≡ true
 climbed_directory tree zero dir is at = at
@@ -331,6 +334,7 @@ closed_keeps tree number is used =
     not_directory_content (File bytes) not_dir = (refl, refl)
     not_directory_content (Directory parent entries) not_dir = absurd (false≢true (sym not_dir))
     not_directory_content SocketName not_dir = (refl, refl)
+    not_directory_content Fifo not_dir = (refl, refl)
 
     not_directory : (there : Option Node) → is_directory_in there ≡ false → (parent_in there ≡ root) × (entries_in there ≡ [])
     not_directory None not_dir = (refl, refl)

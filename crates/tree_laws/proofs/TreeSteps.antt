@@ -6,7 +6,7 @@ use Rattle.std.proofs.lemmas.List.{set_past}
 use Rattle.std.proofs.lemmas.Option.{same_Some, none-some}
 use Rattle.kabi_types.specs.declared.inodes.DirEntry.{DirEntry}
 use Rattle.posix_defs.specs.DiskFormat.{greatest_size, blocks_of}
-use Rattle.posix_defs.specs.Tree.{Content, File, Directory, SocketName, Node, Tree, node_at, with_node, is_in_use, is_directory, is_directory_in, is_directory_content, links_in, links_at, entries_of, entries_in, entries_at, parent_of, parent_in, parent_at, size_of, size_in, size_at, blocks_in, used_blocks}
+use Rattle.posix_defs.specs.Tree.{Content, File, Directory, SocketName, Fifo, Node, Tree, node_at, with_node, is_in_use, is_directory, is_directory_in, is_directory_content, links_in, links_at, entries_of, entries_in, entries_at, parent_of, parent_in, parent_at, size_of, size_in, size_at, blocks_in, used_blocks}
 use Rattle.posix_defs.specs.TreeChanges.{with_entries_in, with_entries, left_of, left_in, link_dropped, under, hung, hung_if_directory}
 use Rattle.posix_defs.specs.PathCalls.{is_socket, is_socket_kind, kind_in, kind_of_content}
 use Rattle.posix_defs.specs.IsTree.{AreEntries, IsNode, named_in, names_of}
@@ -40,6 +40,7 @@ directory_is (Some node) is = ap (λ (content : Content). Some (record { links =
     content_is (File bytes) is = absurd (false≢true is)
     content_is (Directory parent entries) is = refl
     content_is SocketName is = absurd (false≢true is)
+    content_is Fifo is = absurd (false≢true is)
 
 -- the same directory with other entries
 abbrev pub listing : Tree → ℕ → List DirEntry → Node
@@ -154,11 +155,13 @@ no_entries : (content : Content) → is_directory_content content ≡ false → 
 no_entries (File bytes) not_dir = refl
 no_entries (Directory parent entries) not_dir = absurd (false≢true (sym not_dir))
 no_entries SocketName not_dir = refl
+no_entries Fifo not_dir = refl
 
 entries_gone : (content : Content) → (is_directory_content content ≡ true → entries_of content ≡ []) → entries_of content ≡ []
 entries_gone (File bytes) empty = refl
 entries_gone (Directory parent entries) empty = empty refl
 entries_gone SocketName empty = refl
+entries_gone Fifo empty = refl
 
 dropped_at : (tree : Tree) (number : ℕ) (opened : Bool) (node : Node) → AreNodes tree → IsNumber tree number → node_at tree number ≡ Some node → 0 < node.links
     → (is_directory_content node.content ≡ true → (entries_of node.content ≡ []) × (opened ≡ false)) → Dropped tree (with_node tree number (left_of opened node)) number

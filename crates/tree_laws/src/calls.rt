@@ -6,7 +6,7 @@ ghost use Rattle.kabi_types.specs.Arguments.{path_fault};
 ghost use Rattle.kabi_types.specs.declared.scripts.Program.{Program};
 ghost use Rattle.posix_defs.specs.Tree.{Tree, is_directory};
 ghost use Rattle.posix_defs.specs.IsTree.{IsTree};
-ghost use Rattle.posix_defs.specs.PathCalls.{Opening, bind_path, link_path, mkdir_path, open_path, program_of, rename_path, rmdir_path, unlink_path};
+ghost use Rattle.posix_defs.specs.PathCalls.{Opening, bind_path, link_path, mkdir_path, mkfifo_path, open_path, program_of, rename_path, rmdir_path, unlink_path};
 
 /// A call on a path leaves a tree. The names that it makes are those of paths that the argument check passes, without a
 /// zero byte.
@@ -15,6 +15,8 @@ pub fn calls_on_paths_leave_a_tree()
         → (path_fault path ≡ None) × All (λ byte. (0 < byte) × (byte < 2 ^ 8)) path → open_path tree cwd path how ≡ Ok (number, after) → IsTree after }
     ensures mkdir { (tree : Tree) (cwd : ℕ) (path : List ℕ) (number : ℕ) (after : Tree) → IsTree tree → is_directory tree cwd ≡ true
         → (path_fault path ≡ None) × All (λ byte. (0 < byte) × (byte < 2 ^ 8)) path → mkdir_path tree cwd path ≡ Ok (number, after) → IsTree after }
+    ensures mkfifo { (tree : Tree) (cwd : ℕ) (path : List ℕ) (number : ℕ) (after : Tree) → IsTree tree → is_directory tree cwd ≡ true
+        → (path_fault path ≡ None) × All (λ byte. (0 < byte) × (byte < 2 ^ 8)) path → mkfifo_path tree cwd path ≡ Ok (number, after) → IsTree after }
     ensures bind { (tree : Tree) (cwd : ℕ) (path : List ℕ) (number : ℕ) (after : Tree) → IsTree tree → is_directory tree cwd ≡ true
         → (path_fault path ≡ None) × All (λ byte. (0 < byte) × (byte < 2 ^ 8)) path → bind_path tree cwd path ≡ Ok (number, after) → IsTree after }
     ensures rmdir { (tree : Tree) (cwd : ℕ) (path : List ℕ) (busy : ℕ → Bool) (after : Tree) → IsTree tree → is_directory tree cwd ≡ true

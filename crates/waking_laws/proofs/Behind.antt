@@ -30,11 +30,11 @@ use Rattle.posix_defs.specs.Turn.{Tells, TurnsTo, TurnsWhere}
 use Rattle.posix_defs.specs.World.{World}
 use Rattle.posix_defs.specs.declared.turner.Turned.{Turned}
 use Rattle.posix_defs.specs.declared.turner.Turned.TheVariants as turned
-use Rattle.waking_laws.specs.Waking.{Lasts, StaysAsItWas, StaysItself, awaited, gives_number, is_apart, meet, moves_through, passes_by, target_at, wakes_nobody}
+use Rattle.waking_laws.specs.Waking.{Lasts, StaysAsItWas, StaysItself, awaited, gives_number, is_apart, meet, moves_through, no_fifo, passes_by, target_at, wakes_nobody}
 use Rattle.waking_laws.proofs.Moving.{IsMoved, LastsTo, moves_answer}
 use Rattle.waking_laws.proofs.OwnNumbers.{leaves_numbers}
 use Rattle.waking_laws.proofs.Passing.{nothing_changed}
-use Rattle.waking_laws.proofs.QuietCalls.{IsQuiet, quiet_answer}
+use Rattle.waking_laws.proofs.QuietCalls.{IsQuiet, QuietIf, quiet_answer}
 use Rattle.waking_laws.proofs.Seeing.{SeesQueue, SeesQueues, blocks_alike}
 use Rattle.waking_laws.proofs.Staying.{is_there, itself, same_targets, sees}
 
@@ -132,8 +132,8 @@ module _ (script : Script) (old : Plain) (pid who : ℕ) (reached : IsReached sc
       let own : KeepsOwn who old new = left.own in
       let described : AreDescribed old.files = (reached_keeps reached).1 in
       record {
-        itself = itself who old new described own.control own.numbers moved.described moved.kin script;
-        waits = blocks_alike script who old new (sees who old new described own.control own.numbers moved.described moved.kin)
+        itself = itself who old new described own.control own.numbers moved.described moved.kin own.waits moved.opens script;
+        waits = blocks_alike script who old new (sees who old new described own.control own.numbers moved.described moved.kin own.waits moved.opens)
             (apart_sees old.files new.files (target_at old.files pid fd) moved.pipes moved.sockets who (awaited (call_of script old who)) other);
       }
 
@@ -231,29 +231,28 @@ module _ (script : Script) (old : Plain) (pid : ℕ) (reached : IsReached script
       let c : length old.table ≡ last_pid old = placed.counted in
       let d : length old.files.descriptors ≡ last_pid old = (let places = placed.places in places.counted) in omega arith
 
-  left_by : (given : Answer) (told : Turned) (new : Plain) → Tells given old told new → LeadsTo (λ next. descriptors_of next.files pid ≡ descriptors_of old.files pid) given
-      → LeadsTo (IsQuiet 0 old) given → (fd : ℤ) → target_at new.files pid fd ≡ target_at old.files pid fd
-  left_by Blocked told new tells numbers quiet fd = unchanged new (ap (λ (plain : Plain). plain.files) tells.1) fd
-  left_by (Done said next) told new tells numbers quiet fd = left next new tells.1 numbers quiet fd
-    where
-      left : (next new : Plain) → new ≡ next → descriptors_of next.files pid ≡ descriptors_of old.files pid → IsQuiet 0 old next → (fd : ℤ) → target_at new.files pid fd ≡ target_at old.files pid fd
-      left next new same numbers quiet fd =
-          ap (λ (plain : Plain). target_at plain.files pid fd) same
-          ∙ same_targets pid old.files next.files numbers (let files = quiet.files in files.described) (reached_keeps reached).1 fd
-  left_by (Part moved next) told new tells numbers quiet fd =
-      ap (λ (plain : Plain). target_at plain.files pid fd) tells.1
-      ∙ same_targets pid old.files next.files numbers (let files = quiet.files in files.described) (reached_keeps reached).1 fd
-  left_by (Ended status next) told new tells numbers quiet fd =
-      ap (λ (plain : Plain). target_at plain.files pid fd) tells.1
-      ∙ same_targets pid old.files next.files numbers (let files = quiet.files in files.described) (reached_keeps reached).1 fd
+  left : (which : Call) (next new : Plain) → wakes_nobody (no_fifo new.files) which ≡ true → new ≡ next → descriptors_of next.files pid ≡ descriptors_of old.files pid → QuietIf 0 old which next
+      → (fd : ℤ) → target_at new.files pid fd ≡ target_at old.files pid fd
+  left which next new e same numbers quiet fd =
+      ap (λ (plain : Plain). target_at plain.files pid fd) same
+      ∙ same_targets pid old.files next.files numbers
+      (let it : IsQuiet 0 old next = quiet (ap (λ (plain : Plain). wakes_nobody (no_fifo plain.files) which) (sym same) ∙ e) in let files = it.files in files.described) (reached_keeps reached).1 fd
 
-  quietly : (which : Call) (told : Turned) (new : Plain) → wakes_nobody which ≡ true → gives_number which ≡ false → Tells (machine script old pid which) old told new
+  left_by : (which : Call) (given : Answer) (told : Turned) (new : Plain) → wakes_nobody (no_fifo new.files) which ≡ true → Tells given old told new
+      → LeadsTo (λ next. descriptors_of next.files pid ≡ descriptors_of old.files pid) given
+      → LeadsTo (QuietIf 0 old which) given → (fd : ℤ) → target_at new.files pid fd ≡ target_at old.files pid fd
+  left_by which Blocked told new e tells numbers quiet fd = unchanged new (ap (λ (plain : Plain). plain.files) tells.1) fd
+  left_by which (Done said next) told new e tells numbers quiet fd = left which next new e tells.1 numbers quiet fd
+  left_by which (Part moved next) told new e tells numbers quiet fd = left which next new e tells.1 numbers quiet fd
+  left_by which (Ended status next) told new e tells numbers quiet fd = left which next new e tells.1 numbers quiet fd
+
+  quietly : (which : Call) (told : Turned) (new : Plain) → wakes_nobody (no_fifo new.files) which ≡ true → gives_number which ≡ false → Tells (machine script old pid which) old told new
       → (fd : ℤ) → target_at new.files pid fd ≡ target_at old.files pid fd
   quietly which told new e f tells fd =
-      left_by (machine script old pid which) told new tells (leaves_numbers script old pid made which e f)
-      (quiet_answer script old pid 0 (none_is_zero script old pid lives) (omega arith) which e) fd
+      left_by which (machine script old pid which) told new e tells (leaves_numbers script old pid made (no_fifo new.files) which e f)
+      (quiet_answer script old pid 0 (none_is_zero script old pid lives) (omega arith) which) fd
 
-  passed_so : (which : Call) (told : Turned) (new : Plain) → passes_by which told ≡ true → gives_number which ≡ false → Tells (machine script old pid which) old told new
+  passed_so : (which : Call) (told : Turned) (new : Plain) → passes_by (no_fifo new.files) which told ≡ true → gives_number which ≡ false → Tells (machine script old pid which) old told new
       → (fd : ℤ) → target_at new.files pid fd ≡ target_at old.files pid fd
   passed_so which turned.Sleep new e f tells fd = unchanged new (ap (λ (plain : Plain). plain.files) (slept _ new tells)) fd
   passed_so which turned.Gone new e f tells fd = unchanged new (ap (λ (plain : Plain). plain.files) (gone _ new tells)) fd
@@ -264,7 +263,7 @@ module _ (script : Script) (old : Plain) (pid : ℕ) (reached : IsReached script
   passed_so which (turned.Ended status) new e f tells fd = cc
 
 pub own_passed : (script : Script) (old new : World) (pid : ℕ) (fd : ℤ) (which : Call) (told : Turned) → IsReached script old.plain
-    → TurnsTo script old pid which told new → passes_by which told ≡ true → gives_number which ≡ false
+    → TurnsTo script old pid which told new → passes_by (no_fifo new.plain.files) which told ≡ true → gives_number which ≡ false
     → target_at new.plain.files pid fd ≡ target_at old.plain.files pid fd
 own_passed script old new pid fd which told reached turns passes none = go (is_alive old.plain.table pid) refl turns
   where

@@ -1,9 +1,10 @@
 -- What a call that moves bytes changes: the one queue that its number is open on, and of descriptions nothing but an offset.
-use Rattle.std.proofs.Common.{◌≡◌, ◌≢◌, ℕ, ◌+◌, ◌-◌, ◌==◌, ℤ, pos, Bool, true, false, cond, if◌then◌else◌, List, [], ◌∷◌, length, Option, None, Some, Result, Ok, Err, refl, ap, sym, ◌∙◌, subst, inl, inr, unwrap_or, slice_set}
+use Rattle.std.proofs.Common.{◌≡◌, ◌≢◌, ℕ, ◌+◌, ◌-◌, ◌≤◌, ◌==◌, ℤ, pos, Bool, true, false, cond, if◌then◌else◌, List, [], ◌∷◌, length, Option, None, Some, Result, Ok, Err, refl, ap, sym, ◌∙◌, subst, inl, inr, unwrap_or, slice_set}
 use Rattle.std.specs.Prelude.{slice_index_or}
 use Rattle.std.specs.Option.{option_map}
 use Rattle.std.proofs.lemmas.Bool.Decides.{eqb_tells}
-use Rattle.std.proofs.lemmas.List.{get_or-set_other}
+use Rattle.std.proofs.lemmas.List.{get_or-set_other, get_or-set_same, get_or_past, length-set}
+use Rattle.kern_laws.proofs.TablePlaces.{below_or_not}
 use Rattle.kabi_types.specs.Arguments.{argument_fault, count_of}
 use Rattle.kabi_types.specs.declared.calls.Call.{Call}
 use Rattle.kabi_types.specs.declared.calls.Call.TheVariants as call
@@ -22,7 +23,7 @@ use Rattle.posix_defs.specs.Files.State.{Files, described_as, descriptors_of, pi
 use Rattle.posix_defs.specs.Machine.{answer_to, machine, unless_wrong}
 use Rattle.posix_defs.specs.Memory.{Memory, is_mapped_range, stored}
 use Rattle.posix_defs.specs.PathCalls.{read_node}
-use Rattle.posix_defs.specs.Pipe.{Moving, Moves, Blocks, Fails, Pipe, new_pipe, pipe_read, pipe_write}
+use Rattle.posix_defs.specs.Pipe.{Moving, Moves, Blocks, Fails, Pipe, after_read, after_write, new_pipe, opens_of, pipe_read, pipe_write}
 use Rattle.posix_defs.specs.Plain.{Plain, with_files}
 use Rattle.posix_defs.specs.Process.{Table, memory_of, process_at, remembering, with_memory}
 use Rattle.posix_defs.specs.Socket.{is_connected}
@@ -42,6 +43,7 @@ pub record IsMoved (target : Option Target) (pid who : ℕ) (old new : Plain) : 
   pub pipes : (place : ℕ) → meet target (Some (OnPipe place)) ≡ false → pipe_at new.files place ≡ pipe_at old.files place
   pub sockets : (place : ℕ) → meet target (Some (OnSocket place)) ≡ false → SameSockets old.files.sockets new.files.sockets
   pub kin : SameKin who old.table new.table
+  pub opens : (place : ℕ) (writing : Bool) → opens_of (pipe_at new.files place) writing ≡ opens_of (pipe_at old.files place) writing
 
 -- an answer that doesn't end its caller leads to what has this
 abbrev pub LastsTo : (Plain → Type 0) → Answer → Type 0
@@ -70,6 +72,18 @@ other_pipe files at place pipe apart = elim (eqb_tells at place) [
     both : {b : Bool} → b ≡ true → b ≡ false → ⊥
     both e f = cc
 
+-- each side of a pipe was opened as often where one is moved of
+same_opens : (files : Files) (at place : ℕ) (pipe : Pipe) (writing : Bool) → opens_of pipe writing ≡ opens_of (pipe_at files at) writing
+    → opens_of (pipe_at (with_pipe files at (Some pipe)) place) writing ≡ opens_of (pipe_at files place) writing
+same_opens files at place pipe writing same = elim (eqb_tells place at) [
+  | inr apart ↦ ap (λ there. opens_of (unwrap_or there new_pipe) writing) (get_or-set_other files.pipes at place (Some pipe) None apart.1)
+  | inl alike ↦ ap (λ n. opens_of (pipe_at (with_pipe files at (Some pipe)) n) writing) alike.1 ∙ elim (below_or_not at (length files.pipes)) [
+    | inl within ↦ ap (λ there. opens_of (unwrap_or there new_pipe) writing) (get_or-set_same files.pipes at (Some pipe) None within) ∙ same
+    | inr beyond ↦ ap (λ there. opens_of (unwrap_or there new_pipe) writing)
+        (get_or_past (slice_set files.pipes at (Some pipe)) at None (subst (λ n. n ≤ at) (sym (length-set files.pipes at (Some pipe))) beyond) ∙ sym (get_or_past files.pipes at None beyond))
+  ] ∙ sym (ap (λ n. opens_of (pipe_at files n) writing) alike.1)
+]
+
 module _ (script : Script) (plain : Plain) (pid who : ℕ) (apart : who ≢ pid) where
   -- what is asked of an answer of what such a target is open on
   abbrev Moved : Option Target → Answer → Type 0
@@ -89,6 +103,7 @@ module _ (script : Script) (plain : Plain) (pid who : ℕ) (apart : who ≢ pid)
     pipes = λ place e. ap (λ (it : Files). pipe_at it place) files;
     sockets = λ place e. subst (λ (it : Files). SameSockets plain.files.sockets it.sockets) (sym files) (same_sockets plain.files.sockets);
     kin = subst (λ (it : Table). SameKin who plain.table it) (sym table) family;
+    opens = λ place writing. ap (λ (it : Files). opens_of (pipe_at it place) writing) files;
   }
 
   -- queues are kept, whatever the target is
@@ -100,6 +115,7 @@ module _ (script : Script) (plain : Plain) (pid who : ℕ) (apart : who ≢ pid)
     pipes = λ place e. kept.pipes place;
     sockets = λ place e. kept.sockets;
     kin = kin;
+    opens = λ place writing. ap (λ pipe. opens_of pipe writing) (kept.pipes place);
   }
 
   either : (target : Option Target) (b : Bool) (one two : Answer) → Moved target one → Moved target two → Moved target (cond b one two)
@@ -121,13 +137,15 @@ module _ (script : Script) (plain : Plain) (pid who : ℕ) (apart : who ≢ pid)
   -- ---- queues
 
   -- the pipe of one place has changed, and what the caller has in memory
-  one_pipe : (at : ℕ) (pipe : Option Pipe) (new : Plain) → new.files ≡ with_pipe plain.files at pipe → SameKin who plain.table new.table → IsMoved (Some (OnPipe at)) pid who plain new
-  one_pipe at pipe new files kin = record {
+  one_pipe : (at : ℕ) (pipe : Pipe) (new : Plain) → new.files ≡ with_pipe plain.files at (Some pipe) → ((writing : Bool) → opens_of pipe writing ≡ opens_of (pipe_at plain.files at) writing)
+      → SameKin who plain.table new.table → IsMoved (Some (OnPipe at)) pid who plain new
+  one_pipe at pipe new files same kin = record {
     numbers = ap (λ (it : Files). descriptors_of it pid) files;
     described = λ place was is. (was, ap (λ (it : Files). slice_index_or it.descriptions place None) files ∙ is, (refl, refl, refl));
-    pipes = λ place e. ap (λ (it : Files). pipe_at it place) files ∙ other_pipe plain.files at place pipe e;
+    pipes = λ place e. ap (λ (it : Files). pipe_at it place) files ∙ other_pipe plain.files at place (Some pipe) e;
     sockets = λ place e. subst (λ (it : Files). SameSockets plain.files.sockets it.sockets) (sym files) (same_sockets plain.files.sockets);
     kin = kin;
+    opens = λ place writing. ap (λ (it : Files). opens_of (pipe_at it place) writing) files ∙ same_opens plain.files at place pipe writing (same writing);
   }
 
   -- sockets have changed
@@ -138,6 +156,7 @@ module _ (script : Script) (plain : Plain) (pid who : ℕ) (apart : who ≢ pid)
     pipes = λ place e. ap (λ (it : Files). pipe_at it place) files;
     sockets = λ place e. absurd (never e);
     kin = kin;
+    opens = λ place writing. ap (λ (it : Files). opens_of (pipe_at it place) writing) files;
   }
     where
       never : true ≡ false → ⊥
@@ -154,7 +173,7 @@ module _ (script : Script) (plain : Plain) (pid who : ℕ) (apart : who ≢ pid)
       (nothing (Some opened.is.target) _ refl refl))
     where
       from_pipe : (place : ℕ) (moving : Moving) → Moved (Some (OnPipe place)) (read_from_pipe script plain pid place addr moving)
-      from_pipe place (Moves k) = one_pipe place _ _ refl (remembers _)
+      from_pipe place (Moves k) = one_pipe place (after_read (pipe_at plain.files place) k) _ refl (λ writing. refl) (remembers _)
       from_pipe place Blocks = tt
       from_pipe place (Fails errno) = nothing (Some (OnPipe place)) _ refl refl
 
@@ -186,6 +205,7 @@ module _ (script : Script) (plain : Plain) (pid who : ℕ) (apart : who ≢ pid)
         pipes = λ place e. ap (λ (it : Files). pipe_at it place) files ∙ moved.pipes place e;
         sockets = λ place e. subst (λ (it : Files). SameSockets plain.files.sockets it.sockets) (sym files) (moved.sockets place e);
         kin = subst (λ (it : Table). SameKin who plain.table it) (sym table) moved.kin;
+        opens = λ place writing. ap (λ (it : Files). opens_of (pipe_at it place) writing) files ∙ moved.opens place writing;
       }
 
       go : (all early : Bool)
@@ -222,7 +242,8 @@ module _ (script : Script) (plain : Plain) (pid who : ℕ) (apart : who ≢ pid)
           (tree_write plain.files.tree number (place_of_write plain.files.tree opened number) (bytes_left plain pid addr (count_of n) done))
       go opened is (OnPipe place) =
           queue_moves (Some (OnPipe place)) opened.is.nonblock (count_of n) done (put_in_pipe plain.files place (bytes_left plain pid addr (count_of n) done))
-          (pipe_write (pipe_at plain.files place) opened.is.nonblock (count_of n) (count_of n - done)) (λ k. one_pipe place _ _ refl family)
+          (pipe_write (pipe_at plain.files place) opened.is.nonblock (count_of n) (count_of n - done)) (λ k.
+          one_pipe place (after_write (pipe_at plain.files place) (bytes_left plain pid addr (count_of n) done) k) _ refl (λ writing. refl) family)
       go opened is (OnSocket place) =
           either (Some (OnSocket place)) (is_connected (stage_at plain.files.sockets place)) _ _
           (queue_moves (Some (OnSocket place)) opened.is.nonblock (count_of n) done (put_in_socket plain.files place (bytes_left plain pid addr (count_of n) done))

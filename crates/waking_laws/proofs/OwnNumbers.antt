@@ -11,7 +11,7 @@ use Rattle.machine_laws.proofs.SharedOffsets.{stay_open}
 use Rattle.machine_laws.specs.FileSteps.{LeadsTo}
 use Rattle.posix_defs.specs.Answer.{Answer}
 use Rattle.posix_defs.specs.Calls.OnFiles.{fstat, ftruncate, greatest_offset, is_between_entries, lseek, origin, resized_to, seek_target, seek_to, truncate_target}
-use Rattle.posix_defs.specs.Calls.OnNames.{chdir, freed_in, is_busy, link, made_directory, mkdir, rename, retreed, rmdir, stat, told_of, unlink, works_from}
+use Rattle.posix_defs.specs.Calls.OnNames.{chdir, freed_in, is_busy, link, made_node, mkdir, mkfifo, rename, retreed, rmdir, stat, told_of, unlink, works_from}
 use Rattle.posix_defs.specs.Calls.OnSockets.{bind, bind_at, bound_to, socket_target, unless_fault}
 use Rattle.posix_defs.specs.Calls.Opened.{Opened, answer_on, on_open, opened_at}
 use Rattle.posix_defs.specs.Calls.Polling.{hits_of, poll, revents_of}
@@ -24,7 +24,7 @@ use Rattle.posix_defs.specs.Machine.{answer_to, machine, unless_wrong}
 use Rattle.posix_defs.specs.Memory.{is_mapped_range, lowest_run}
 use Rattle.posix_defs.specs.MemoryCalls.{in_range, mapped_from, mmap}
 use Rattle.posix_defs.specs.Needs.{pages_in}
-use Rattle.posix_defs.specs.PathCalls.{bind_path, enter_path, link_path, mkdir_path, rename_path, rmdir_path, stat_path, unlink_path}
+use Rattle.posix_defs.specs.PathCalls.{bind_path, enter_path, link_path, mkdir_path, mkfifo_path, rename_path, rmdir_path, stat_path, unlink_path}
 use Rattle.posix_defs.specs.Plain.{Plain}
 use Rattle.posix_defs.specs.Process.{directory_of, memory_of}
 use Rattle.posix_defs.specs.Socket.{bind_fault}
@@ -152,7 +152,15 @@ module _ (script : Script) (plain : Plain) (pid : ℕ) (made : pid ≤ length pl
   unfolding mkdir
   makes path = go (mkdir_path plain.files.tree (directory_of plain.table pid) path)
     where
-      go : (r : Result (ℕ × Tree) Errno) → Leaves (made_directory script plain pid r)
+      go : (r : Result (ℕ × Tree) Errno) → Leaves (made_node script plain pid r)
+      go (Ok there) = another_tree (Ok there.1)
+      go (Err e) = refl
+
+  makes_fifo : (path : List ℕ) → Leaves (mkfifo script plain pid path)
+  unfolding mkfifo
+  makes_fifo path = go (mkfifo_path plain.files.tree (directory_of plain.table pid) path)
+    where
+      go : (r : Result (ℕ × Tree) Errno) → Leaves (made_node script plain pid r)
       go (Ok there) = another_tree (Ok there.1)
       go (Err e) = refl
 
@@ -197,36 +205,37 @@ module _ (script : Script) (plain : Plain) (pid : ℕ) (made : pid ≤ length pl
   unfolding poll
   polls timeout entries = either ((hits_of (revents_of plain.files pid entries) == 0) && is_minus_one timeout) _ _ tt refl
 
-  right : (which : Call) → wakes_nobody which ≡ true → gives_number which ≡ false → Leaves (answer_to script plain pid which)
-  right call.Getpid e f = refl
-  right call.Getppid e f = refl
-  right call.SchedYield e f = refl
-  right call.Fork e f = forks
-  right (call.Mmap size) e f = maps size
-  right (call.Munmap addr size) e f = refl
-  right (call.Store addr bytes) e f = ranged addr (length bytes) _ refl
-  right (call.Load addr n) e f = ranged addr (count_of n) _ refl
-  right (call.Pread fd addr n at) e f = preads fd addr n at
-  right (call.Pwrite fd addr n at) e f = pwrites fd addr n at
-  right (call.Lseek fd offset whence) e f = seeks fd offset whence
-  right (call.Readdir fd addr n) e f = lists fd addr n
-  right (call.Ftruncate fd size) e f = truncates fd size
-  right (call.Fstat fd) e f = fstats fd
-  right (call.Stat path) e f = stats path
-  right (call.Chdir path) e f = enters path
-  right (call.Mkdir path) e f = makes path
-  right (call.Rmdir path) e f = removes path
-  right (call.Unlink path) e f = unlinks path
-  right (call.Link old new) e f = links old new
-  right (call.Rename old new) e f = renames old new
-  right (call.Bind fd path) e f = binds fd path
-  right (call.Poll timeout entries) e f = polls timeout entries
-  right (call.Signal which disposition) e f = refl
-  right _ e f = cc
+  right : (no : Bool) (which : Call) → wakes_nobody no which ≡ true → gives_number which ≡ false → Leaves (answer_to script plain pid which)
+  right no call.Getpid e f = refl
+  right no call.Getppid e f = refl
+  right no call.SchedYield e f = refl
+  right no call.Fork e f = forks
+  right no (call.Mmap size) e f = maps size
+  right no (call.Munmap addr size) e f = refl
+  right no (call.Store addr bytes) e f = ranged addr (length bytes) _ refl
+  right no (call.Load addr n) e f = ranged addr (count_of n) _ refl
+  right no (call.Pread fd addr n at) e f = preads fd addr n at
+  right no (call.Pwrite fd addr n at) e f = pwrites fd addr n at
+  right no (call.Lseek fd offset whence) e f = seeks fd offset whence
+  right no (call.Readdir fd addr n) e f = lists fd addr n
+  right no (call.Ftruncate fd size) e f = truncates fd size
+  right no (call.Fstat fd) e f = fstats fd
+  right no (call.Stat path) e f = stats path
+  right no (call.Chdir path) e f = enters path
+  right no (call.Mkdir path) e f = makes path
+  right no (call.Rmdir path) e f = removes path
+  right no (call.Unlink path) e f = unlinks path
+  right no (call.Link old new) e f = links old new
+  right no (call.Rename old new) e f = renames old new
+  right no (call.Mkfifo path) e f = makes_fifo path
+  right no (call.Bind fd path) e f = binds fd path
+  right no (call.Poll timeout entries) e f = polls timeout entries
+  right no (call.Signal which disposition) e f = refl
+  right no _ e f = cc
 
-  pub leaves_numbers : (which : Call) → wakes_nobody which ≡ true → gives_number which ≡ false → Leaves (machine script plain pid which)
-  leaves_numbers which e f = go (argument_fault which)
+  pub leaves_numbers : (no : Bool) (which : Call) → wakes_nobody no which ≡ true → gives_number which ≡ false → Leaves (machine script plain pid which)
+  leaves_numbers no which e f = go (argument_fault which)
     where
       go : (fault : Option Errno) → Leaves (unless_wrong script plain pid fault (answer_to script plain pid which))
-      go None = right which e f
+      go None = right no which e f
       go (Some errno) = refl

@@ -23,17 +23,18 @@ use Rattle.posix_defs.specs.Calls.Opened.{Opened, opened_at, opened_by}
 use Rattle.posix_defs.specs.Control as program
 use Rattle.posix_defs.specs.Files.Descriptions.{Description, description_at}
 use Rattle.posix_defs.specs.Files.Descriptors.{Descriptor, descriptor_at, descriptor_of}
-use Rattle.posix_defs.specs.Files.State.{Files, descriptors_of}
+use Rattle.posix_defs.specs.Files.State.{Files, descriptors_of, opening_at, pipe_at}
 use Rattle.posix_defs.specs.Machine.{machine}
+use Rattle.posix_defs.specs.Pipe.{opens_of}
 use Rattle.posix_defs.specs.Plain.{Plain, answered, at_start, call_of, control_of, with_control}
 use Rattle.posix_defs.specs.Process.{is_alive, is_alive_in, memory_in}
 use Rattle.posix_defs.specs.Turn.{Tells, TurnsTo, TurnsWhere}
 use Rattle.posix_defs.specs.World.{World}
 use Rattle.posix_defs.specs.declared.turner.Turned.{Turned}
 use Rattle.posix_defs.specs.declared.turner.Turned.TheVariants as turned
-use Rattle.waking_laws.specs.Waking.{StaysAsItWas, awaited, passes_by, wakes_nobody}
+use Rattle.waking_laws.specs.Waking.{StaysAsItWas, awaited, no_fifo, passes_by, wakes_nobody}
 use Rattle.waking_laws.proofs.Kin.{SameKin, same_table}
-use Rattle.waking_laws.proofs.QuietCalls.{IsQuiet, quiet_answer, same_files}
+use Rattle.waking_laws.proofs.QuietCalls.{IsQuiet, QuietIf, quiet_answer, same_files}
 use Rattle.waking_laws.proofs.QuietFiles.{KeepsDescribed}
 use Rattle.waking_laws.proofs.Seeing.{blocks_alike}
 use Rattle.waking_laws.proofs.Staying.{itself, sees, sees_queues}
@@ -41,12 +42,14 @@ use Rattle.waking_laws.proofs.Staying.{itself, sees, sees_queues}
 -- ---- a machine that is seen as the same
 
 stays_so : (script : Script) (who : ℕ) (old new : Plain) → AreDescribed old.files → control_of new who ≡ control_of old who
-    → descriptors_of new.files who ≡ descriptors_of old.files who → IsQuiet who old new → StaysAsItWas script who old new
-stays_so script who old new described control numbers quiet =
+    → descriptors_of new.files who ≡ descriptors_of old.files who → opening_at new.files who ≡ opening_at old.files who → IsQuiet who old new → StaysAsItWas script who old new
+stays_so script who old new described control numbers waits quiet =
     let kept : KeepsDescribed old.files new.files = (let files = quiet.files in files.described) in
+    let opens : (place : ℕ) (writing : Bool) → opens_of (pipe_at new.files place) writing ≡ opens_of (pipe_at old.files place) writing =
+    (λ place writing. ap (λ pipe. opens_of pipe writing) (let files = quiet.files in files.pipes place)) in
     record {
-      itself = itself who old new described control numbers kept quiet.kin script;
-      waits = blocks_alike script who old new (sees who old new described control numbers kept quiet.kin)
+      itself = itself who old new described control numbers kept quiet.kin waits opens script;
+      waits = blocks_alike script who old new (sees who old new described control numbers kept quiet.kin waits opens)
           (sees_queues who old.files new.files quiet.files (awaited (call_of script old who)));
     }
 
@@ -59,7 +62,7 @@ pub came_further : (script : Script) (plain : Plain) (pid who : ℕ) (control : 
     → StaysAsItWas script who plain (with_control plain pid control)
 came_further script plain pid who control reached apart =
     stays_so script who plain (with_control plain pid control) (reached_keeps reached).1
-    (ap (λ found. unwrap_or found (at_start 0)) (at_other plain.controls pid who control apart)) refl
+    (ap (λ found. unwrap_or found (at_start 0)) (at_other plain.controls pid who control apart)) refl refl
     (record { files = same_files plain.files; kin = same_table who plain.table })
 
 -- ---- a turn
@@ -72,19 +75,23 @@ module _ (script : Script) (old : Plain) (pid who : ℕ) (reached : IsReached sc
   quietly : (new : Plain) → (is_alive new.table who ≡ true → IsLeftAlone pid who old new) → IsQuiet who old new → StaysAsItWas script who old new
   quietly new alone quiet =
       let own : IsLeftAlone pid who old new = alone (ap is_alive_in (let kin = quiet.kin in kin.itself) ∙ alive) in
-      stays_so script who old new (reached_keeps reached).1 (let it = own.own in it.control) (let it = own.own in it.numbers) quiet
+      stays_so script who old new (reached_keeps reached).1 (let it = own.own in it.control) (let it = own.own in it.numbers) (let it = own.own in it.waits) quiet
 
-  by_answer : (which : Call) (given : Answer) (told : Turned) (new : Plain) → wakes_nobody which ≡ true → Tells given old told new
-      → LeadsTo (λ next. is_alive next.table who ≡ true → IsLeftAlone pid who old next) given → LeadsTo (IsQuiet who old) given → StaysAsItWas script who old new
+  -- the answer leads to this machine, in which a FIFO is open or none
+  there : (which : Call) (new next : Plain) → new ≡ next → wakes_nobody (no_fifo new.files) which ≡ true → wakes_nobody (no_fifo next.files) which ≡ true
+  there which new next same e = ap (λ (plain : Plain). wakes_nobody (no_fifo plain.files) which) (sym same) ∙ e
+
+  by_answer : (which : Call) (given : Answer) (told : Turned) (new : Plain) → wakes_nobody (no_fifo new.files) which ≡ true → Tells given old told new
+      → LeadsTo (λ next. is_alive next.table who ≡ true → IsLeftAlone pid who old next) given → LeadsTo (QuietIf who old which) given → StaysAsItWas script who old new
   by_answer which Blocked told new e tells alone quiet = nothing_changed script who old new tells.1
-  by_answer which (Done said next) told new e tells alone quiet = subst (StaysAsItWas script who old) (sym tells.1) (quietly next alone quiet)
-  by_answer which (Part moved next) told new e tells alone quiet = subst (StaysAsItWas script who old) (sym tells.1) (quietly next alone quiet)
-  by_answer which (Ended status next) told new e tells alone quiet = subst (StaysAsItWas script who old) (sym tells.1) (quietly next alone quiet)
+  by_answer which (Done said next) told new e tells alone quiet = subst (StaysAsItWas script who old) (sym tells.1) (quietly next alone (quiet (there which new next tells.1 e)))
+  by_answer which (Part moved next) told new e tells alone quiet = subst (StaysAsItWas script who old) (sym tells.1) (quietly next alone (quiet (there which new next tells.1 e)))
+  by_answer which (Ended status next) told new e tells alone quiet = subst (StaysAsItWas script who old) (sym tells.1) (quietly next alone (quiet (there which new next tells.1 e)))
 
-  by_call : (which : Call) (told : Turned) (new : Plain) → wakes_nobody which ≡ true → Tells (machine script old pid which) old told new → StaysAsItWas script who old new
+  by_call : (which : Call) (told : Turned) (new : Plain) → wakes_nobody (no_fifo new.files) which ≡ true → Tells (machine script old pid which) old told new → StaysAsItWas script who old new
   by_call which told new e tells =
       by_answer which (machine script old pid which) told new e tells (answers_leave_alone script old reached pid who which lives apart alive)
-      (quiet_answer script old pid who apart made which e)
+      (quiet_answer script old pid who apart made which)
 
   -- a turn that came to nothing, or to an errno
   slept : (given : Answer) (new : Plain) → Tells given old turned.Sleep new → new ≡ old
@@ -109,7 +116,7 @@ module _ (script : Script) (old : Plain) (pid who : ℕ) (reached : IsReached sc
   failed_so which (Part moved next) errno new is tells = cc
   failed_so which (Ended status next) errno new is tells = cc
 
-  answered_so : (which : Call) (told : Turned) (new : Plain) → passes_by which told ≡ true → Tells (machine script old pid which) old told new → StaysAsItWas script who old new
+  answered_so : (which : Call) (told : Turned) (new : Plain) → passes_by (no_fifo new.files) which told ≡ true → Tells (machine script old pid which) old told new → StaysAsItWas script who old new
   answered_so which turned.Sleep new e tells = nothing_changed script who old new (slept _ new tells)
   answered_so which turned.Gone new e tells = nothing_changed script who old new (gone _ new tells)
   answered_so which (turned.Done (reply.Fail errno)) new e tells = failed_so which _ errno new refl tells
@@ -119,7 +126,7 @@ module _ (script : Script) (old : Plain) (pid who : ℕ) (reached : IsReached sc
   answered_so which (turned.Ended status) new e tells = cc
 
 pub passed_by : (script : Script) (old new : World) (pid who : ℕ) (which : Call) (told : Turned) → IsReached script old.plain
-    → TurnsTo script old pid which told new → passes_by which told ≡ true → who ≢ pid → is_alive old.plain.table who ≡ true
+    → TurnsTo script old pid which told new → passes_by (no_fifo new.plain.files) which told ≡ true → who ≢ pid → is_alive old.plain.table who ≡ true
     → StaysAsItWas script who old.plain new.plain
 passed_by script old new pid who which told reached turns passes apart alive = go (is_alive old.plain.table pid) refl turns
   where

@@ -1,5 +1,9 @@
 -- The calls that change nothing which another process's call may wait for.
-use Rattle.std.proofs.Common.{◌≡◌, ◌≢◌, ℕ, ◌+◌, ◌/◌, ◌≤◌, ◌==◌, ◌&&◌, ◌++◌, [], ◌∷◌, nat_lt, ℤ, pos, negsuc, ◌+ℤ◌, Bool, true, false, cond, List, length, Option, None, Some, Result, Ok, Err, refl, ap, sym, subst, ◌∙◌}
+use Rattle.std.proofs.Common.{◌≡◌, ◌≢◌, ℕ, ◌+◌, ◌/◌, ◌≤◌, ◌==◌, ◌&&◌, ◌++◌, [], ◌∷◌, nat_lt, ℤ, pos, negsuc, ◌+ℤ◌, Bool, true, false, cond, List, length, Option, None, Some, Result, Ok, Err, refl, ap, sym, subst, ◌∙◌, ◌<◌, ◌||◌, not, inl, inr, unwrap_or, slice_set}
+use Rattle.std.specs.List.{list_any}
+use Rattle.std.proofs.lemmas.Bool.Decides.{eqb_tells}
+use Rattle.std.proofs.lemmas.List.{get_or-set_same, length-set}
+use Rattle.std.proofs.lemmas.List.Folds.{list_any_at}
 use Rattle.kabi_types.specs.Arguments.{argument_fault, count_of, is_minus_one, page_size}
 use Rattle.kabi_types.specs.declared.calls.Call.{Call}
 use Rattle.kabi_types.specs.declared.calls.Call.TheVariants as call
@@ -9,11 +13,14 @@ use Rattle.kabi_types.specs.declared.replies.StatInfo.{StatInfo}
 use Rattle.kabi_types.specs.declared.short_lists.PollEntry.{PollEntry}
 use Rattle.kabi_types.specs.declared.scripts.Script.{Script}
 use Rattle.machine_laws.specs.FileSteps.{LeadsTo}
-use Rattle.machine_laws.proofs.Places.{naming}
-use Rattle.posix_defs.specs.Answer.{Answer, failed, replied}
+use Rattle.machine_laws.proofs.FifoPlaces.{fifo_at_is, not_zero}
+use Rattle.machine_laws.proofs.Leading.{leads_on}
+use Rattle.machine_laws.proofs.Places.{naming, there_within}
+use Rattle.machine_laws.proofs.Stepping.{end_at}
+use Rattle.posix_defs.specs.Answer.{Answer, Blocked, Done, Ended, Part, failed, replied}
 use Rattle.posix_defs.specs.Calls.OnDescriptors.{dup, duplicated, shared_at}
-use Rattle.posix_defs.specs.Calls.OnFiles.{description_for, fstat, ftruncate, greatest_offset, is_between_entries, lseek, open_at, open_file, opened_node_as, opening_of, origin, resized_to, seek_target, seek_to, truncate_target}
-use Rattle.posix_defs.specs.Calls.OnNames.{chdir, freed_in, is_busy, link, made_directory, mkdir, rename, renamed, retreed, rmdir, stat, told_of, unlink, works_from}
+use Rattle.posix_defs.specs.Calls.OnFiles.{description_for, end_opened, fifo_at, fifo_fault, fifo_pipe, fifo_waits, fstat, ftruncate, greatest_offset, is_between_entries, is_met, lseek, open_at, open_by, open_end, open_file, opened_node_as, opening_of, origin, resized_to, seek_target, seek_to, truncate_target}
+use Rattle.posix_defs.specs.Calls.OnNames.{chdir, freed_in, is_busy, link, made_node, mkdir, mkfifo, rename, renamed, retreed, rmdir, stat, told_of, unlink, works_from}
 use Rattle.posix_defs.specs.Calls.OnPipes.{pipe, piped, piped_under}
 use Rattle.posix_defs.specs.Calls.OnSockets.{bind, bind_at, description_of, bound_to, on_socket, socket, socket_target, socketed, socketed_under, unless_fault}
 use Rattle.posix_defs.specs.Calls.Opened.{Opened, answer_on, if_readable, if_writable, moved_to, on_open, opened_at}
@@ -21,16 +28,17 @@ use Rattle.posix_defs.specs.Calls.Polling.{hits_of, poll, revents_of}
 use Rattle.posix_defs.specs.Calls.Reading.{list_directory, list_target, of_bytes, pread, pread_target, readdir}
 use Rattle.posix_defs.specs.Calls.Writing.{bytes_left, pwrite, pwrite_target, wrote_at}
 use Rattle.posix_defs.specs.Files.Descriptors.{Two, lowest_free, two_lowest_free}
-use Rattle.posix_defs.specs.Files.Descriptions.{Description, Target, OnNode, OnPipe, OnSocket, ReadOnly, WriteOnly, at_offset, has_flag, may_read, may_write, new_description, o_cloexec}
+use Rattle.posix_defs.specs.Files.Descriptions.{Description, Target, OnNode, OnPipe, OnSocket, ReadOnly, WriteOnly, access_of, at_offset, has_flag, may_read, may_write, new_description, o_cloexec}
 use Rattle.posix_defs.specs.Files.SocketNames.{after_freeing}
-use Rattle.posix_defs.specs.Files.State.{Files, described_as, descriptors_of, opened_as, opens, with_heir, with_pipes, with_sockets, with_tree}
+use Rattle.posix_defs.specs.Files.State.{Files, HalfOpen, described_as, descriptors_of, opened_as, opening_at, opens, pipe_at, with_heir, with_opening, with_pipes, with_sockets, with_tree}
+use Rattle.posix_defs.specs.Files.Whole.{is_open}
 use Rattle.posix_defs.specs.Forking.{child_of, fork, is_full, with_child}
 use Rattle.posix_defs.specs.Machine.{answer_to, machine, unless_wrong}
 use Rattle.posix_defs.specs.Memory.{Memory, is_mapped_range, lowest_run, stored, with_pages, without_pages}
 use Rattle.posix_defs.specs.MemoryCalls.{in_range, mapped_from, mmap, munmap, remembered}
 use Rattle.posix_defs.specs.Needs.{pages_in, pages_touched}
-use Rattle.posix_defs.specs.PathCalls.{bind_path, enter_path, link_path, list_node, read_node, mkdir_path, open_path, rename_path, rmdir_path, stat_path, unlink_path}
-use Rattle.posix_defs.specs.Pipe.{new_pipe}
+use Rattle.posix_defs.specs.PathCalls.{bind_path, enter_path, is_fifo, link_path, list_node, read_node, mkdir_path, mkfifo_path, open_path, rename_path, rmdir_path, stat_path, unlink_path}
+use Rattle.posix_defs.specs.Pipe.{Pipe, new_pipe, unopened, with_end}
 use Rattle.posix_defs.specs.Plain.{Plain, answered, with_files, with_table}
 use Rattle.posix_defs.specs.Process.{Ignores, Process, directory_of, ignores_of, ignoring, memory_of, process_at, remembering, with_memory, working_in}
 use Rattle.posix_defs.specs.Signals.{sig_ign, signal, with_disposition}
@@ -38,7 +46,7 @@ use Rattle.posix_defs.specs.Socket.{bind_fault}
 use Rattle.posix_defs.specs.Sockets.{socket_at, with_name, with_new}
 use Rattle.posix_defs.specs.Tree.{Tree, is_directory}
 use Rattle.posix_defs.specs.TreeChanges.{resize, write as tree_write}
-use Rattle.waking_laws.specs.Waking.{wakes_nobody}
+use Rattle.waking_laws.specs.Waking.{is_fifos, no_fifo, wakes_nobody}
 use Rattle.waking_laws.proofs.Kin.{AlikeThere, SameKin, same_after, same_beside_child, same_table}
 use Rattle.waking_laws.proofs.QuietFiles.{KeepsQueues, frees_names, keeps, keeps_on, makes_socket, names_socket, opens_one, pipes_one, redescribes, same_sockets}
 
@@ -59,11 +67,61 @@ ignores_alike : (ignores : Ignores) (there : Option Process) → AlikeThere ther
 ignores_alike ignores None = tt
 ignores_alike ignores (Some process) = (refl, refl)
 
+-- where that call wakes nobody, whatever is open behind it
+abbrev pub QuietIf : ℕ → Plain → Call → Plain → Type 0
+QuietIf who old which new = wakes_nobody (no_fifo new.files) which ≡ true → IsQuiet who old new
+
 pub same_files : (files : Files) → KeepsQueues files files
 same_files files = keeps files files refl refl (same_sockets files.sockets)
 
 pub with_another_tree : (files : Files) (tree : Tree) → KeepsQueues files (with_tree files tree)
 with_another_tree files tree = keeps files (with_tree files tree) refl refl (same_sockets files.sockets)
+
+-- what holds of all machines holds of what an answer leads to
+any_leads : (P : Plain → Type 0) → ((next : Plain) → P next) → (given : Answer) → LeadsTo P given
+any_leads P each Blocked = tt
+any_leads P each (Done said next) = each next
+any_leads P each (Part moved next) = each next
+any_leads P each (Ended status next) = each next
+
+-- where an end of a FIFO was opened, one is open
+fifo_is_open : (files : Files) (pid : ℕ) (flags : ℤ) (fd number : ℕ) → number ≢ 0 → (at : Option ℕ) → fifo_at files number ≡ at → no_fifo (end_opened files pid flags fd number) ≡ true → ⊥
+fifo_is_open files pid flags fd number some at is none = by at is (ap (λ at. no_fifo (end_at files pid flags fd number at)) (sym is) ∙ none)
+  where
+    no : not true ≡ true → ⊥
+    no e = cc
+
+    -- a pipe with the node of the FIFO is that of one
+    with_node : (pipe : Pipe) → pipe.node ≡ number → (writing : Bool) → is_fifos (Some (with_end pipe writing)) ≡ true
+    with_node pipe of true = ap not (go (pipe.node == 0) refl)
+      where
+        go : (b : Bool) → (pipe.node == 0) ≡ b → b ≡ false
+        go true e = elim (eqb_tells pipe.node 0) [ inl alike ↦ absurd (some (sym of ∙ alike.1)) | inr apart ↦ sym e ∙ apart.0 ]
+        go false e = refl
+    with_node pipe of false = ap not (go (pipe.node == 0) refl)
+      where
+        go : (b : Bool) → (pipe.node == 0) ≡ b → b ≡ false
+        go true e = elim (eqb_tells pipe.node 0) [ inl alike ↦ absurd (some (sym of ∙ alike.1)) | inr apart ↦ sym e ∙ apart.0 ]
+        go false e = refl
+
+    set_there : (place : ℕ) (pipe : Pipe) → place < length files.pipes → is_fifos (Some pipe) ≡ true → list_any is_fifos (slice_set files.pipes place (Some pipe)) ≡ true
+    set_there place pipe within is = list_any_at is_fifos (slice_set files.pipes place (Some pipe)) place None
+        (subst (λ n. place < n) (sym (length-set files.pipes place (Some pipe))) within)
+        (ap is_fifos (get_or-set_same files.pipes place (Some pipe) None within) ∙ is)
+
+    last_there : (pipes : List (Option Pipe)) (pipe : Pipe) → is_fifos (Some pipe) ≡ true → list_any is_fifos (pipes ++ Some pipe ∷ []) ≡ true
+    last_there [] pipe is = ap (λ b. b || false) is
+    last_there (first ∷ rest) pipe is = ap (λ b. is_fifos first || b) (last_there rest pipe is) ∙ or_true (is_fifos first)
+      where
+        or_true : (b : Bool) → (b || true) ≡ true
+        or_true true = refl
+        or_true false = refl
+
+    by : (at : Option ℕ) → fifo_at files number ≡ at → no_fifo (end_at files pid flags fd number at) ≡ true → ⊥
+    by (Some place) found e = let fifo = fifo_at_is files number place found in
+        no (sym (ap not (set_there place (with_end (pipe_at files place) (may_write (access_of flags))) (there_within files.pipes place fifo.pipe fifo.is)
+        (with_node (pipe_at files place) (ap (λ o. (unwrap_or o new_pipe).node) fifo.is ∙ fifo.of) (may_write (access_of flags))))) ∙ e)
+    by None found e = no (sym (ap not (last_there files.pipes (with_end (unopened number) (may_write (access_of flags))) (with_node (unopened number) refl (may_write (access_of flags))))) ∙ e)
 
 module _ (script : Script) (plain : Plain) (pid who : ℕ) (apart : who ≢ pid) (made : who ≤ length plain.table) where
   -- what is asked of an answer
@@ -131,22 +189,6 @@ module _ (script : Script) (plain : Plain) (pid who : ℕ) (apart : who ≢ pid)
       }
 
   -- ---- descriptors and descriptions
-
-  opens_file : (path : List ℕ) (flags : ℤ) → Quiet (open_file script plain pid path flags)
-  unfolding open_file
-  opens_file path flags = go (lowest_free (descriptors_of plain.files pid))
-    where
-      there : (fd : ℕ) (r : Result (ℕ × Tree) Errno) → Quiet (opened_node_as script plain pid flags fd r)
-      there fd (Ok found) = record {
-        files = keeps_on plain.files (with_tree plain.files found.1) _ (with_another_tree plain.files found.1)
-            (opens_one pid fd (with_tree plain.files found.1) (has_flag flags o_cloexec) (description_for found.0 flags));
-        kin = family;
-      }
-      there fd (Err e) = record { files = still; kin = family }
-
-      go : (o : Option ℕ) → Quiet (open_at script plain pid path flags o)
-      go None = record { files = still; kin = family }
-      go (Some fd) = there fd (open_path plain.files.tree (directory_of plain.table pid) path (opening_of flags))
 
   dups : (fd : ℤ) → Quiet (dup script plain pid fd)
   unfolding dup
@@ -247,7 +289,15 @@ module _ (script : Script) (plain : Plain) (pid who : ℕ) (apart : who ≢ pid)
   unfolding mkdir
   makes path = go (mkdir_path plain.files.tree (directory_of plain.table pid) path)
     where
-      go : (r : Result (ℕ × Tree) Errno) → Quiet (made_directory script plain pid r)
+      go : (r : Result (ℕ × Tree) Errno) → Quiet (made_node script plain pid r)
+      go (Ok there) = another_tree (Ok there.1)
+      go (Err e) = record { files = still; kin = family }
+
+  makes_fifo : (path : List ℕ) → Quiet (mkfifo script plain pid path)
+  unfolding mkfifo
+  makes_fifo path = go (mkfifo_path plain.files.tree (directory_of plain.table pid) path)
+    where
+      go : (r : Result (ℕ × Tree) Errno) → Quiet (made_node script plain pid r)
       go (Ok there) = another_tree (Ok there.1)
       go (Err e) = record { files = still; kin = family }
 
@@ -323,40 +373,105 @@ module _ (script : Script) (plain : Plain) (pid who : ℕ) (apart : who ≢ pid)
 
   -- ---- each of them
 
-  right : (which : Call) → wakes_nobody which ≡ true → Quiet (answer_to script plain pid which)
-  right call.Getpid e = record { files = still; kin = family }
-  right call.Getppid e = record { files = still; kin = family }
-  right call.SchedYield e = record { files = still; kin = family }
-  right call.Fork e = forks
-  right (call.Mmap size) e = maps size
-  right (call.Munmap addr size) e = record { files = still; kin = remembers (without_pages (memory_of plain.table pid) (count_of addr / page_size) (pages_touched (count_of addr) (count_of size))) }
-  right (call.Store addr bytes) e = ranged addr (length bytes) _ (record { files = still; kin = remembers (stored (memory_of plain.table pid) (count_of addr) bytes) })
-  right (call.Load addr n) e = ranged addr (count_of n) _ (record { files = still; kin = family })
-  right (call.OpenFile path flags) e = opens_file path flags
-  right (call.Dup fd) e = dups fd
-  right (call.Pread fd addr n at) e = preads fd addr n at
-  right (call.Pwrite fd addr n at) e = pwrites fd addr n at
-  right (call.Lseek fd offset whence) e = seeks fd offset whence
-  right (call.Readdir fd addr n) e = lists fd addr n
-  right (call.Ftruncate fd size) e = truncates fd size
-  right (call.Fstat fd) e = fstats fd
-  right (call.Stat path) e = stats path
-  right (call.Chdir path) e = enters path
-  right (call.Mkdir path) e = makes path
-  right (call.Rmdir path) e = removes path
-  right (call.Unlink path) e = unlinks path
-  right (call.Link old new) e = links old new
-  right (call.Rename old new) e = renames old new
-  right call.Pipe e = pipes
-  right call.Socket e = sockets
-  right (call.Bind fd path) e = binds fd path
-  right (call.Poll timeout entries) e = polls timeout entries
-  right (call.Signal which disposition) e = disposes which disposition
-  right _ e = cc
+  right : (which : Call) → is_open which ≡ false → wakes_nobody true which ≡ true → Quiet (answer_to script plain pid which)
+  right call.Getpid o e = record { files = still; kin = family }
+  right call.Getppid o e = record { files = still; kin = family }
+  right call.SchedYield o e = record { files = still; kin = family }
+  right call.Fork o e = forks
+  right (call.Mmap size) o e = maps size
+  right (call.Munmap addr size) o e = record { files = still; kin = remembers (without_pages (memory_of plain.table pid) (count_of addr / page_size) (pages_touched (count_of addr) (count_of size))) }
+  right (call.Store addr bytes) o e = ranged addr (length bytes) _ (record { files = still; kin = remembers (stored (memory_of plain.table pid) (count_of addr) bytes) })
+  right (call.Load addr n) o e = ranged addr (count_of n) _ (record { files = still; kin = family })
+  right (call.Dup fd) o e = dups fd
+  right (call.Pread fd addr n at) o e = preads fd addr n at
+  right (call.Pwrite fd addr n at) o e = pwrites fd addr n at
+  right (call.Lseek fd offset whence) o e = seeks fd offset whence
+  right (call.Readdir fd addr n) o e = lists fd addr n
+  right (call.Ftruncate fd size) o e = truncates fd size
+  right (call.Fstat fd) o e = fstats fd
+  right (call.Stat path) o e = stats path
+  right (call.Chdir path) o e = enters path
+  right (call.Mkdir path) o e = makes path
+  right (call.Rmdir path) o e = removes path
+  right (call.Unlink path) o e = unlinks path
+  right (call.Link old new) o e = links old new
+  right (call.Rename old new) o e = renames old new
+  right call.Pipe o e = pipes
+  right call.Socket o e = sockets
+  right (call.Bind fd path) o e = binds fd path
+  right (call.Poll timeout entries) o e = polls timeout entries
+  right (call.Mkfifo path) o e = makes_fifo path
+  right (call.Signal which disposition) o e = disposes which disposition
+  right _ o e = cc
 
-  pub quiet_answer : (which : Call) → wakes_nobody which ≡ true → Quiet (machine script plain pid which)
-  quiet_answer which e = go (argument_fault which)
+  quiet_answered : (which : Call) → is_open which ≡ false → wakes_nobody true which ≡ true → Quiet (machine script plain pid which)
+  quiet_answered which o e = go (argument_fault which)
     where
       go : (fault : Option Errno) → Quiet (unless_wrong script plain pid fault (answer_to script plain pid which))
-      go None = right which e
+      go None = right which o e
       go (Some errno) = record { files = still; kin = family }
+
+  -- ---- open, which may open a FIFO
+
+  abbrev QuietOpen : List ℕ → ℤ → Answer → Type 0
+  QuietOpen path flags given = LeadsTo (QuietIf who plain (call.OpenFile path flags)) given
+
+  opens_file : (path : List ℕ) (flags : ℤ) → QuietOpen path flags (open_file script plain pid path flags)
+  unfolding open_file
+  opens_file path flags = begins (opening_at plain.files pid)
+    where
+      choose : (b : Bool) (one two : Answer) → (b ≡ true → QuietOpen path flags one) → (b ≡ false → QuietOpen path flags two) → QuietOpen path flags (cond b one two)
+      choose true one two this that = this refl
+      choose false one two this that = that refl
+
+      -- a FIFO is open then
+      end : (fd number : ℕ) → number ≢ 0 → (fault : Option Errno) → QuietOpen path flags (open_end script plain pid flags fd number fault)
+      end fd number some (Some e) = λ none. record { files = still; kin = family }
+      end fd number some None = choose (fifo_waits (fifo_pipe plain.files number) flags) _ _
+          (λ waits none. absurd (fifo_is_open plain.files pid flags fd number some (fifo_at plain.files number) refl none))
+          (λ goes none. absurd (fifo_is_open plain.files pid flags fd number some (fifo_at plain.files number) refl none))
+
+      there : (fd : ℕ) (r : Result (ℕ × Tree) Errno) → QuietOpen path flags (opened_node_as script plain pid flags fd r)
+      there fd (Ok found) = choose (is_fifo found.1 found.0) _ _ (λ fifo. end fd found.0 (not_zero found.1 found.0 fifo) (fifo_fault (fifo_pipe plain.files found.0) flags)) (λ other none. record {
+        files = keeps_on plain.files (with_tree plain.files found.1) _ (with_another_tree plain.files found.1)
+            (opens_one pid fd (with_tree plain.files found.1) (has_flag flags o_cloexec) (description_for found.0 flags));
+        kin = family;
+      })
+      there fd (Err e) = λ none. record { files = still; kin = family }
+
+      go : (o : Option ℕ) → QuietOpen path flags (open_at script plain pid path flags o)
+      go None = λ none. record { files = still; kin = family }
+      go (Some fd) = there fd (open_path plain.files.tree (directory_of plain.table pid) path (opening_of flags))
+
+      begins : (o : Option HalfOpen) → QuietOpen path flags (open_by script plain pid path flags o)
+      begins None = go (lowest_free (descriptors_of plain.files pid))
+      begins (Some opening) = choose (is_met plain.files pid opening) _ _
+          (λ met none. record { files = keeps plain.files (with_opening plain.files pid None) refl refl (same_sockets plain.files.sockets); kin = family }) (λ not_yet. tt)
+
+  open_answer : (path : List ℕ) (flags : ℤ) → QuietOpen path flags (machine script plain pid (call.OpenFile path flags))
+  open_answer path flags = go (argument_fault (call.OpenFile path flags))
+    where
+      go : (fault : Option Errno) → QuietOpen path flags (unless_wrong script plain pid fault (open_file script plain pid path flags))
+      go None = opens_file path flags
+      go (Some errno) = λ none. record { files = still; kin = family }
+
+  -- of all but an open it doesn't matter whether a FIFO is open
+  same_unless_open : (no : Bool) (which : Call) → is_open which ≡ false → wakes_nobody no which ≡ wakes_nobody true which
+  same_unless_open no (call.OpenFile path flags) o = cc
+  same_unless_open no _ o = refl
+
+  open_is : (which : Call) → is_open which ≡ true → (path : List ℕ) × (flags : ℤ) × (which ≡ call.OpenFile path flags)
+  open_is (call.OpenFile path flags) o = (path, flags, refl)
+  open_is _ o = cc
+
+  pub quiet_answer : (which : Call) → LeadsTo (QuietIf who plain which) (machine script plain pid which)
+  quiet_answer which = go (is_open which) refl (wakes_nobody true which) refl
+    where
+      go : (opens : Bool) → is_open which ≡ opens → (quiet : Bool) → wakes_nobody true which ≡ quiet → LeadsTo (QuietIf who plain which) (machine script plain pid which)
+      go true o quiet e = let open_it = open_is which o in
+          subst (λ w. LeadsTo (QuietIf who plain w) (machine script plain pid w)) (sym open_it.2) (open_answer open_it.0 open_it.1)
+      go false o true e = leads_on (IsQuiet who plain) (QuietIf who plain which) (λ next quiet wakes. quiet) (machine script plain pid which) (quiet_answered which o e)
+      go false o false e = any_leads (QuietIf who plain which) (λ next wakes. absurd (both (sym (same_unless_open (no_fifo next.files) which o) ∙ wakes) e)) (machine script plain pid which)
+        where
+          both : {b : Bool} → b ≡ true → b ≡ false → ⊥
+          both one two = cc

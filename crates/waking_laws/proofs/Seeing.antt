@@ -1,5 +1,5 @@
 -- Of two machines that a process sees as the same, its next call blocks in both or in neither.
-use Rattle.std.proofs.Common.{◌≡◌, ℕ, pos, negsuc, ℤ, ◌+◌, ◌-◌, ◌==◌, ◌&&◌, ◌||◌, nat_lt, min, Bool, true, false, if◌then◌else◌, List, [], ◌∷◌, length, map, Option, None, Some, is_some, Result, Ok, Err, refl, ap, ap₂, sym, subst, ◌∙◌}
+use Rattle.std.proofs.Common.{◌≡◌, ℕ, pos, negsuc, ℤ, ◌+◌, ◌-◌, ◌==◌, ◌&&◌, ◌||◌, not, nat_lt, min, Bool, true, false, if◌then◌else◌, List, [], ◌∷◌, length, map, Option, None, Some, is_some, Result, Ok, Err, refl, ap, ap₂, sym, subst, ◌∙◌}
 use Rattle.std.specs.List.{AllByRecursion}
 use Rattle.std.specs.Option.{option_map}
 use Rattle.kabi_types.specs.Arguments.{argument_fault, count_of, is_minus_one}
@@ -16,6 +16,7 @@ use Rattle.answer_laws.proofs.Blocking.{blocked_may}
 use Rattle.posix_defs.proofs.SignalLemmas.{write_blocks}
 use Rattle.posix_defs.specs.Answer.{Answer, Blocked, failed, replied}
 use Rattle.posix_defs.specs.Control as program
+use Rattle.posix_defs.specs.Calls.OnFiles.{end_awaits, end_opened, fifo_fault, fifo_pipe, fifo_waits, is_met, open_at, open_by, open_end, open_fifo, open_file, open_node, opened_node_as, opening_of, others_opened, others_opens}
 use Rattle.posix_defs.specs.Calls.OnSockets.{accept, accept_at, accepted_under, socket_target}
 use Rattle.posix_defs.specs.Calls.Opened.{Opened, answer_on, opened_at}
 use Rattle.posix_defs.specs.Calls.Polling.{hits_of, poll, polled, polled_at, polled_node, polled_opened, polled_target, revents_of}
@@ -23,12 +24,13 @@ use Rattle.posix_defs.specs.Calls.Reading.{is_directory_target, of_bytes, read, 
 use Rattle.posix_defs.specs.Calls.Writing.{bytes_left, did_part, put_in_socket, put_in_pipe, write, write_ignoring, write_queue, write_target, wrote}
 use Rattle.posix_defs.specs.Files.Descriptors.{lowest_free}
 use Rattle.posix_defs.specs.Files.Descriptions.{Access, Target, OnNode, OnPipe, OnSocket, may_read, may_write}
-use Rattle.posix_defs.specs.Files.State.{Files, descriptors_of, pipe_at}
+use Rattle.posix_defs.specs.Files.State.{Files, HalfOpen, descriptors_of, opening_at, pipe_at, with_opening}
 use Rattle.posix_defs.specs.Machine.{blocks, machine, unless_wrong, would_block}
 use Rattle.posix_defs.specs.Memory.{is_mapped_range}
-use Rattle.posix_defs.specs.Pipe.{Moving, Moves, Blocks, Fails, is_asked, not_now, pipe_read, pipe_write, polled_to_read, polled_to_write}
+use Rattle.posix_defs.specs.Pipe.{Moving, Moves, Blocks, Fails, is_asked, not_now, opens_of, pipe_read, pipe_write, polled_to_read, polled_to_write}
 use Rattle.posix_defs.specs.Plain.{Plain, call_of, control_of, with_files}
-use Rattle.posix_defs.specs.Process.{memory_of}
+use Rattle.posix_defs.specs.PathCalls.{is_fifo, open_path}
+use Rattle.posix_defs.specs.Process.{directory_of, memory_of}
 use Rattle.posix_defs.specs.Socket.{Accepting, Stage, Idle, Listening, Connected, Takes, Waits, Refuses, accept as accept_in, is_connected, is_shut_read, is_shut_write}
 use Rattle.posix_defs.specs.Sockets.{Sockets, free_at, polled_connected, polled_in_stage, read_connected, read_in_stage, sock_polled, sock_read, sock_write, socket_at, stage_at, write_in_stage, write_to, write_within, writes_no_more}
 use Rattle.posix_defs.specs.Tree.{Tree, is_directory}
@@ -57,6 +59,8 @@ pub record SeesSame (who : ℕ) (old new : Plain) : Type 0 where
   pub any : (which : ℤ) → any_from who which 1 new.table ≡ any_from who which 1 old.table
   pub numbers : descriptors_of new.files who ≡ descriptors_of old.files who
   pub opened : (fd : ℤ) → SameOpened (opened_at old.files who fd) (opened_at new.files who fd)
+  pub waits : opening_at new.files who ≡ opening_at old.files who
+  pub opens : (place : ℕ) (writing : Bool) → opens_of (pipe_at new.files place) writing ≡ opens_of (pipe_at old.files place) writing
 
 -- of what a number is open on, where that is a queue: it is the same, or all sockets are
 abbrev pub SeesQueue : Files → Files → Option Target → Type 0
@@ -349,6 +353,61 @@ module _ (script : Script) (who : ℕ) (old new : Plain) (same : SeesSame who ol
   unfolding poll
   poll_waits timeout entries sees = ap (λ revents. blocks (polled script new who timeout revents)) (all_poll entries sees) ∙ polled_waits timeout (revents_of old.files who entries)
 
+  -- an open that begins goes on
+  begins_on : (plain : Plain) (path : List ℕ) (flags : ℤ) → blocks (open_by script plain who path flags None) ≡ false
+  begins_on plain path flags = at (lowest_free (descriptors_of plain.files who))
+    where
+      end : (fd number : ℕ) (fault : Option Errno) → blocks (open_end script plain who flags fd number fault) ≡ false
+      end fd number (Some errno) = refl
+      end fd number None = go (fifo_waits (fifo_pipe plain.files number) flags)
+        where
+          go : (b : Bool) → blocks (if b then did_part (with_files plain (end_awaits plain.files who flags fd number)) who 1
+              else replied script (with_files plain (end_opened plain.files who flags fd number)) who (Val (pos fd))) ≡ false
+          go true = refl
+          go false = refl
+
+      there : (fd : ℕ) (r : Result (ℕ × Tree) Errno) → blocks (opened_node_as script plain who flags fd r) ≡ false
+      there fd (Err errno) = refl
+      there fd (Ok found) = go (is_fifo found.1 found.0)
+        where
+          go : (b : Bool) → blocks (if b then open_fifo script plain who flags fd found.0 else open_node script plain who flags fd found.0 found.1) ≡ false
+          go true = end fd found.0 (fifo_fault (fifo_pipe plain.files found.0) flags)
+          go false = refl
+
+      at : (o : Option ℕ) → blocks (open_at script plain who path flags o) ≡ false
+      at None = refl
+      at (Some fd) = there fd (open_path plain.files.tree (directory_of plain.table who) path (opening_of flags))
+
+  again : (plain : Plain) (path : List ℕ) (flags : ℤ) (opening : HalfOpen) → blocks (open_by script plain who path flags (Some opening)) ≡ not (is_met plain.files who opening)
+  again plain path flags opening = go (is_met plain.files who opening)
+    where
+      go : (b : Bool) → blocks (if b then replied script (with_files plain (with_opening plain.files who None)) who (Val (pos opening.fd)) else Blocked) ≡ not b
+      go true = refl
+      go false = refl
+
+  -- the other side was opened as often
+  met_alike : (opening : HalfOpen) → is_met new.files who opening ≡ is_met old.files who opening
+  met_alike opening = ap (λ n. nat_lt opening.seen n) (go (opened_at old.files who (pos opening.fd)) (opened_at new.files who (pos opening.fd)) (same.opened (pos opening.fd)))
+    where
+      by_target : (was now : Opened) (target : Target) → now.is.access ≡ was.is.access → others_opens new.files now.is target ≡ others_opens old.files was.is target
+      by_target was now (OnNode number) access = refl
+      by_target was now (OnPipe place) access = same.opens place (not (may_write now.is.access)) ∙ ap (λ a. opens_of (pipe_at old.files place) (not (may_write a))) access
+      by_target was now (OnSocket place) access = refl
+
+      go : (was now : Option Opened) → SameOpened was now → others_opened new.files now ≡ others_opened old.files was
+      go None None alike = refl
+      go (Some it) (Some other) alike = ap (others_opens new.files other.is) alike.0 ∙ by_target it other it.is.target alike.1
+      go None (Some other) alike = absurd alike
+      go (Some it) None alike = absurd alike
+
+  open_waits : (path : List ℕ) (flags : ℤ) → Agree (open_file script new who path flags) (open_file script old who path flags)
+  unfolding open_file
+  open_waits path flags = ap (λ o. blocks (open_by script new who path flags o)) same.waits ∙ go (opening_at old.files who)
+    where
+      go : (o : Option HalfOpen) → Agree (open_by script new who path flags o) (open_by script old who path flags o)
+      go None = begins_on new path flags ∙ sym (begins_on old path flags)
+      go (Some opening) = again new path flags opening ∙ ap not (met_alike opening) ∙ sym (again old path flags opening)
+
   right_or_wrong : (fault : Option Errno) (a b : Answer) → Agree a b → Agree (unless_wrong script new who fault a) (unless_wrong script old who fault b)
   right_or_wrong None a b e = e
   right_or_wrong (Some errno) a b e = refl
@@ -370,6 +429,7 @@ module _ (script : Script) (who : ℕ) (old new : Plain) (same : SeesSame who ol
   all_agree (call.Write fd addr n done) sees = right_or_wrong (argument_fault (call.Write fd addr n done)) _ _ (any_write_waits fd addr n done sees.0)
   all_agree (call.Accept fd) sees = right_or_wrong (argument_fault (call.Accept fd)) _ _ (accept_waits fd sees.0)
   all_agree (call.Poll timeout entries) sees = right_or_wrong (argument_fault (call.Poll timeout entries)) _ _ (poll_waits timeout entries sees)
+  all_agree (call.OpenFile path flags) sees = right_or_wrong (argument_fault (call.OpenFile path flags)) _ _ (open_waits path flags)
   all_agree which sees = quiet which refl
 
   -- its next call blocks in both or in neither, where what that waits for is the same

@@ -9,7 +9,8 @@ use Rattle.posix_defs.specs.Calls.Opened.{Opened, opened_at, opened_by}
 use Rattle.posix_defs.specs.Control as program
 use Rattle.posix_defs.specs.Files.Descriptions.{Description, Target, OnNode, OnPipe, OnSocket, description_at}
 use Rattle.posix_defs.specs.Files.Descriptors.{Descriptor, descriptor_of}
-use Rattle.posix_defs.specs.Files.State.{Files, descriptors_of}
+use Rattle.posix_defs.specs.Files.State.{Files, descriptors_of, opening_at, pipe_at}
+use Rattle.posix_defs.specs.Pipe.{opens_of}
 use Rattle.posix_defs.specs.Plain.{Plain, control_of}
 use Rattle.posix_defs.specs.Process.{is_alive_in, memory_in}
 use Rattle.waking_laws.specs.Waking.{StaysItself, target_at}
@@ -55,7 +56,8 @@ module _ (who : ℕ) (old new : Files) (numbers : descriptors_of new who ≡ des
 -- ---- a machine that is seen as the same
 
 module _ (who : ℕ) (old new : Plain) (described : AreDescribed old.files) (control : control_of new who ≡ control_of old who)
-    (numbers : descriptors_of new.files who ≡ descriptors_of old.files who) (kept : KeepsDescribed old.files new.files) (kin : SameKin who old.table new.table) where
+    (numbers : descriptors_of new.files who ≡ descriptors_of old.files who) (kept : KeepsDescribed old.files new.files) (kin : SameKin who old.table new.table)
+    (waits : opening_at new.files who ≡ opening_at old.files who) (opens : (place : ℕ) (writing : Bool) → opens_of (pipe_at new.files place) writing ≡ opens_of (pipe_at old.files place) writing) where
   -- what a process keeps by itself, and what it may wait for beside queues
   pub sees : SeesSame who old new
   sees = record {
@@ -65,6 +67,8 @@ module _ (who : ℕ) (old new : Plain) (described : AreDescribed old.files) (con
     any = kin.any;
     numbers = numbers;
     opened = opened_alike who old.files new.files numbers kept described;
+    waits = waits;
+    opens = opens;
   }
 
   pub itself : (script : Script) → StaysItself script who old new

@@ -11,56 +11,68 @@ use Rattle.posix_defs.specs.Calls.Opened.{opened_at}
 use Rattle.posix_defs.specs.Files.Descriptions.{Target, OnPipe, OnSocket}
 use Rattle.posix_defs.specs.Files.State.{Files}
 use Rattle.posix_defs.specs.Machine.{would_block}
+use Rattle.posix_defs.specs.Pipe.{Pipe}
 use Rattle.posix_defs.specs.Plain.{Plain, call_of}
 use Rattle.posix_defs.specs.Process.{is_alive}
 use Rattle.posix_defs.specs.declared.turner.Turned.{Turned}
 use Rattle.posix_defs.specs.declared.turner.Turned.TheVariants as turned
 
+-- the pipe of a FIFO
+abbrev pub is_fifos : Option Pipe → Bool
+is_fifos None = false
+is_fifos (Some pipe) = not (pipe.node == 0)
+
+-- no FIFO is open
+abbrev pub no_fifo : Files → Bool
+no_fifo files = not (list_any is_fifos files.pipes)
+
 -- The calls that change nothing that another process's call may wait for: no queue, no child that is there, and of a description nothing but
--- its offset.
-abbrev pub wakes_nobody : Call → Bool
-wakes_nobody call.Getpid = true
-wakes_nobody call.Getppid = true
-wakes_nobody call.SchedYield = true
-wakes_nobody call.Fork = true
-wakes_nobody (call.Mmap length) = true
-wakes_nobody (call.Munmap addr length) = true
-wakes_nobody (call.Store addr bytes) = true
-wakes_nobody (call.Load addr n) = true
-wakes_nobody (call.OpenFile path flags) = true
-wakes_nobody (call.Dup fd) = true
-wakes_nobody (call.Pread fd addr n at) = true
-wakes_nobody (call.Pwrite fd addr n at) = true
-wakes_nobody (call.Lseek fd offset whence) = true
-wakes_nobody (call.Readdir fd addr n) = true
-wakes_nobody (call.Ftruncate fd length) = true
-wakes_nobody (call.Fstat fd) = true
-wakes_nobody (call.Stat path) = true
-wakes_nobody (call.Chdir path) = true
-wakes_nobody (call.Mkdir path) = true
-wakes_nobody (call.Rmdir path) = true
-wakes_nobody (call.Unlink path) = true
-wakes_nobody (call.Link old new) = true
-wakes_nobody (call.Rename old new) = true
-wakes_nobody call.Pipe = true
-wakes_nobody call.Socket = true
-wakes_nobody (call.Bind fd path) = true
-wakes_nobody (call.Poll timeout entries) = true
-wakes_nobody (call.Signal signal disposition) = true
-wakes_nobody _ = false
+-- its offset. An open may have opened a FIFO, unless none is open behind it.
+abbrev pub wakes_nobody : Bool → Call → Bool
+wakes_nobody no_fifo call.Getpid = true
+wakes_nobody no_fifo call.Getppid = true
+wakes_nobody no_fifo call.SchedYield = true
+wakes_nobody no_fifo call.Fork = true
+wakes_nobody no_fifo (call.Mmap length) = true
+wakes_nobody no_fifo (call.Munmap addr length) = true
+wakes_nobody no_fifo (call.Store addr bytes) = true
+wakes_nobody no_fifo (call.Load addr n) = true
+wakes_nobody no_fifo (call.OpenFile path flags) = no_fifo
+wakes_nobody no_fifo (call.Dup fd) = true
+wakes_nobody no_fifo (call.Pread fd addr n at) = true
+wakes_nobody no_fifo (call.Pwrite fd addr n at) = true
+wakes_nobody no_fifo (call.Lseek fd offset whence) = true
+wakes_nobody no_fifo (call.Readdir fd addr n) = true
+wakes_nobody no_fifo (call.Ftruncate fd length) = true
+wakes_nobody no_fifo (call.Fstat fd) = true
+wakes_nobody no_fifo (call.Stat path) = true
+wakes_nobody no_fifo (call.Chdir path) = true
+wakes_nobody no_fifo (call.Mkdir path) = true
+wakes_nobody no_fifo (call.Rmdir path) = true
+wakes_nobody no_fifo (call.Unlink path) = true
+wakes_nobody no_fifo (call.Link old new) = true
+wakes_nobody no_fifo (call.Rename old new) = true
+wakes_nobody no_fifo call.Pipe = true
+wakes_nobody no_fifo call.Socket = true
+wakes_nobody no_fifo (call.Bind fd path) = true
+wakes_nobody no_fifo (call.Poll timeout entries) = true
+wakes_nobody no_fifo (call.Signal signal disposition) = true
+wakes_nobody no_fifo (call.Mkfifo path) = true
+wakes_nobody no_fifo _ = false
 
 -- what a call that failed was told
 abbrev pub is_failure : Reply → Bool
 is_failure (reply.Fail errno) = true
 is_failure _ = false
 
--- A turn that came to this wakes nobody: it did nothing, it failed, or its call is one that changes nothing of the kind.
-abbrev pub passes_by : Call → Turned → Bool
-passes_by which turned.Sleep = true
-passes_by which turned.Gone = true
-passes_by which (turned.Done (reply.Fail errno)) = true
-passes_by which (turned.Done told) = wakes_nobody which
-passes_by which _ = false
+-- A turn that came to this wakes nobody: it did nothing, it failed, or its call is one that changes nothing of the kind. It counts
+-- whether a FIFO is open behind it.
+abbrev pub passes_by : Bool → Call → Turned → Bool
+passes_by no_fifo which turned.Sleep = true
+passes_by no_fifo which turned.Gone = true
+passes_by no_fifo which (turned.Done (reply.Fail errno)) = true
+passes_by no_fifo which (turned.Done told) = wakes_nobody no_fifo which
+passes_by no_fifo which _ = false
 
 -- the call didn't end its caller
 abbrev pub Lasts : Turned → Type 0

@@ -13,7 +13,7 @@ ghost use Rattle.kheap_slabs.specs.Heap.{live_bytes, Makes, Frees};
 ghost use Rattle.kheap_slabs.specs.Paid.{TakesNothing};
 
 use super::KHeap;
-use crate::{Descriptor, Leaf, Node, Page, PageEntry, Proc};
+use crate::{Descriptor, HalfOpen, Leaf, Node, Page, PageEntry, Proc};
 use kabi_types::{Class, Control};
 
 impl KHeap {
@@ -107,6 +107,19 @@ impl KHeap {
         ensures takes { TakesNothing self.old self.new }
     {
         self.memory.procs.set_numbers(key, descriptors, leaves);
+    }
+
+    /// Tells of a process in which open of a FIFO it sleeps, if it sleeps in one. All else of it stays in its place.
+    pub fn set_proc_opening(&mut self, key: u32, opening: Option<HalfOpen>)
+        requires { InUse self.old.procs key }
+        ensures kept { (proc : ProcOf) → object self.old.procs key ≡ Some proc
+            → self.new
+            ≡ record self.old { procs = put self.old.procs key (record proc { opening = opening }) } }
+        ensures stays { InUse self.new.procs key }
+        ensures live { live_bytes self.new ≡ live_bytes self.old }
+        ensures takes { TakesNothing self.old self.new }
+    {
+        self.memory.procs.set_opening(key, opening);
     }
 
     /// Tells of a process who its parent is and how it ended. All else of it stays in its place.

@@ -8,7 +8,7 @@ ghost use Rattle.kheap_slabs.specs.declared.objects.Node.{Node as NodeOf};
 ghost use Rattle.kheap_slabs.specs.declared.objects.Proc.{Proc as ProcOf};
 
 use super::Shelf;
-use crate::{Descriptor, Leaf, Node, PageEntry, Proc};
+use crate::{Descriptor, HalfOpen, Leaf, Node, PageEntry, Proc};
 use kabi_types::Control;
 
 impl Shelf<Proc> {
@@ -50,6 +50,17 @@ impl Shelf<Proc> {
         let proc = self.get_mut(key);
         proc.descriptors = descriptors;
         proc.leaves = leaves;
+    }
+
+    /// Tells of a process in which open of a FIFO it sleeps, if it sleeps in one.
+    pub fn set_opening(&mut self, key: u32, opening: Option<HalfOpen>)
+        requires { InUse self.old key }
+        ensures kept { (proc : ProcOf) → object self.old key ≡ Some proc
+            → self.new ≡ put self.old key (record proc { opening = opening }) }
+        ensures counted { count_of self.new ≡ count_of self.old }
+        ensures len { length self.new ≡ length self.old }
+    {
+        self.get_mut(key).opening = opening;
     }
 
     /// Tells of a process who its parent is and how it ended.

@@ -1,4 +1,4 @@
--- The calls on names of the tree: `stat`, `chdir`, `mkdir`, `rmdir`, `unlink`, `link` and `rename`.
+-- The calls on names of the tree: `stat`, `chdir`, `mkdir`, `mkfifo`, `rmdir`, `unlink`, `link` and `rename`.
 use Rattle.std.specs.Prelude.{ℕ, ◌==◌, ◌&&◌, ◌||◌, pos, Bool, false, List, Option, None, Some, Result, Ok, Err}
 use Rattle.std.specs.List.{list_any}
 use Rattle.kabi_types.specs.declared.errnos.Errno.{Errno}
@@ -6,7 +6,7 @@ use Rattle.kabi_types.specs.declared.replies.Reply.TheVariants.{Val, Stat}
 use Rattle.kabi_types.specs.declared.replies.StatInfo.{StatInfo}
 use Rattle.kabi_types.specs.declared.scripts.Script.{Script}
 use Rattle.posix_defs.specs.Tree.{Tree}
-use Rattle.posix_defs.specs.PathCalls.{stat_path, enter_path, mkdir_path, rmdir_path, unlink_path, link_path, rename_path}
+use Rattle.posix_defs.specs.PathCalls.{stat_path, enter_path, mkdir_path, mkfifo_path, rmdir_path, unlink_path, link_path, rename_path}
 use Rattle.posix_defs.specs.Process.{Process, directory_of, runs, with_directory}
 use Rattle.posix_defs.specs.Plain.{Plain, with_files, with_table}
 use Rattle.posix_defs.specs.Answer.{Answer, failed, replied}
@@ -42,21 +42,25 @@ works_from script plain pid (Err errno) = failed script plain pid errno
 unfoldable pub chdir : Script → Plain → ℕ → List ℕ → Answer
 chdir script plain pid path = works_from script plain pid (enter_path plain.files.tree (directory_of plain.table pid) path)
 
--- ---- mkdir, rmdir, link
+-- ---- mkdir, mkfifo, rmdir, link
 
 -- another tree, and 0 is told
 abbrev pub retreed : Script → Plain → ℕ → Result Tree Errno → Answer
 retreed script plain pid (Ok tree) = replied script (with_files plain (with_tree plain.files tree)) pid (Val (pos 0))
 retreed script plain pid (Err errno) = failed script plain pid errno
 
--- the tree with the new directory, and 0 is told, not its number; or the fault
-abbrev pub made_directory : Script → Plain → ℕ → Result (ℕ × Tree) Errno → Answer
-made_directory script plain pid (Ok made) = retreed script plain pid (Ok made.1)
-made_directory script plain pid (Err errno) = failed script plain pid errno
+-- the tree with the new directory or FIFO, and 0 is told, not its number; or the fault
+abbrev pub made_node : Script → Plain → ℕ → Result (ℕ × Tree) Errno → Answer
+made_node script plain pid (Ok made) = retreed script plain pid (Ok made.1)
+made_node script plain pid (Err errno) = failed script plain pid errno
 
 -- a new directory (POSIX mkdir)
 unfoldable pub mkdir : Script → Plain → ℕ → List ℕ → Answer
-mkdir script plain pid path = made_directory script plain pid (mkdir_path plain.files.tree (directory_of plain.table pid) path)
+mkdir script plain pid path = made_node script plain pid (mkdir_path plain.files.tree (directory_of plain.table pid) path)
+
+-- a new FIFO (POSIX mkfifo)
+unfoldable pub mkfifo : Script → Plain → ℕ → List ℕ → Answer
+mkfifo script plain pid path = made_node script plain pid (mkfifo_path plain.files.tree (directory_of plain.table pid) path)
 
 -- a directory without entries goes, where nobody works in it or has it open (POSIX rmdir)
 unfoldable pub rmdir : Script → Plain → ℕ → List ℕ → Answer
@@ -77,7 +81,7 @@ abbrev pub freed_in : Script → Plain → ℕ → Result (Option ℕ × Tree) E
 freed_in script plain pid (Ok left) = replied script (with_files plain (renamed plain.files left.0 left.1)) pid (Val (pos 0))
 freed_in script plain pid (Err errno) = failed script plain pid errno
 
--- a name goes, and with the last one its node: a file only when no description opens it any more (POSIX unlink)
+-- a name goes, and with the last one its node: a file or a FIFO only when no description opens it any more (POSIX unlink)
 unfoldable pub unlink : Script → Plain → ℕ → List ℕ → Answer
 unlink script plain pid path = freed_in script plain pid (unlink_path plain.files.tree (directory_of plain.table pid) path (opens plain.files))
 

@@ -7,16 +7,23 @@ use Rattle.posix_defs.specs.Sockets.{after_close as sockets_after_close}
 use Rattle.posix_defs.specs.TreeChanges.{closed}
 use Rattle.posix_defs.specs.Files.Descriptors.{Descriptor, descriptor_at, is_named, is_cloexec}
 use Rattle.posix_defs.specs.Files.Descriptions.{Target, OnNode, OnPipe, OnSocket, Access, Description, description_at, with_description, may_write}
-use Rattle.posix_defs.specs.Files.State.{Files, with_descriptions, with_tree, with_sockets, with_open, descriptors_of, opens, pipe_at, with_pipe}
+use Rattle.posix_defs.specs.Files.State.{Files, with_descriptions, with_tree, with_sockets, with_open, descriptors_of, node_of, opens, pipe_at, with_opening, with_pipe}
 
--- no description opens a node any more: a file without links goes
+-- no description opens a node any more: a file without links goes, and so does a FIFO
 abbrev pub left_node : Files → ℕ → Files
 left_node files number = if opens files number then files else with_tree files (closed files.tree number)
 
--- what a description was open on is closed: a node, an end of a pipe, a socket with those that wait for it
+-- where an end of a pipe was closed: if it was a FIFO's, that node is left
+abbrev pub left_fifo : Files → Option ℕ → Files
+left_fifo files None = files
+left_fifo files (Some number) = left_node files number
+
+-- what a description was open on is closed: a node, an end of a pipe with the FIFO that it may be of, a socket with those that wait
+-- for it
 abbrev pub target_closed : Files → Access → Target → Files
 target_closed files access (OnNode number) = left_node files number
-target_closed files access (OnPipe place) = with_pipe files place (pipe_after_close (pipe_at files place) (may_write access))
+target_closed files access (OnPipe place) =
+    left_fifo (with_pipe files place (pipe_after_close (pipe_at files place) (may_write access))) (node_of files (OnPipe place))
 target_closed files access (OnSocket place) = with_sockets files (sockets_after_close files.sockets place)
 
 -- the description of this place goes, if it is there, and then what it was open on is closed
@@ -51,9 +58,9 @@ after_closes files pid (fd ∷ fds) = after_closes (after_close files pid fd) pi
 abbrev pub all_numbers : List ℕ
 all_numbers = range_with_len 0 most_descriptors
 
--- after a process has closed all that it has open, by rising number
+-- after a process has closed all that it has open, by rising number, and sleeps in no open any more
 unfoldable pub after_end_of : Files → ℕ → Files
-after_end_of files pid = after_closes files pid all_numbers
+after_end_of files pid = with_opening (after_closes files pid all_numbers) pid None
 
 -- after these processes have, one after another
 abbrev pub after_ends_of : Files → List ℕ → Files

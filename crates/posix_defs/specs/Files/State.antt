@@ -1,18 +1,27 @@
--- What the plain machine knows of files: what each process has open, and what there is of descriptions, pipes, sockets and
--- the tree. Each part changes by one named update.
+-- What the plain machine knows of files: what each process has open and in which open of a FIFO it sleeps, and what there is of
+-- descriptions, pipes, sockets and the tree. Each part changes by one named update.
 use Rattle.std.specs.Prelude.{ℕ, ◌==◌, Bool, false, List, [], ◌∷◌, ◌++◌, length, Option, None, Some, unwrap_or, slice_index_or, slice_set}
 use Rattle.std.specs.List.{list_any}
+use Rattle.std.specs.Option.{option_and_then}
 use Rattle.posix_defs.specs.ByPid.{at_pid, with_pid}
-use Rattle.posix_defs.specs.Pipe.{Pipe, new_pipe}
+use Rattle.posix_defs.specs.Pipe.{Pipe, fifo_of, new_pipe}
 use Rattle.posix_defs.specs.Sockets.{Sockets}
 use Rattle.posix_defs.specs.Tree.{Tree, new_tree}
 use Rattle.posix_defs.specs.Files.Descriptors.{Descriptor, Descriptors, none_open, with_descriptor}
 use Rattle.posix_defs.specs.Files.Descriptions.{Target, OnNode, OnPipe, OnSocket, Description, Descriptions, with_description}
 
+-- An open of a FIFO that has made its end, and waits for the other side: the descriptor that it will tell, and how often the other
+-- side had been opened by then.
+pub record HalfOpen : Type 0 where
+  pub fd : ℕ
+  pub seen : ℕ
+
 -- What each process has open, and what there is of descriptions, the tree, pipes and sockets.
 pub record Files : Type 0 where
   -- of each process ever made; one that has ended has none open
   pub descriptors : List Descriptors
+  -- of each process ever made the open of a FIFO that waits, if it sleeps in one
+  pub openings : List (Option HalfOpen)
   pub descriptions : Descriptions
   pub tree : Tree
   -- every pipe that was made, by its place; none once all its ends are closed
@@ -24,6 +33,10 @@ pub record Files : Type 0 where
 -- the files with other descriptors
 abbrev pub with_descriptors : Files → List Descriptors → Files
 with_descriptors files descriptors = record files { descriptors = descriptors }
+
+-- the files with other opens of FIFOs that wait
+abbrev pub with_openings : Files → List (Option HalfOpen) → Files
+with_openings files openings = record files { openings = openings }
 
 -- the files with other descriptions
 abbrev pub with_descriptions : Files → Descriptions → Files
@@ -64,10 +77,14 @@ opened_as files pid fd cloexec description =
     with_descriptions (with_open files pid fd (Some (record { description = length files.descriptions; cloexec = cloexec })))
     (files.descriptions ++ Some description ∷ [])
 
--- the node of what a description is open on, if it has one
+-- the pipe of a place, if it is there
+abbrev pub pipe_there : Files → ℕ → Option Pipe
+pipe_there files place = slice_index_or files.pipes place None
+
+-- the node of what a description is open on, if it has one; an end of a FIFO's pipe has that of the FIFO
 abbrev pub node_of : Files → Target → Option ℕ
 node_of files (OnNode number) = Some number
-node_of files (OnPipe place) = None
+node_of files (OnPipe place) = option_and_then fifo_of (pipe_there files place)
 node_of files (OnSocket place) = None
 
 -- the node that a description opens
@@ -100,10 +117,6 @@ opened_nodes files = nodes_among files files.descriptions
 
 -- ---- pipes
 
--- the pipe of a place, if it is there
-abbrev pub pipe_there : Files → ℕ → Option Pipe
-pipe_there files place = slice_index_or files.pipes place None
-
 -- the pipe of a place where one is
 abbrev pub pipe_at : Files → ℕ → Pipe
 pipe_at files place = unwrap_or (pipe_there files place) new_pipe
@@ -112,12 +125,24 @@ pipe_at files place = unwrap_or (pipe_there files place) new_pipe
 abbrev pub with_pipe : Files → ℕ → Option Pipe → Files
 with_pipe files place pipe = with_pipes files (slice_set files.pipes place pipe)
 
+-- ---- opens of FIFOs that wait
+
+-- the open of a FIFO that a process sleeps in, if it sleeps in one
+abbrev pub opening_at : Files → ℕ → Option HalfOpen
+opening_at files pid = unwrap_or (at_pid files.openings pid) None
+
+-- a process sleeps in such an open, or in none
+abbrev pub with_opening : Files → ℕ → Option HalfOpen → Files
+with_opening files pid opening = with_openings files (with_pid files.openings pid opening)
+
 -- ---- at the beginning
 
 -- the first process has nothing open, and the tree is that of a new disk
 abbrev pub boot_files : ℕ → Files
-boot_files blocks = record { descriptors = none_open ∷ []; descriptions = []; tree = new_tree blocks; pipes = []; sockets = [] }
+boot_files blocks =
+    record { descriptors = none_open ∷ []; openings = None ∷ []; descriptions = []; tree = new_tree blocks; pipes = []; sockets = [] }
 
--- a child has open what its parent has open; the descriptions are the same ones
+-- a child has open what its parent has open; the descriptions are the same ones, and it sleeps in no open
 abbrev pub with_heir : Files → ℕ → Files
-with_heir files parent = with_descriptors files (files.descriptors ++ descriptors_of files parent ∷ [])
+with_heir files parent =
+    with_openings (with_descriptors files (files.descriptors ++ descriptors_of files parent ∷ [])) (files.openings ++ None ∷ [])

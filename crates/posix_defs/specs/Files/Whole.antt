@@ -1,21 +1,21 @@
 -- What every machine that is reached keeps of files.
-use Rattle.std.specs.Prelude.{ℕ, ◌+◌, ◌<◌, ◌≤◌, ◌^◌, ◌≡◌, ◌≢◌, ◌==◌, ◌&&◌, Bool, true, false, List, [], ◌∷◌, length, Option, None, Some, is_some}
+use Rattle.std.specs.Prelude.{ℕ, ◌+◌, ◌<◌, ◌≤◌, ◌^◌, ◌≡◌, ◌≢◌, ◌==◌, ◌&&◌, ◌||◌, pos, Bool, true, false, not, List, [], ◌∷◌, length, Option, None, Some, is_some}
 use Rattle.std.specs.List.{All, count_by}
 use Rattle.kabi_types.specs.Arguments.{most_descriptors}
 use Rattle.kabi_types.specs.declared.calls.Call.{Call}
 use Rattle.kabi_types.specs.declared.calls.Call.TheVariants as call
 use Rattle.kabi_types.specs.declared.scripts.Script.{Script}
-use Rattle.posix_defs.specs.Pipe.{Pipe, capacity}
+use Rattle.posix_defs.specs.Pipe.{Pipe, capacity, opens_of}
 use Rattle.posix_defs.specs.SocketLinks.{AreLinked, AreHeld, NoneTwice}
 use Rattle.posix_defs.specs.Sockets.{sock_at, socket_at}
 use Rattle.posix_defs.specs.Tree.{is_in_use, is_directory, links_at}
 use Rattle.posix_defs.specs.IsTree.{IsTree}
-use Rattle.posix_defs.specs.PathCalls.{is_socket}
+use Rattle.posix_defs.specs.PathCalls.{is_fifo, is_socket}
 use Rattle.posix_defs.specs.Process.{is_alive, directory_of}
 use Rattle.posix_defs.specs.Plain.{Plain, call_of, control_of, last_pid}
 use Rattle.posix_defs.specs.Files.Descriptors.{is_named, none_open}
 use Rattle.posix_defs.specs.Files.Descriptions.{Target, OnNode, OnPipe, OnSocket, Access, ReadOnly, ReadWrite, Description, Descriptions, description_at, may_read, may_write}
-use Rattle.posix_defs.specs.Files.State.{Files, beside, descriptors_of, opens, pipe_there}
+use Rattle.posix_defs.specs.Files.State.{Files, HalfOpen, beside, descriptors_of, opening_at, opens, pipe_at, pipe_there}
 use Rattle.posix_defs.specs.Calls.Opened.{Opened, opened_at}
 
 -- ---- ends of pipes
@@ -48,10 +48,11 @@ pub record IsPipeOf (descriptions : Descriptions) (place : ℕ) (pipe : Pipe) : 
 
 -- ---- targets
 
--- What a description is open on is there: a file, or a directory for reading alone; one end of a pipe; a socket.
+-- What a description is open on is there: a file, or a directory for reading alone; one end of a pipe, a FIFO's too; a socket.
 abbrev pub IsTarget : Files → Access → Target → Type 0
 IsTarget files access (OnNode number) =
-    (is_in_use files.tree number ≡ true) × (is_socket files.tree number ≡ false) × (is_directory files.tree number ≡ true → access ≡ ReadOnly)
+    (is_in_use files.tree number ≡ true) × (is_socket files.tree number ≡ false) × (is_fifo files.tree number ≡ false)
+    × (is_directory files.tree number ≡ true → access ≡ ReadOnly)
 IsTarget files access (OnPipe place) = (is_some (pipe_there files place) ≡ true) × (access ≢ ReadWrite)
 IsTarget files access (OnSocket place) = (is_some (sock_at files.sockets place) ≡ true) × (access ≡ ReadWrite)
 
@@ -70,6 +71,33 @@ socket_in (Some description) = socket_of description.target
 abbrev pub named_sockets : Descriptions → List ℕ
 named_sockets [] = []
 named_sockets (description ∷ descriptions) = beside (socket_in description) (named_sockets descriptions)
+
+-- ---- FIFOs
+
+-- Of FIFOs: a pipe that is one's is that of a FIFO in use, and of no other pipe's.
+pub record AreFifos (files : Files) : Type 0 where
+  pub nodes : (place : ℕ) (pipe : Pipe) → pipe_there files place ≡ Some pipe → pipe.node ≢ 0 → is_fifo files.tree pipe.node ≡ true
+  pub alone : (place other : ℕ) (pipe second : Pipe) → pipe_there files place ≡ Some pipe → pipe_there files other ≡ Some second → pipe.node ≢ 0
+      → pipe.node ≡ second.node → place ≡ other
+
+-- the call is an `open`
+abbrev pub is_open : Call → Bool
+is_open (call.OpenFile path flags) = true
+is_open _ = false
+
+-- the call is an `open` of a process that has made its end of a FIFO already
+abbrev pub is_half_open : Files → ℕ → Call → Bool
+is_half_open files pid call = is_open call && is_some (opening_at files pid)
+
+-- Who waits for the other side of a FIFO has its descriptor open on an end of that FIFO's pipe, whose other side was opened as often
+-- as before, or more often.
+pub record IsHalfOpen (files : Files) (pid : ℕ) (opening : HalfOpen) : Type 0 where
+  pub opened : Opened
+  pub named : opened_at files pid (pos opening.fd) ≡ Some opened
+  pub place : ℕ
+  pub target : opened.is.target ≡ OnPipe place
+  pub fifo : (pipe_at files place).node ≢ 0
+  pub seen : opening.seen ≤ opens_of (pipe_at files place) (not (may_write opened.is.access))
 
 -- ---- half-done writes
 
@@ -91,11 +119,12 @@ is_write_of files pid _ = false
 
 -- ---- all of it
 
--- Of the numbers of descriptors: each process has as many; those of one that has ended are closed.
+-- Of the numbers of descriptors: each process has as many; those of one that has ended are closed, and it waits for no other side.
 pub record HasPlaces (plain : Plain) : Type 0 where
   pub counted : length plain.files.descriptors ≡ last_pid plain
   pub places : (pid : ℕ) → length (descriptors_of plain.files pid) ≡ most_descriptors
   pub ended : (pid : ℕ) → is_alive plain.table pid ≡ false → descriptors_of plain.files pid ≡ none_open
+  pub openings : length plain.files.openings ≡ last_pid plain
 
 -- Of descriptions: what is named is there, what is there is named, and what it is open on is there.
 pub record AreNamed (files : Files) : Type 0 where
@@ -119,11 +148,15 @@ pub record IsWhole (script : Script) (plain : Plain) : Type 0 where
   pub named : AreNamed plain.files
   pub pipes : (place : ℕ) (pipe : Pipe) → pipe_there plain.files place ≡ Some pipe → IsPipeOf plain.files.descriptions place pipe
   pub sockets : AreSockets plain.files
+  pub fifos : AreFifos plain.files
+  -- who stands at an open that it has begun waits for the other side
+  pub openings : (pid : ℕ) (opening : HalfOpen) → is_alive plain.table pid ≡ true → 0 < (control_of plain pid).done
+      → is_open (call_of script plain pid) ≡ true → opening_at plain.files pid ≡ Some opening → IsHalfOpen plain.files pid opening
   pub tree : IsTree plain.files.tree
-  -- a node without links is a file that some description opens
+  -- a node without links is a file or a FIFO that some description opens
   pub unlinked : (number : ℕ) → is_in_use plain.files.tree number ≡ true → links_at plain.files.tree number ≡ 0 → opens plain.files number ≡ true
   -- who is alive works in a directory that is there
   pub directories : (pid : ℕ) → is_alive plain.table pid ≡ true → is_directory plain.files.tree (directory_of plain.table pid) ≡ true
-  -- who has done a part of a call stands at a write to a pipe or a socket
+  -- who has done a part of a call stands at a write to a pipe or a socket, or at the open of a FIFO that has made its end
   pub half_done : (pid : ℕ) → is_alive plain.table pid ≡ true → 0 < (control_of plain pid).done
-      → is_write_of plain.files pid (call_of script plain pid) ≡ true
+      → (is_write_of plain.files pid (call_of script plain pid) || is_half_open plain.files pid (call_of script plain pid)) ≡ true

@@ -6,9 +6,10 @@ use Rattle.kheap_slabs.specs.Heap.{Heap}
 use Rattle.kheap_slabs.specs.Owners.{OwnsItsObjects}
 use Rattle.kheap_laws.proofs.PaidLemmas.{TakesNothing-trans, TakesNothing-freed}
 use Rattle.kheap_laws.proofs.TableLemmas.{OwnsItsObjects-along}
-use Rattle.open_laws.specs.Closing.{IsClosable, Drops, QueuesChange, TargetCloses}
-use Rattle.open_laws.specs.Described.{descs_left, node_left}
-use Rattle.open_laws.proofs.CloseLemmas.{described, closable_without, closes_with, change_with_descs}
+use Rattle.pipe_ends.specs.Links.{link_at}
+use Rattle.open_laws.specs.Closing.{ClosesLinks, Drops, DropsLinks, IsClosable, QueuesChange, TargetCloses}
+use Rattle.open_laws.specs.Described.{descs_left, node_in, node_left}
+use Rattle.open_laws.proofs.CloseLemmas.{described, closable_without, closes_with, change_with_descs, links_with}
 use Rattle.open_laws.proofs.DescribedLemmas.{one_desc, counts_alike, node_more, node_last, left_last}
 use Rattle.open_laws.proofs.OwnerLemmas.{owners_dropped}
 use Rattle.open_laws.proofs.DropLemmas.{open_dropped, drops_more, drops_last}
@@ -19,7 +20,7 @@ use Rattle.desc_table.proofs.descriptions.drop_desc.Goals as goal
 pub returns-then-found-gt1-clause-node : goal.returns-then-found-gt1-clause-node
 returns-then-found-gt1-clause-node c = λ found is.
     let same = counts_alike c.args.heap.now.descs c.args.desc c.get_desc-found.result.now found c.get_desc-found.ensures is in
-    sym (node_more found (omega (arith, same)))
+    sym (node_more c.args.heap.now.pipes found (omega (arith, same)))
 
 pub returns-then-found-gt1-clause-drops : goal.returns-then-found-gt1-clause-drops
 returns-then-found-gt1-clause-drops c = λ found is.
@@ -77,8 +78,9 @@ returns-clause-node c = λ found is.
     let there = c.requires.there in
     let alike = counts_alike c.args.heap.now.descs c.args.desc c.get_desc-found.result.now there.desc c.get_desc-found.ensures there.there in
     c.close_target.ensures.node
-    ∙ (sym (node_last c.get_desc-found.result.now (omega (arith, alike, there.named)))
-    ∙ ap node_left (one_desc c.args.heap.now.descs c.args.desc c.get_desc-found.result.now found c.get_desc-found.ensures is))
+    ∙ (ap (λ (h : Heap). node_in h.pipes c.get_desc-found.result.now.target) c.free_desc-gone.ensures.kept
+    ∙ (sym (node_last c.args.heap.now.pipes c.get_desc-found.result.now (omega (arith, alike, there.named)))
+    ∙ ap (node_left c.args.heap.now.pipes) (one_desc c.args.heap.now.descs c.args.desc c.get_desc-found.result.now found c.get_desc-found.ensures is)))
 
 pub returns-clause-drops : goal.returns-clause-drops
 returns-clause-drops c = λ found is.
@@ -117,3 +119,22 @@ pub returns-clause-takes : goal.returns-clause-takes
 returns-clause-takes c =
     TakesNothing-trans c.args.heap.now c.free_desc-gone.new.self c.close_target.new.heap
     (TakesNothing-freed class.Desc c.args.heap.now c.free_desc-gone.new.self c.free_desc-gone.ensures.frees) c.close_target.ensures.takes
+
+-- ---- the links of FIFOs' pipes
+
+pub returns-then-found-gt1-clause-links : goal.returns-then-found-gt1-clause-links
+returns-then-found-gt1-clause-links c = λ found is. record {
+  stays = λ more key. ap (λ (h : Heap). link_at h key) c.name_less.ensures.left;
+  closes = λ last.
+      let same = counts_alike c.args.heap.now.descs c.args.desc c.get_desc-found.result.now found c.get_desc-found.ensures is in
+      absurd (omega (arith, same, last));
+}
+
+pub returns-clause-links : goal.returns-clause-links
+returns-clause-links c = λ found is.
+    subst (λ (d : Desc). DropsLinks c.args.heap.now c.close_target.new.heap d)
+    (one_desc c.args.heap.now.descs c.args.desc c.get_desc-found.result.now found c.get_desc-found.ensures is) (record {
+      stays = λ more. absurd (omega (arith, more));
+      closes = λ last. links_with c.args.heap.now c.close_target.new.heap (without c.args.heap.now.descs c.args.desc) c.get_desc-found.result.now.access c.get_desc-found.result.now.target
+          (subst (λ (h : Heap). ClosesLinks h c.close_target.new.heap c.get_desc-found.result.now.access c.get_desc-found.result.now.target) c.free_desc-gone.ensures.kept c.close_target.ensures.links);
+    })

@@ -49,6 +49,7 @@ listed kind.Accept = (38, lit< tt, refl)
 listed kind.Shutdown = (39, lit< tt, refl)
 listed kind.Poll = (40, lit< tt, refl)
 listed kind.Signal = (41, lit< tt, refl)
+listed kind.Mkfifo = (42, lit< tt, refl)
 
 pub returns-clause-listed : goal.returns-clause-listed
 returns-clause-listed c = listed

@@ -3,7 +3,7 @@ use Rattle.posix_defs.specs.Tree.{kind_of}
 use Rattle.memfs_node.specs.declared.making.NewNode.{NewNode}
 use Rattle.memfs_node.specs.NodeOnDisk.{Makes, Retags, content_of}
 use Rattle.memfs_node.proofs.Lowest.{none_taken}
-use Rattle.memfs_node.proofs.Made.{Tagging, new_kind, free_inode, tag_empty, size_is, made_plain, made_directory}
+use Rattle.memfs_node.proofs.Made.{Tagging, new_kind, free_inode, tag_empty, size_is, made_plain, made_node}
 use Rattle.memfs_node.proofs.making.make_node.Goals as goal
 
 pub retag-requires-clause-kind : goal.retag-requires-clause-kind
@@ -55,4 +55,4 @@ returns-clause-makes g c =
     let t : Tagging c.args.number before old c.kind.result between c.retag.new.inode = record { has = c.inode_at-inode.ensures.has; free = c.requires.free; retags = retags } in
     let is : c.kind.result ≡ 2 = c.kind.ensures ∙ ap (λ (new : NewNode). kind_of (content_of new)) c.in-Directory.is in
     subst (λ (new : NewNode). Makes c.args.number before (content_of new) after c.put_dots.new.inode) (sym c.in-Directory.is)
-    (made_directory c.args.number before old c.kind.result between c.retag.new.inode t c.in-Directory.parent after c.put_dots.new.inode is c.put_dots.ensures.puts)
+    (made_node c.args.number before old c.kind.result between c.retag.new.inode t c.in-Directory.parent after c.put_dots.new.inode is c.put_dots.ensures.puts)

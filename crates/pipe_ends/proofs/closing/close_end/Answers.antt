@@ -20,5 +20,5 @@ overflow_sub-writers c =
 pub returns-else-readers-eq0-2-clause-owned : goal.returns-else-readers-eq0-2-clause-owned
 returns-else-readers-eq0-2-clause-owned c =
     let held = c.get_pipe-pipe.result.now in
-    let turned = turned_by c.args.heap.now c.args.heap.now c.set_pipe.new.self c.args.key held (record held { readers = c.if-writing.readers; writers = c.if-writing-2.writers }) (λ bytes. bytes) (place_of held.queue) c.requires.owned c.get_pipe-pipe.ensures refl (Turns-same c.args.heap.now held.queue) refl c.set_pipe.ensures.stored c.set_pipe.ensures.kept in
+    let turned = turned_by c.args.heap.now c.args.heap.now c.set_pipe.new.self c.args.key held (record held { readers = c.if-writing.readers; writers = c.if-writing-2.writers }) (λ bytes. bytes) (place_of held.queue) c.requires.owned c.get_pipe-pipe.ensures refl (Turns-same c.args.heap.now held.queue) refl c.set_pipe.ensures.stored c.set_pipe.ensures.kept refl in
     turned.turns.owns

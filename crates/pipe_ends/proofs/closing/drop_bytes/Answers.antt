@@ -1,4 +1,4 @@
-use Rattle.std.proofs.Common.{[], ap, ◌∙◌, arith}
+use Rattle.std.proofs.Common.{[], ap, ◌∙◌, arith, refl}
 use Rattle.kheap_laws.proofs.PaidLemmas.{TakesNothing-trans}
 use Rattle.posix_defs.specs.QueuePlace.{at_front}
 use Rattle.chunk_queue.specs.Chained.{place_of}
@@ -14,7 +14,7 @@ pub returns-clause-turned : goal.returns-clause-turned
 returns-clause-turned c =
     let turns = rw (c.of-queue.ensures, ← c.parts.ensures) at c.clear.ensures.bytes in
     let place = ap place_of c.parts.ensures ∙ c.clear.ensures.place ∙ taken_all (place_of c.of-queue.result) c.of-queue.result.len (omega arith) in
-    turned_by c.args.heap.now c.clear.new.heap c.set_pipe.new.self c.args.key c.args.pipe (record { queue = c.parts.result; readers = 0; writers = c.args.writers }) (λ old. []) at_front c.requires.owned c.requires.there c.clear.ensures.others turns place c.set_pipe.ensures.stored c.set_pipe.ensures.kept
+    turned_by c.args.heap.now c.clear.new.heap c.set_pipe.new.self c.args.key c.args.pipe (record c.args.pipe { queue = c.parts.result; readers = 0; writers = c.args.writers }) (λ old. []) at_front c.requires.owned c.requires.there c.clear.ensures.others turns place c.set_pipe.ensures.stored c.set_pipe.ensures.kept refl
 
 pub returns-clause-takes : goal.returns-clause-takes
 returns-clause-takes c = TakesNothing-trans c.args.heap.now c.clear.new.heap c.set_pipe.new.self c.clear.ensures.takes c.set_pipe.ensures.takes

@@ -1,3 +1,7 @@
+use Rattle.std.proofs.Common.{drop}
+use Rattle.posix_defs.specs.QueuePlace.{after_take}
+use Rattle.chunk_queue.specs.Chained.{place_of}
+use Rattle.pipe_ends.proofs.LinkLemmas.{links_turned}
 use Rattle.pipe_ends.proofs.StandingLemmas.{stands_read, read_out}
 use Rattle.pipe_ends.proofs.reading.pipe_read.Goals as goal
 
@@ -13,3 +17,7 @@ pub returns-then-pipe-gt0-clause-there : goal.returns-then-pipe-gt0-clause-there
 returns-then-pipe-gt0-clause-there c =
     let was = c.requires.there in
     (_, _, stands_read c.args.heap.now c.take_out.new.heap c.args.key c.get_pipe-pipe.result.now was.0 was.1 c.take_out.result c.get_pipe-pipe.ensures was.2 c.take_out.ensures.turned)
+
+pub returns-then-pipe-gt0-clause-links : goal.returns-then-pipe-gt0-clause-links
+returns-then-pipe-gt0-clause-links c =
+    links_turned c.args.heap.now c.take_out.new.heap c.args.key c.get_pipe-pipe.result.now (drop c.take_out.result) (after_take (place_of c.get_pipe-pipe.result.now.queue) c.take_out.result) c.get_pipe-pipe.ensures c.take_out.ensures.turned

@@ -1,4 +1,4 @@
-use Rattle.std.proofs.Common.{drop, ap, ◌∙◌}
+use Rattle.std.proofs.Common.{drop, ap, ◌∙◌, refl}
 use Rattle.kheap_laws.proofs.PaidLemmas.{TakesNothing-trans}
 use Rattle.posix_defs.specs.QueuePlace.{after_take}
 use Rattle.chunk_queue.specs.Chained.{place_of}
@@ -16,7 +16,7 @@ pub returns-clause-turned : goal.returns-clause-turned
 returns-clause-turned c =
     let turns = rw (c.of-queue.ensures, ← c.parts.ensures) at c.take-count.ensures.bytes in
     let place = ap place_of c.parts.ensures ∙ rw c.of-queue.ensures at c.take-count.ensures.place in
-    turned_by c.args.heap.now c.take-count.new.heap c.set_pipe.new.self c.args.key c.args.pipe (record c.args.pipe { queue = c.parts.result }) (drop c.take-count.result) (after_take (place_of c.args.pipe.queue) c.take-count.result) c.requires.owned c.requires.there c.take-count.ensures.others turns place c.set_pipe.ensures.stored c.set_pipe.ensures.kept
+    turned_by c.args.heap.now c.take-count.new.heap c.set_pipe.new.self c.args.key c.args.pipe (record c.args.pipe { queue = c.parts.result }) (drop c.take-count.result) (after_take (place_of c.args.pipe.queue) c.take-count.result) c.requires.owned c.requires.there c.take-count.ensures.others turns place c.set_pipe.ensures.stored c.set_pipe.ensures.kept refl
 
 pub returns-clause-takes : goal.returns-clause-takes
 returns-clause-takes c = TakesNothing-trans c.args.heap.now c.take-count.new.heap c.set_pipe.new.self c.take-count.ensures.takes c.set_pipe.ensures.takes

@@ -5,6 +5,7 @@ use Rattle.posix_defs.specs.Pipe.{Pipe, after_write}
 use Rattle.posix_defs.specs.QueuePlace.{after_put}
 use Rattle.chunk_queue.specs.Chained.{place_of}
 use Rattle.pipe_ends.specs.Standing.{StandsFor}
+use Rattle.pipe_ends.proofs.LinkLemmas.{links_turned}
 use Rattle.pipe_ends.proofs.StandingLemmas.{held_len, stands_written, others_turned}
 use Rattle.pipe_ends.proofs.writing.pipe_write.Goals as goal
 
@@ -31,3 +32,7 @@ returns-in-Some-clause-pays c = CanPay-kept c.args.heap.now c.put_in.new.heap c.
 pub returns-in-Some-clause-others : goal.returns-in-Some-clause-others
 returns-in-Some-clause-others c =
     others_turned c.args.heap.now c.put_in.new.heap c.args.key c.get_pipe.result.now (λ old. old ++ take c.in-Some.count c.args.bytes.now) (after_put (place_of c.get_pipe.result.now.queue) (length (take c.in-Some.count c.args.bytes.now))) c.get_pipe.result.now.readers c.get_pipe.result.now.writers c.get_pipe.ensures c.put_in.ensures.turned
+
+pub returns-in-Some-clause-links : goal.returns-in-Some-clause-links
+returns-in-Some-clause-links c =
+    links_turned c.args.heap.now c.put_in.new.heap c.args.key c.get_pipe.result.now (λ old. old ++ take c.in-Some.count c.args.bytes.now) (after_put (place_of c.get_pipe.result.now.queue) (length (take c.in-Some.count c.args.bytes.now))) c.get_pipe.ensures c.put_in.ensures.turned

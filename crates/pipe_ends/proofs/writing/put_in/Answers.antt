@@ -13,7 +13,7 @@ pub returns-clause-turned : goal.returns-clause-turned
 returns-clause-turned c =
     let turns = rw (c.of-queue.ensures, ← c.parts.ensures) at c.put.ensures.bytes in
     let place = ap place_of c.parts.ensures ∙ rw c.of-queue.ensures at c.put.ensures.place in
-    turned_by c.args.heap.now c.put.new.heap c.set_pipe.new.self c.args.key c.args.pipe (record c.args.pipe { queue = c.parts.result }) (λ old. old ++ c.args.bytes.now) (after_put (place_of c.args.pipe.queue) (length c.args.bytes.now)) c.requires.owned c.requires.there c.put.ensures.others turns place c.set_pipe.ensures.stored c.set_pipe.ensures.kept
+    turned_by c.args.heap.now c.put.new.heap c.set_pipe.new.self c.args.key c.args.pipe (record c.args.pipe { queue = c.parts.result }) (λ old. old ++ c.args.bytes.now) (after_put (place_of c.args.pipe.queue) (length c.args.bytes.now)) c.requires.owned c.requires.there c.put.ensures.others turns place c.set_pipe.ensures.stored c.set_pipe.ensures.kept refl
 
 pub returns-clause-paid : goal.returns-clause-paid
 returns-clause-paid c =

@@ -30,6 +30,9 @@ returns-in-Rmdir c = c.made_on_path-in-Rmdir.ensures (map (value_of c.args.contr
 pub returns-in-Unlink : goal.returns-in-Unlink
 returns-in-Unlink c = c.made_on_path-in-Unlink.ensures (map (value_of c.args.control.now) c.args.operands.now) c.args.control.now.done (subst TakesPath (sym c.in-Unlink.is) tt)
 
+pub returns-in-Mkfifo : goal.returns-in-Mkfifo
+returns-in-Mkfifo c = c.made_on_path-in-Mkfifo.ensures (map (value_of c.args.control.now) c.args.operands.now) c.args.control.now.done (subst TakesPath (sym c.in-Mkfifo.is) tt)
+
 pub returns-in-OpenFile : goal.returns-in-OpenFile
 returns-in-OpenFile c = c.made_with_texts-in-OpenFile.ensures c.args.control.now.done (subst TakesMore (sym c.in-OpenFile.is) tt)
 

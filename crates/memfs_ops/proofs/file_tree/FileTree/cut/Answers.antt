@@ -1,11 +1,13 @@
 use Rattle.std.proofs.Common.{◌≡◌, Bool, true, false, sym, ap, ◌∙◌, subst, refl}
-use Rattle.posix_defs.specs.Tree.{Tree}
+use Rattle.posix_defs.specs.PathCalls as calls
+use Rattle.posix_defs.specs.Tree.{Tree, is_directory}
 use Rattle.posix_defs.specs.TreeChanges.{resize}
 use Rattle.memfs_node.proofs.Looking.{shown}
 use Rattle.memfs_ops.specs.FileTree.{TreeView, Stands}
 use Rattle.memfs_ops.specs.Opening.{cut_tree}
 use Rattle.memfs_ops.proofs.ChangeLemmas.{pays_changed}
-use Rattle.memfs_ops.proofs.OpenLemmas.{is_file, directory_stays, cut_stands}
+use Rattle.memfs_ops.proofs.OpenLemmas.{is_file, no_bytes_stay, cut_stands}
+use Rattle.memfs_ops.proofs.ProgramLemmas.{file_tests}
 use Rattle.memfs_ops.proofs.PaysLemmas.{pays_nothing}
 use Rattle.memfs_ops.proofs.WriteLemmas.{lags_to, some_to}
 use Rattle.blk_map.proofs.Taken.{lowest_until, unchanged_is_lowest}
@@ -18,20 +20,21 @@ returns-then-not-asked-clause-stands c = λ tree pins stands.
 pub returns-then-not-asked-clause-pays : goal.returns-then-not-asked-clause-pays
 returns-then-not-asked-clause-pays c = pays_nothing c.args.heap.now c.args.purse.now c.args.self.now c.requires.may.fills
 
-pub returns-then-is_directory-clause-stands : goal.returns-then-is_directory-clause-stands
-returns-then-is_directory-clause-stands c = λ tree pins stands.
+pub returns-then-not-is_file-clause-stands : goal.returns-then-not-is_file-clause-stands
+returns-then-not-is_file-clause-stands c = λ tree pins stands.
     let is = shown c.args.self.now.disk.blocks tree c.args.node c.args.inode.now stands.behind c.requires.node in
-    let dir = sym (c.is_directory.ensures tree c.args.node is) ∙ c.if-is_directory.true in
-    subst (λ (b : Bool). Stands c.args.heap.now c.args.self.now (cut_tree tree c.args.node b) pins) (sym c.if-not-asked.false) (subst (λ (t : Tree). Stands c.args.heap.now c.args.self.now t pins) (sym (directory_stays tree c.args.node dir)) stands)
+    let other = sym (c.is_file.ensures.value tree c.args.node is) ∙ c.if-not-is_file.true in
+    subst (λ (b : Bool). Stands c.args.heap.now c.args.self.now (cut_tree tree c.args.node b) pins) (sym c.if-not-asked.false) (subst (λ (t : Tree). Stands c.args.heap.now c.args.self.now t pins) (sym (no_bytes_stay tree c.args.node other)) stands)
 
-pub returns-then-is_directory-clause-pays : goal.returns-then-is_directory-clause-pays
-returns-then-is_directory-clause-pays c = pays_nothing c.args.heap.now c.args.purse.now c.args.self.now c.requires.may.fills
+pub returns-then-not-is_file-clause-pays : goal.returns-then-not-is_file-clause-pays
+returns-then-not-is_file-clause-pays c = pays_nothing c.args.heap.now c.args.purse.now c.args.self.now c.requires.may.fills
 
 pub size_in-done-requires-clause-stands : goal.size_in-done-requires-clause-stands
 size_in-done-requires-clause-stands c =
     let r = c.requires.stands in
     let is = shown c.args.self.now.disk.blocks r.0 c.args.node c.args.inode.now r.2.behind c.requires.node in
-    (r.0, r.1, r.2, is_file r.0 c.args.node c.args.inode.now is (sym (c.is_directory.ensures r.0 c.args.node is) ∙ c.if-is_directory.false) r.3)
+    let tests = file_tests (is_directory r.0 c.args.node) (calls.is_socket r.0 c.args.node) (calls.is_fifo r.0 c.args.node) (sym (c.is_file.ensures.value r.0 c.args.node is) ∙ c.if-not-is_file.false) in
+    (r.0, r.1, r.2, is_file r.0 c.args.node c.args.inode.now is tests.0 tests.1 tests.2)
 
 pub renew-requires-clause-lags : goal.renew-requires-clause-lags
 renew-requires-clause-lags c =
@@ -62,8 +65,8 @@ returns-clause-names c = ap (λ (v : TreeView). v.names) c.renew.ensures.same �
 pub returns-then-not-asked-clause-lowest : goal.returns-then-not-asked-clause-lowest
 returns-then-not-asked-clause-lowest c = unchanged_is_lowest c.args.self.now.disk.blocks c.args.self.now.disk.blocks refl
 
-pub returns-then-is_directory-clause-lowest : goal.returns-then-is_directory-clause-lowest
-returns-then-is_directory-clause-lowest c = unchanged_is_lowest c.args.self.now.disk.blocks c.args.self.now.disk.blocks refl
+pub returns-then-not-is_file-clause-lowest : goal.returns-then-not-is_file-clause-lowest
+returns-then-not-is_file-clause-lowest c = unchanged_is_lowest c.args.self.now.disk.blocks c.args.self.now.disk.blocks refl
 
 pub returns-clause-lowest : goal.returns-clause-lowest
 returns-clause-lowest c = lowest_until c.args.self.now.disk.blocks c.size_in-done.new.self.disk.blocks c.renew.new.self.disk.blocks (ap (λ (v : TreeView). v.disk.blocks) c.renew.ensures.same) c.size_in-done.ensures.lowest

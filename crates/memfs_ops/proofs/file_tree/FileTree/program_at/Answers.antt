@@ -20,7 +20,7 @@ use Rattle.memfs_ops.proofs.file_tree.FileTree.program_at.Goals as goal
 
 pub returns-then-not-is_file-clause-value : goal.returns-then-not-is_file-clause-value
 returns-then-not-is_file-clause-value c = λ tree pins stands.
-    let other = no_file (is_directory tree c.args.number || calls.is_socket tree c.args.number) (sym (c.is_file.ensures.value tree c.args.number (c.inode-inode.ensures.value tree pins stands)) ∙ c.if-not-is_file.true) in
+    let other = no_file (is_directory tree c.args.number || calls.is_socket tree c.args.number || calls.is_fifo tree c.args.number) (sym (c.is_file.ensures.value tree c.args.number (c.inode-inode.ensures.value tree pins stands)) ∙ c.if-not-is_file.true) in
     sym (ap (λ (b : Bool). calls.unless b EACCES (calls.program_of c.args.script.now.programs (calls.bytes_in (node_at tree c.args.number)))) other)
 
 pub read_bytes-count-requires-clause-stands : goal.read_bytes-count-requires-clause-stands
@@ -38,8 +38,8 @@ returns-clause-value c = λ tree pins stands.
     let s = i.ensures.looks.stands tree pins stands in
     let shows = i.ensures.value tree pins stands in
     let plain = sym (c.is_file.ensures.value tree c.args.number shows) ∙ c.if-not-is_file.false in
-    let tests = file_tests (is_directory tree c.args.number) (calls.is_socket tree c.args.number) plain in
-    let file = is_file tree c.args.number i.result shows tests.0 tests.1 in
+    let tests = file_tests (is_directory tree c.args.number) (calls.is_socket tree c.args.number) (calls.is_fifo tree c.args.number) plain in
+    let file = is_file tree c.args.number i.result shows tests.0 tests.1 tests.2 in
     let has = subst (λ (d : List (List ℕ)). HasNode d c.args.number i.result) (sym i.ensures.looks.on.bytes) i.ensures.has in
     let front : take b.result (drop 0 (node_bytes disk i.result)) ≡ take 30 (drop 0 bytes) = told_bytes disk tree c.args.number 0 0 30 b.result i.result s.behind file has refl b.ensures.count in
     let count : b.result ≡ length (take 30 (drop 0 bytes)) = told_count disk tree c.args.number 0 0 30 b.result i.result s.behind file has refl b.ensures.count in
@@ -48,7 +48,7 @@ returns-clause-value c = λ tree pins stands.
     ∙ ap (λ (ps : List Program). calls.program_of ps (take b.result b.new.out)) c.items.ensures
     ∙ ap (λ (bs : List ℕ). calls.program_of programs bs) line
     ∙ told_program programs bytes c.requires.programs.names
-    ∙ sym (ap (λ (x : Bool). calls.unless x EACCES (calls.program_of programs bytes)) (no_test (is_directory tree c.args.number || calls.is_socket tree c.args.number) plain))
+    ∙ sym (ap (λ (x : Bool). calls.unless x EACCES (calls.program_of programs bytes)) (no_test (is_directory tree c.args.number || calls.is_socket tree c.args.number || calls.is_fifo tree c.args.number) plain))
 
 pub returns-clause-stands : goal.returns-clause-stands
 returns-clause-stands c = λ tree pins stands. c.read_bytes-count.ensures.fetches.stands tree pins (c.inode-inode.ensures.looks.stands tree pins stands)

@@ -27,7 +27,7 @@ returns-then-pins-ne0 c = λ tree pins stands.
     let mine = subst (λ (v : TreeView). Stands c.args.heap.now v r.0 r.1) (sym c.self.view_is) r.2 in
     let count = cached_count pins c.args.heap.now.vnodes c.self.inside.vnodes c.args.node c.pins.result mine.nodes stands.held there c.pins.ensures in
     let shows = subst (λ (t : Tree). IsInodeAt t c.args.node c.args.inode.now) (one_tree c.args.self.now.disk.blocks r.0 tree r.2.behind stands.behind) r.3 in
-    held_some c.pins.result (pins c.args.node) (not (is_directory tree c.args.node || calls.is_socket tree c.args.node)) c.is_file.result count c.if-pins-ne0.true (c.is_file.ensures.value tree c.args.node shows)
+    held_some c.pins.result (pins c.args.node) (not (is_directory tree c.args.node || calls.is_socket tree c.args.node)) c.is_kept_open.result count c.if-pins-ne0.true (c.is_kept_open.ensures tree c.args.node shows)
 
 pub returns-else-pins-ne0 : goal.returns-else-pins-ne0
 returns-else-pins-ne0 c = λ tree pins stands.

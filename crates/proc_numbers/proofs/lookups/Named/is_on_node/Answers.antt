@@ -1,19 +1,18 @@
 use Rattle.std.proofs.Common.{◌∙◌, ap, sym}
 use Rattle.std.specs.Option.{option_map}
-use Rattle.posix_defs.specs.Reaching.{is_on_node}
-use Rattle.proc_numbers.specs.Found.{held_in, opened_in}
+use Rattle.proc_numbers.specs.Found.{held_in, is_in_tree, opened_in}
 use Rattle.proc_numbers.proofs.OnNodes.{off_named_node, off_unnamed, on_named_node, tells_target}
 use Rattle.proc_numbers.proofs.OpenedBy.{is_held, is_none, is_there, opened_is}
 use Rattle.proc_numbers.proofs.lookups.Named.is_on_node.Goals as goal
 
 pub returns-in-Some-clause-tells : goal.returns-in-Some-clause-tells
 returns-in-Some-clause-tells c = λ h kept pid numbers files opened have.
-    c.is_node.ensures ∙ tells_target numbers files c.in-Some.found.desc.target
-    ∙ sym (ap (is_on_node files) (opened_is h kept pid c.args.self.now opened numbers files have ∙ ap (option_map (opened_in numbers)) c.in-Some.is))
+    c.is_node.ensures ∙ tells_target numbers c.in-Some.found.desc.target
+    ∙ sym (ap is_in_tree (opened_is h kept pid c.args.self.now opened numbers files have ∙ ap (option_map (opened_in numbers)) c.in-Some.is))
 
 pub returns-in-None-clause-tells : goal.returns-in-None-clause-tells
 returns-in-None-clause-tells c = λ h kept pid numbers files opened have.
-    sym (ap (is_on_node files) (opened_is h kept pid c.args.self.now opened numbers files have ∙ ap (option_map (opened_in numbers)) c.in-None.is))
+    sym (ap is_in_tree (opened_is h kept pid c.args.self.now opened numbers files have ∙ ap (option_map (opened_in numbers)) c.in-None.is))
 
 pub returns-in-Some-clause-on : goal.returns-in-Some-clause-on
 returns-in-Some-clause-on c = λ h kept pid opened tells.

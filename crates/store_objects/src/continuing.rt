@@ -5,22 +5,18 @@ ghost use Rattle.kabi_types.specs.declared.scripts.Script.{Script};
 ghost use Rattle.kheap_slabs.specs.Paid.{TakesNothing};
 ghost use Rattle.posix_defs.specs.World.{World};
 ghost use Rattle.posix_defs.specs.declared.turner.Turned.TheVariants as turned;
-ghost use Rattle.queue_calls.specs.Told.{behind_in, partly_in};
+ghost use Rattle.store_objects.specs.Told.{behind_in, partly_in};
 ghost use Rattle.proc_table.specs.Table.{IsPlaced};
 ghost use Rattle.store_objects.specs.Objects.{AreKept, Runs};
 ghost use Rattle.store_objects.specs.Standing.{StandsFor};
 
+use crate::going_on::go_on;
+use crate::objects::{Caller, Objects};
 use kabi_types::Script;
 use posix_defs::Turned;
-use store_objects::{Caller, Objects, go_on};
 
 /// The process goes on behind its call where that is over, and else stays at it.
-pub(crate) fn go_on_done(
-    script: &Script,
-    objects: &mut Objects,
-    caller: &Caller,
-    told: Turned,
-) -> Turned
+pub fn go_on_done(script: &Script, objects: &mut Objects, caller: &Caller, told: Turned) -> Turned
     requires kept { AreKept script.now objects.old }
     requires runs { Runs objects.old caller.now.place.pid caller.now.control }
     requires placed { IsPlaced objects.old.procs caller.now.place }
@@ -35,8 +31,8 @@ pub(crate) fn go_on_done(
     }
 }
 
-/// The process stays at its write, of which so many bytes more are done.
-pub(crate) fn do_part(objects: &mut Objects, caller: &Caller, moved: u32) -> Turned
+/// The process stays at its write, of which so many bytes more are done, or at its open of a FIFO, whose one end is made.
+pub fn do_part(objects: &mut Objects, caller: &Caller, moved: u32) -> Turned
     requires kept { (script : Script) × AreKept script objects.old }
     requires runs { Runs objects.old caller.now.place.pid caller.now.control }
     requires placed { IsPlaced objects.old.procs caller.now.place }

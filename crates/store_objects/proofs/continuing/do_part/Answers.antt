@@ -3,7 +3,7 @@ use Rattle.answer_laws.proofs.GoingOn.{settled_part}
 use Rattle.posix_defs.specs.Control.{after_part}
 use Rattle.posix_defs.specs.Plain.{control_of}
 use Rattle.store_objects.proofs.GoingOn.{at_its_call, goes_to, kept_moved, led_to}
-use Rattle.queue_calls.proofs.told.do_part.Goals as goal
+use Rattle.store_objects.proofs.continuing.do_part.Goals as goal
 
 pub move_on-requires-clause-stored : goal.move_on-requires-clause-stored
 move_on-requires-clause-stored c = c.requires.kept.1.holds.stored

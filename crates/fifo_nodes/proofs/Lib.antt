@@ -1,0 +1,4 @@
+pub mod ChainLemmas
+mod CloseLemmas
+mod OpenLemmas
+mod WalkLemmas
