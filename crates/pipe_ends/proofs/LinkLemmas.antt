@@ -27,6 +27,14 @@ links_kept old new key here others other = elim (cases_eq other key) [
   | inr apart ↦ others other apart
 ]
 
+-- no pipe is other than before
+pub links_same : (old new : Heap) → new.pipes ≡ old.pipes → KeepsLinks old new
+links_same old new same key = ap (λ (pipes : List (Option HeldPipe)). link_of (object pipes key)) same
+
+-- one change after another
+pub links_then : (old mid new : Heap) → KeepsLinks old mid → KeepsLinks mid new → KeepsLinks old new
+links_then old mid new first second key = second key ∙ first key
+
 -- the link of a pipe whose queue turned, with other counts of its ends
 turned_in : (old new : Heap) (key : ℕ) (held : HeldPipe) (next : List ℕ → List ℕ) (place : QueuePlace) (readers writers : ℕ) → Turned old new key held next place readers writers
     → (now : HeldPipe) × (object new.pipes key ≡ Some now) × (link_in now ≡ record (link_in held) { readers = readers; writers = writers })

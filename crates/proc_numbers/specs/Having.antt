@@ -3,7 +3,6 @@ use Rattle.std.specs.Prelude.{ℕ, ◌≡◌, ◌+◌, List, length, Option, Non
 use Rattle.kheap_slabs.specs.Objects.{object}
 use Rattle.kheap_slabs.specs.declared.objects.Desc.{Desc}
 use Rattle.kheap_slabs.specs.declared.objects.Descriptor.{Descriptor as HeldDescriptor}
-use Rattle.kheap_slabs.specs.declared.objects.HalfOpen.{HalfOpen as HeldHalf}
 use Rattle.kheap_slabs.specs.declared.objects.Pipe.{Pipe}
 use Rattle.kheap_slabs.specs.declared.objects.Proc.{Proc}
 use Rattle.kheap_slabs.specs.Heap.{Heap}
@@ -13,9 +12,10 @@ use Rattle.open_laws.specs.Described.{CountedList, inode_in, node_left}
 use Rattle.open_laws.specs.Open.{AreOpen, descriptors_by}
 use Rattle.open_laws.specs.Owned.{all_namings}
 use Rattle.open_laws.specs.Placed.{Numbers}
-use Rattle.posix_defs.specs.Files.State.{Files, HalfOpen, descriptors_of}
+use Rattle.posix_defs.specs.Files.State.{Files, descriptors_of}
 use Rattle.desc_table.specs.Numbered.{names_one}
 use Rattle.proc_table.specs.Moves.{NumbersTurn}
+use Rattle.proc_table.specs.Opening.{HaveOpenings}
 use Rattle.proc_table.specs.Procs.{no_descriptors, numbers_in, proc_of}
 use Rattle.proc_table.specs.Table.{AreBetween, AreStored, TableView, keys_of, processes}
 
@@ -26,19 +26,17 @@ pub record AreListed (h : Heap) (kept : TableView) : Type 0 where
   pub all : AreKeysOf h.procs (keys_of kept.listed)
   pub leaves : HoldLeaves h.leaves (processes h kept)
 
--- what the heap says of an open that a process sleeps in
-abbrev pub half_in : HeldHalf → HalfOpen
-half_in held = record { fd = held.fd; seen = held.seen }
-
 -- what a process has open by number, if it is there; who isn't has nothing open
 abbrev pub places_in : (Proc → List (Option HeldDescriptor)) → Option Proc → List (Option HeldDescriptor)
 places_in numbers None = no_descriptors
 places_in numbers (Some proc) = numbers proc
 
--- The machine's descriptors of each pid are those that its process keeps, by the places of their descriptions.
+-- The machine's descriptors of each pid are those that its process keeps, by the places of their descriptions, and who sleeps in an open
+-- of a FIFO sleeps in the same one there.
 pub record HaveDescriptors (numbers : Proc → List (Option HeldDescriptor)) (number : ℕ → ℕ) (procs : List Proc) (last : ℕ) (files : Files) : Type 0 where
   pub each : (pid : ℕ) → descriptors_of files pid ≡ descriptors_by number (places_in numbers (proc_of procs pid))
   pub made : length files.descriptors ≡ last
+  pub openings : HaveOpenings procs last files
 
 -- The processes of a table have open what the machine says: its descriptors, and behind them its descriptions, pipes and sockets.
 pub record HaveOpen (numbers : Numbers) (h : Heap) (kept : TableView) (files : Files) : Type 0 where

@@ -7,6 +7,7 @@ use Rattle.kheap_slabs.specs.Heap.{Heap}
 use Rattle.kheap_slabs.specs.Leaves.{has_place}
 use Rattle.desc_table.specs.Numbered.{names_one}
 use Rattle.open_laws.specs.Owned.{all_namings}
+use Rattle.pipe_ends.specs.Links.{KeepsLinks}
 use Rattle.proc_table.specs.Moves.{NumbersTurn}
 use Rattle.proc_table.specs.Procs.{numbers_in, proc_of, with_numbers}
 use Rattle.proc_table.specs.Table.{TableView, key_of, processes}
@@ -49,7 +50,7 @@ abbrev pub NamesNumber : Heap → Heap → TableView → ℕ → ℕ → HeldDes
 NamesNumber old new kept pid fd held = TurnsNumber old new kept pid fd (Some held)
 
 -- Of one process other numbers are open, in its Proc and its Leaves; of the other objects only Descs, Pipes, Chunks and Socks are
--- others.
+-- others, and the pipes of FIFOs stand as they stood.
 pub record ChangesNumbers (old new : Heap) (kept : TableView) (pid : ℕ) : Type 0 where
   pub key : ℕ
   pub proc : Proc
@@ -60,6 +61,7 @@ pub record ChangesNumbers (old new : Heap) (kept : TableView) (pid : ℕ) : Type
   pub procs : new.procs ≡ put old.procs key now
   pub beside : new
       ≡ record old { procs = new.procs; leaves = new.leaves; descs = new.descs; pipes = new.pipes; chunks = new.chunks; socks = new.socks; high = new.high }
+  pub links : KeepsLinks old new
 
 -- a number of a process needs no further Leaf: it is one of the first, or the Leaf that it stands in is there
 abbrev pub has_room_in : Option Proc → ℕ → Bool

@@ -5,6 +5,7 @@ ghost use Rattle.chunk_queue.specs.Chained.{PaysChunks};
 ghost use Rattle.chunk_queue.specs.Moving.{UnlessMoved, moved_by, moving_of, would_wait};
 ghost use Rattle.kheap_slabs.specs.Owners.{OwnsItsObjects};
 ghost use Rattle.kheap_slabs.specs.Paid.{CanPay, IsPaid, TakesNothing};
+ghost use Rattle.pipe_ends.specs.Links.{KeepsLinks};
 ghost use Rattle.posix_defs.specs.Pipe.{capacity};
 ghost use Rattle.posix_defs.specs.Socket.{is_connected};
 ghost use Rattle.posix_defs.specs.Sockets.{Sockets, stage_at};
@@ -47,6 +48,7 @@ impl QueueEnd {
             → out.new ≡ take (moved_by result) (unread self behind) ++ drop (moved_by result) out.old }
         ensures taken { (behind : Behind self) → StandsBehind heap.old self behind → TakesOut heap.old heap.new self behind (moved_by result) }
         ensures leaves { LeavesBut heap.old heap.new self }
+        ensures links { KeepsLinks heap.old heap.new }
         ensures takes { TakesNothing heap.old heap.new }
         ensures refused { UnlessMoved result ((heap.new ≡ heap.old) × (out.new ≡ out.old)) }
     {
@@ -86,6 +88,7 @@ impl QueueEnd {
             → moving_of result ≡ write_of self behind nonblock n (length bytes.now) }
         ensures puts { (behind : Behind self) → StandsBehind heap.old self behind → PutsIn heap.old heap.new self behind bytes.now (moved_by result) }
         ensures leaves { LeavesBut heap.old heap.new self }
+        ensures links { KeepsLinks heap.old heap.new }
         ensures paid { IsPaid heap.old purse.old heap.new purse.new }
         ensures purse { PaysChunks purse.old purse.new }
         ensures refused { UnlessMoved result ((heap.new ≡ heap.old) × (purse.new ≡ purse.old)) }

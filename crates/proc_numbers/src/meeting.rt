@@ -10,8 +10,9 @@ ghost use Rattle.open_laws.specs.Polled.{IsTargetIn};
 ghost use Rattle.posix_defs.specs.Calls.OnFiles.{is_met as plain_is_met, others_opens as plain_others};
 ghost use Rattle.posix_defs.specs.Files.Descriptions.{may_write as plain_may_write};
 ghost use Rattle.posix_defs.specs.Files.State.{Files};
+ghost use Rattle.proc_table.specs.Opening.{half_in};
 ghost use Rattle.proc_table.specs.Table.{IsPlaced};
-ghost use Rattle.proc_numbers.specs.Having.{AreListed, HaveOpen, half_in};
+ghost use Rattle.proc_numbers.specs.Having.{AreListed, HaveOpen};
 
 use crate::lookups::opened;
 use kheap_slabs::{Access, Desc, HalfOpen, KHeap, Target};

@@ -9,6 +9,7 @@ ghost use Rattle.kheap_slabs.specs.Paid.{CanPay, IsPaid};
 ghost use Rattle.page_space.specs.Contents.{IsOwnedWith};
 ghost use Rattle.page_space.specs.Entries.{IsMappedRange};
 ghost use Rattle.open_laws.specs.Placed.{Numbers};
+ghost use Rattle.pipe_ends.specs.Links.{KeepsLinks};
 ghost use Rattle.posix_defs.specs.Account.{Account};
 ghost use Rattle.posix_defs.specs.Calls.Reading.{read};
 ghost use Rattle.posix_defs.specs.Machine.{blocks};
@@ -69,6 +70,7 @@ pub fn read(
       socks = heap.new.socks;
       high = heap.new.high;
     } }
+    ensures links { KeepsLinks heap.old heap.new }
     ensures paid { IsPaid heap.old purse.old heap.new purse.new }
 {
     let Some(found) = on.readable() else {
@@ -159,6 +161,7 @@ fn take_in(
       socks = heap.new.socks;
       high = heap.new.high;
     } }
+    ensures links { KeepsLinks heap.old heap.new }
     ensures paid { IsPaid heap.old purse.old heap.new purse.new }
 {
     let out = &mut buffer[..(n as usize).min(CAPACITY)];

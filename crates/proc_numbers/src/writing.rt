@@ -11,6 +11,7 @@ ghost use Rattle.chunk_queue.specs.Moving.{moving_of};
 ghost use Rattle.page_space.specs.Contents.{IsOwnedWith, StandsFor as IsMemory};
 ghost use Rattle.page_space.specs.Entries.{IsMappedRange};
 ghost use Rattle.open_laws.specs.Placed.{Numbers};
+ghost use Rattle.pipe_ends.specs.Links.{KeepsLinks};
 ghost use Rattle.posix_defs.specs.Account.{Account};
 ghost use Rattle.posix_defs.specs.Calls.Opened.{opened_at};
 ghost use Rattle.posix_defs.specs.Calls.Writing.{is_broken, write_ignoring};
@@ -106,6 +107,7 @@ pub fn write(
       socks = heap.new.socks;
       high = heap.new.high;
     } }
+    ensures links { KeepsLinks heap.old heap.new }
     ensures paid { IsPaid heap.old purse.old heap.new purse.new }
     ensures purse { PaysChunks purse.old purse.new }
 {
@@ -234,6 +236,7 @@ fn put_from(
         (loaded memory (written.now.start + written.now.done) (written.now.n - written.now.done))
         (moved_in (write_of queue behind nonblock written.now.n (written.now.n - written.now.done))) }
     ensures leaves { LeavesBut heap.old heap.new queue }
+    ensures links { KeepsLinks heap.old heap.new }
     ensures paid { IsPaid heap.old purse.old heap.new purse.new }
     ensures purse { PaysChunks purse.old purse.new }
     ensures refused { (behind : Behind queue) → StandsBehind heap.old queue behind

@@ -3,6 +3,7 @@ use Rattle.std.specs.Prelude.{ℕ, ◌≡◌, ◌==◌, ℤ, pos, negsuc, if◌t
 use Rattle.std.specs.List.{AllByRecursion, range_with_len}
 use Rattle.kabi_types.specs.Arguments.{most_descriptors}
 use Rattle.kheap_slabs.specs.declared.objects.Descriptor.{Descriptor}
+use Rattle.kheap_slabs.specs.declared.objects.HalfOpen.{HalfOpen}
 use Rattle.kheap_slabs.specs.declared.objects.Proc.{Proc}
 use Rattle.kheap_slabs.specs.Heap.{Heap}
 use Rattle.kheap_slabs.specs.Leaves.{no_row, numbers_by}
@@ -113,15 +114,26 @@ abbrev pub HasNoneOpenOnce : Option ℕ → List (Option Descriptor) → List (O
 HasNoneOpenOnce None descriptors leaves = Unit {0}
 HasNoneOpenOnce (Some status) descriptors leaves = (descriptors ≡ no_row) × (leaves ≡ no_leaves)
 
--- a process that has ended has no memory, and no descriptor is open in it
+-- a process that has ended sleeps in no open of a FIFO
+abbrev pub IsAwakeOnce : Option ℕ → Option HalfOpen → Type 0
+IsAwakeOnce None opening = Unit {0}
+IsAwakeOnce (Some status) opening = opening ≡ None
+
+-- a process that has ended has no memory, no descriptor is open in it, and it sleeps in no open of a FIFO
 pub record IsLight (proc : Proc) : Type 0 where
   pub memory : HasNoMemoryOnce proc.status proc.nodes
   pub descriptors : HasNoneOpenOnce proc.status proc.descriptors proc.leaves
+  pub awake : IsAwakeOnce proc.status proc.opening
 
--- the process of that pid has no descriptor open
+-- no descriptor is open in the process, and it sleeps in no open of a FIFO
+pub record IsClosed (proc : Proc) : Type 0 where
+  pub opens : OpensNone proc
+  pub awake : proc.opening ≡ None
+
+-- the process of that pid is so
 abbrev pub HasClosed : List Proc → ℕ → Type 0
-HasClosed procs pid = AllByRecursion (λ proc. proc.pid ≡ pid → OpensNone proc) procs
+HasClosed procs pid = AllByRecursion (λ proc. proc.pid ≡ pid → IsClosed proc) procs
 
--- and no process has
+-- and each process is
 abbrev pub NoneOpen : List Proc → Type 0
-NoneOpen procs = AllByRecursion OpensNone procs
+NoneOpen procs = AllByRecursion IsClosed procs

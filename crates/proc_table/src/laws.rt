@@ -13,7 +13,7 @@ ghost use Rattle.page_space.specs.Accounts.{AccountMoves, IsAccounted};
 ghost use Rattle.page_space.specs.Contents.{IsOwnedWith, StandsFor};
 ghost use Rattle.posix_defs.specs.Ending.{die_in};
 ghost use Rattle.posix_defs.specs.Family.{IsFamily};
-ghost use Rattle.posix_defs.specs.Files.State.{Files, boot_files, with_heir};
+ghost use Rattle.posix_defs.specs.Files.State.{Files, boot_files, with_heir, with_opening};
 ghost use Rattle.posix_defs.specs.Forking.{fork};
 ghost use Rattle.posix_defs.specs.Memory.{Frames, Memory};
 ghost use Rattle.posix_defs.specs.Plain.{Plain, last_pid};
@@ -23,8 +23,8 @@ ghost use Rattle.proc_table.specs.Accounting.{HasAccount};
 ghost use Rattle.open_laws.specs.Sharing.{CanShare, share_all};
 ghost use Rattle.proc_table.specs.Changes.{after_wait, child_proc, ended, forked_as, is_other, reaped_of, replaced, with_nodes};
 ghost use Rattle.proc_table.specs.Moves.{HasCopies, IsForked, MemoryStays, NumbersTurn, ProcTurns, SpaceTurns, TableMoves, sharing};
-ghost use Rattle.proc_table.specs.Opening.{HaveOpen};
-ghost use Rattle.proc_table.specs.Procs.{HasClosed, NoneOpen, OpensNone, first_proc, ignored_by, memory_at, numbers_in, proc_of, process_of};
+ghost use Rattle.proc_table.specs.Opening.{HaveOpen, opening_in};
+ghost use Rattle.proc_table.specs.Procs.{HasClosed, IsClosed, NoneOpen, first_proc, ignored_by, memory_at, numbers_in, proc_of, process_of};
 ghost use Rattle.proc_table.specs.Standing.{IsTable, answered_fork, answered_wait, ends_from, ends_in, found_in};
 ghost use Rattle.proc_table.specs.Table.{Holds, TableView, key_of, processes, with_procs};
 ghost use Rattle.proc_table.specs.declared.reaped.Reaped.{Reaped};
@@ -112,9 +112,10 @@ pub fn the_table_answers_as_the_machine()
         → ends_from more 2 (ends_in table 1 status) signal ≡ die_in table 1 status }
 {}
 
-/// What the processes have open goes on being what the machine has open: at boot, where a child is made, where one that has
-/// nothing open ends, where one is waited for, where memory is another, and where a process goes on. Only a fork makes the
-/// machine's descriptors others: the child has those of its parent.
+/// What the processes have open, and in which opens of FIFOs they sleep, goes on being what the machine has: at boot, where a child is
+/// made, where one that has nothing open ends, where one is waited for, where memory is another, and where a process goes on. Only a
+/// fork makes the machine's descriptors others: the child has those of its parent, and sleeps in no open. Who sleeps in another open, or
+/// in none any more, does so in the machine.
 pub fn descriptors_go_on()
     ensures booted { (h : Heap) (number : ℕ → ℕ) (blocks : ℕ) → HaveOpen (numbers_in h) (first_proc ∷ []) 1 number (boot_files blocks) }
     ensures forked { (old : Heap) (new : Heap) (was : TableView) (now : TableView) (pid : ℕ) (child : ℕ) (number : ℕ → ℕ) (files : Files)
@@ -132,9 +133,13 @@ pub fn descriptors_go_on()
     ensures remembers { (h : Heap) (pid : ℕ) (nodes : List (Option ℕ)) (procs : List Proc) (last : ℕ) (number : ℕ → ℕ) (files : Files)
         → HaveOpen (numbers_in h) procs last number files → HaveOpen (numbers_in h) (map (with_nodes pid nodes) procs) last number files }
     ensures turned { (old : Heap) (new : Heap) (kept : TableView) (pid : ℕ) (key : ℕ) (proc : Proc) (now : Proc) (number : ℕ → ℕ) (files : Files)
-        → Holds old kept → ProcTurns old new kept pid key proc now
+        → Holds old kept → ProcTurns old new kept pid key proc now → now.opening ≡ proc.opening
         → HaveOpen (numbers_in old) (processes old kept) kept.last number files
         → HaveOpen (numbers_in new) (processes new kept) kept.last number files }
+    ensures sleeps { (old : Heap) (new : Heap) (kept : TableView) (pid : ℕ) (key : ℕ) (proc : Proc) (now : Proc) (number : ℕ → ℕ) (files : Files)
+        → Holds old kept → ProcTurns old new kept pid key proc now
+        → HaveOpen (numbers_in old) (processes old kept) kept.last number files
+        → HaveOpen (numbers_in new) (processes new kept) kept.last number (with_opening files pid (opening_in now)) }
 {}
 
 /// The Leaves of the processes go on being all that there are, each with one owner and a number open in it: at boot, where the numbers of
@@ -182,5 +187,5 @@ pub fn nothing_open_stays_nothing_open()
     ensures remembers { (pid : ℕ) (nodes : List (Option ℕ)) (procs : List Proc)
         → NoneOpen procs → NoneOpen (map (with_nodes pid nodes) procs) }
     ensures replaced { (pid : ℕ) (now : Proc) (procs : List Proc)
-        → OpensNone now → NoneOpen procs → NoneOpen (map (replaced pid now) procs) }
+        → IsClosed now → NoneOpen procs → NoneOpen (map (replaced pid now) procs) }
 {}
