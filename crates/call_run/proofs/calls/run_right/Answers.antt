@@ -440,28 +440,28 @@ returns-in-Queue-clause-cached c =
 
 pub write-requires-clause-right : goal.write-requires-clause-right
 write-requires-clause-right c =
-    right_that c.requires.right (named_three c.named_by-named.ensures.number (λ x y z. call.Write x y z 0) (written_anew c.in-Write.is (c.target_of-target.ensures.fresh _ _ _ _ c.named_by-named.ensures.opened (numbered c.named_by-named.ensures.number c.in-Write.is refl) c.in-File-target.is c.requires.half.1 c.requires.half.2)) refl (search (rules, to_z-of_z)) (search (rules, to_z-of_z)))
+    right_that c.requires.right (named_three c.named_by-named.ensures.number (λ x y z. call.Write x y z 0) (written_anew c.in-Write.is (c.target_of-target.ensures.fresh _ _ _ _ _ c.named_by-named.ensures.opened (numbered c.named_by-named.ensures.number c.in-Write.is refl) c.in-File-target.is c.requires.half.1 c.requires.half.2)) refl (search (rules, to_z-of_z)) (search (rules, to_z-of_z)))
 
 pub write-requires-clause-may : goal.write-requires-clause-may
 write-requires-clause-may c =
     may_fetch c.purse_for-paid.ensures.value c.in-File-target.is c.requires.needed c.requires.right
-    (named_three c.named_by-named.ensures.number (λ x y z. call.Write x y z 0) (written_anew c.in-Write.is (c.target_of-target.ensures.fresh _ _ _ _ c.named_by-named.ensures.opened (numbered c.named_by-named.ensures.number c.in-Write.is refl) c.in-File-target.is c.requires.half.1 c.requires.half.2)) refl (search (rules, to_z-of_z)) (search (rules, to_z-of_z))) refl c.requires.room
+    (named_three c.named_by-named.ensures.number (λ x y z. call.Write x y z 0) (written_anew c.in-Write.is (c.target_of-target.ensures.fresh _ _ _ _ _ c.named_by-named.ensures.opened (numbered c.named_by-named.ensures.number c.in-Write.is refl) c.in-File-target.is c.requires.half.1 c.requires.half.2)) refl (search (rules, to_z-of_z)) (search (rules, to_z-of_z))) refl c.requires.room
 
 pub write-requires-clause-needed : goal.write-requires-clause-needed
 write-requires-clause-needed c =
     has_file_need c.purse_for-paid.ensures.value c.in-File-target.is c.requires.needed c.requires.right
-    (named_three c.named_by-named.ensures.number (λ x y z. call.Write x y z 0) (written_anew c.in-Write.is (c.target_of-target.ensures.fresh _ _ _ _ c.named_by-named.ensures.opened (numbered c.named_by-named.ensures.number c.in-Write.is refl) c.in-File-target.is c.requires.half.1 c.requires.half.2)) refl (search (rules, to_z-of_z)) (search (rules, to_z-of_z)))
+    (named_three c.named_by-named.ensures.number (λ x y z. call.Write x y z 0) (written_anew c.in-Write.is (c.target_of-target.ensures.fresh _ _ _ _ _ c.named_by-named.ensures.opened (numbered c.named_by-named.ensures.number c.in-Write.is refl) c.in-File-target.is c.requires.half.1 c.requires.half.2)) refl (search (rules, to_z-of_z)) (search (rules, to_z-of_z)))
 
 pub write-requires-clause-on : goal.write-requires-clause-on
 write-requires-clause-on c =
-    subst (IsOnFile c.args.objects.now.heap c.args.objects.now.procs c.args.caller.now.place.pid) (named_three c.named_by-named.ensures.number (λ x y z. call.Write x y z 0) (written_anew c.in-Write.is (c.target_of-target.ensures.fresh _ _ _ _ c.named_by-named.ensures.opened (numbered c.named_by-named.ensures.number c.in-Write.is refl) c.in-File-target.is c.requires.half.1 c.requires.half.2)) refl (search (rules, to_z-of_z)) (search (rules, to_z-of_z))) (c.target_of-target.ensures.on _ _ _ c.named_by-named.ensures.opened (numbered c.named_by-named.ensures.number c.in-Write.is refl) c.in-File-target.is)
+    subst (IsOnFile c.args.objects.now.heap c.args.objects.now.procs c.args.caller.now.place.pid) (named_three c.named_by-named.ensures.number (λ x y z. call.Write x y z 0) (written_anew c.in-Write.is (c.target_of-target.ensures.fresh _ _ _ _ _ c.named_by-named.ensures.opened (numbered c.named_by-named.ensures.number c.in-Write.is refl) c.in-File-target.is c.requires.half.1 c.requires.half.2)) refl (search (rules, to_z-of_z)) (search (rules, to_z-of_z))) (c.target_of-target.ensures.on _ _ _ c.named_by-named.ensures.opened (numbered c.named_by-named.ensures.number c.in-Write.is refl) c.in-File-target.is)
 
 pub returns-in-File-target-clause-uses : goal.returns-in-File-target-clause-uses
 returns-in-File-target-clause-uses c = uses_paid _ _ _ _ _ _ c.write.ensures.paid (c.purse_for-paid.ensures.within c.args.call.now c.requires.needed)
 
 pub returns-in-File-target-clause-does : goal.returns-in-File-target-clause-does
 returns-in-File-target-clause-does c =
-    serves_that (named_three c.named_by-named.ensures.number (λ x y z. call.Write x y z 0) (written_anew c.in-Write.is (c.target_of-target.ensures.fresh _ _ _ _ c.named_by-named.ensures.opened (numbered c.named_by-named.ensures.number c.in-Write.is refl) c.in-File-target.is c.requires.half.1 c.requires.half.2)) refl (search (rules, to_z-of_z)) (search (rules, to_z-of_z))) c.write.ensures.does
+    serves_that (named_three c.named_by-named.ensures.number (λ x y z. call.Write x y z 0) (written_anew c.in-Write.is (c.target_of-target.ensures.fresh _ _ _ _ _ c.named_by-named.ensures.opened (numbered c.named_by-named.ensures.number c.in-Write.is refl) c.in-File-target.is c.requires.half.1 c.requires.half.2)) refl (search (rules, to_z-of_z)) (search (rules, to_z-of_z))) c.write.ensures.does
 
 pub returns-in-File-target-clause-cached : goal.returns-in-File-target-clause-cached
 returns-in-File-target-clause-cached c = cached_that _ _ _ _ c.in-Write.is tt
