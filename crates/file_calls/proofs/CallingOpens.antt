@@ -1,6 +1,7 @@
 -- A call has changed what a process has open, with the tree of files and the names of sockets, and its caller goes on.
 use Rattle.std.proofs.Common.{◌≡◌, ℕ, List, [], Option, length, le_refl, refl, subst, sym}
 use Rattle.std.specs.Prelude.{IsSome}
+use Rattle.fifo_nodes.specs.Chain.{IsChain}
 use Rattle.kabi_types.specs.declared.calls.Call.{Call}
 use Rattle.kabi_types.specs.declared.scripts.Control.{Control}
 use Rattle.kabi_types.specs.declared.scripts.Script.{Script}
@@ -93,15 +94,15 @@ takes_none h = record { counts = λ class. le_refl _; high = refl; heap = refl; 
 
 -- ---- what they leave
 
-module _ (script : Script) (old : Objects) (heap : Heap) (fs : TreeView) (table : List (Option ℕ)) (pid : ℕ) (control : Control) (kept : AreKept script old) (runs : Runs old pid control)
-    (changes : ChangesHolding old.heap heap old.procs pid) (listed : AreListed heap old.procs) (owners : HasItsOwners heap []) (bound : AreBound (name_of heap.socks) table)
+module _ (script : Script) (old : Objects) (heap : Heap) (fs : TreeView) (table : List (Option ℕ)) (fifos : Option ℕ) (pid : ℕ) (control : Control) (kept : AreKept script old) (runs : Runs old pid control)
+    (changes : ChangesHolding old.heap heap old.procs pid) (listed : AreListed heap old.procs) (owners : HasItsOwners heap []) (chain : IsChain heap fifos) (bound : AreBound (name_of heap.socks) table)
     (places : length table ≡ length old.names) (some : HoldSome heap old.procs fs) where
   -- the objects mid
   abbrev pub mid : Objects
-  mid = record { heap = heap; procs = old.procs; tree = fs; names = table }
+  mid = record { heap = heap; procs = old.procs; tree = fs; names = table; fifos = fifos }
 
   pub moves : FileMoves old mid
-  moves = moves_holding old mid pid refl changes kept.holds (alive_who_runs old pid control runs) listed owners bound places (keeps_some mid some)
+  moves = moves_holding old mid pid refl changes kept.holds (alive_who_runs old pid control runs) listed owners chain bound places (keeps_some mid some)
 
   pub kept_mid : AreKept script mid
   kept_mid = kept_turned script old mid kept moves

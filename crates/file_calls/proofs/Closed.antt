@@ -3,10 +3,11 @@ use Rattle.std.proofs.Common.{◌≡◌, ℕ, zero, suc, ◌==◌, Bool, true, f
 use Rattle.std.proofs.lemmas.Bool.{cond-true, eq-eqb, false≢true}
 use Rattle.std.proofs.lemmas.List.{set-get_or}
 use Rattle.std.specs.List.{filter}
-use Rattle.posix_defs.specs.Files.Closing.{after_close, after_closes, after_exec_of, all_numbers, close_in, description_gone, gone_in, left_node, target_closed}
-use Rattle.posix_defs.specs.Files.Descriptions.{Access, Description, OnNode, OnPipe, OnSocket, Target, description_at, with_description}
+use Rattle.posix_defs.specs.Files.Closing.{after_close, after_closes, after_exec_of, all_numbers, close_in, description_gone, gone_in, left_fifo, left_node, target_closed}
+use Rattle.posix_defs.specs.Files.Descriptions.{Access, Description, OnNode, OnPipe, OnSocket, Target, description_at, may_write, with_description}
 use Rattle.posix_defs.specs.Files.Descriptors.{Descriptor, descriptor_at, is_cloexec, is_named}
-use Rattle.posix_defs.specs.Files.State.{Files, descriptors_of, opens, with_descriptions, with_open}
+use Rattle.posix_defs.specs.Files.State.{Files, descriptors_of, node_of, opens, pipe_at, with_descriptions, with_open, with_pipe}
+use Rattle.posix_defs.specs.Pipe.{after_close as pipe_after_close}
 use Rattle.posix_defs.specs.IsTree.{IsTree}
 use Rattle.posix_defs.specs.Tree.{Node, Tree, found, is_in_use, links_at, links_in, node_at, with_node}
 use Rattle.posix_defs.specs.TreeChanges.{closed}
@@ -61,9 +62,13 @@ left files number = by_test (opens files number)
     by_test true = same files
     by_test false = λ is. record { is_tree = closed_tree files.tree number is; found = λ dir name. closed_names files.tree number is dir name }
 
+fifo_left : (files : Files) (o : Option ℕ) → Stay files (left_fifo files o)
+fifo_left files None = same files
+fifo_left files (Some number) = left files number
+
 target_stays : (files : Files) (access : Access) (what : Target) → Stay files (target_closed files access what)
 target_stays files access (OnNode number) = left files number
-target_stays files access (OnPipe place) = same files
+target_stays files access (OnPipe place) = fifo_left (with_pipe files place (pipe_after_close (pipe_at files place) (may_write access))) (node_of files (OnPipe place))
 target_stays files access (OnSocket place) = same files
 
 gone : (files : Files) (place : ℕ) → Stay files (description_gone files place)

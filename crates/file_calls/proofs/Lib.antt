@@ -1,6 +1,5 @@
 pub mod Waiting
 pub mod Purses
-pub mod Waiting
 pub mod Reached
 pub mod CallingOpens
 pub mod Opened

@@ -1,5 +1,6 @@
 -- A process has closed what an exec closes.
 use Rattle.std.proofs.Common.{◌≡◌, ℕ, ◌+◌, ◌≤◌, List, [], Option, length, pos, refl, ap, sym, subst, arith}
+use Rattle.fifo_nodes.specs.Chain.{IsChain}
 use Rattle.kabi_types.specs.declared.calls.Call.TheVariants as call
 use Rattle.kabi_types.specs.declared.scripts.Script.{Script}
 use Rattle.kabi_types.specs.declared.classes.Class.TheVariants as class
@@ -32,14 +33,14 @@ use Rattle.store_objects.proofs.Staying.{memory_holding, moves_holding}
 use Rattle.file_calls.specs.Starting.{CachesShed, shed_in}
 use Rattle.file_calls.proofs.CallingOpens.{keeps_some}
 
-module _ (script : Script) (old : Objects) (heap : Heap) (fs : TreeView) (table : List (Option ℕ)) (pid : ℕ) (kept : AreKept script old) (alive : IsAlive (procs_of old) pid)
-    (changes : ChangesHolding old.heap heap old.procs pid) (listed : AreListed heap old.procs) (owners : HasItsOwners heap []) (places : length table ≡ length old.names)
+module _ (script : Script) (old : Objects) (heap : Heap) (fs : TreeView) (table : List (Option ℕ)) (fifos : Option ℕ) (pid : ℕ) (kept : AreKept script old) (alive : IsAlive (procs_of old) pid)
+    (changes : ChangesHolding old.heap heap old.procs pid) (listed : AreListed heap old.procs) (owners : HasItsOwners heap []) (chain : IsChain heap fifos) (places : length table ≡ length old.names)
     (some : HoldSomeNames heap old.procs fs table) where
   abbrev new : Objects
-  new = record { heap = heap; procs = old.procs; tree = fs; names = table }
+  new = record { heap = heap; procs = old.procs; tree = fs; names = table; fifos = fifos }
 
   pub moves_shed : FileMoves old new
-  moves_shed = moves_holding old new pid refl changes kept.holds alive listed owners some.hold.bound places
+  moves_shed = moves_holding old new pid refl changes kept.holds alive listed owners chain some.hold.bound places
       (keeps_some new (record { numbers = some.numbers; others = some.others; files = some.files; hold = some.hold.held }))
 
   -- The store stands for the worlds in which it has closed them.

@@ -14,19 +14,20 @@ ghost use Rattle.posix_defs.specs.Machine.{blocks};
 ghost use Rattle.posix_defs.specs.Needs.{need_of};
 ghost use Rattle.posix_defs.specs.Process.{is_alive};
 ghost use Rattle.posix_defs.specs.World.{World};
-ghost use Rattle.proc_numbers.specs.Having.{half_in};
+ghost use Rattle.proc_table.specs.Opening.{half_in};
 ghost use Rattle.proc_table.specs.Table.{IsPlaced};
 ghost use Rattle.store_objects.specs.Objects.{AreKept, Runs};
 ghost use Rattle.store_objects.specs.Standing.{IsSound, StandsFor};
 ghost use Rattle.store_objects.specs.Walking.{Serves};
+ghost use Rattle.file_calls.specs.Opening.{came_in, told_of};
 
-use kabi_types::{Reply, Script};
+use kabi_types::{Errno, Reply, Script};
 use kheap_slabs::{HalfOpen, Purse};
 use posix_defs::Turned;
-use proc_files::open_path;
+use proc_files::{Opened, open_path};
 use proc_numbers::is_met;
 use proc_table::Place;
-use store_objects::{Caller, Objects, do_part, go_on, go_on_done};
+use store_objects::{Caller, Objects, do_part, go_on};
 
 /// Has the lowest number that is free name a new description of what a path leads to, which may be made by the way (O_CREAT), and
 /// tells it. An open of a FIFO makes its end, and sleeps where the other side has none, but with O_NONBLOCK; it is over once the other
@@ -86,7 +87,7 @@ fn open_anew(
     ensures does { Serves script.now objects.old caller.now.place.pid (Call.OpenFile path.now flags) (λ plain. open_by script.now plain caller.now.place.pid path.now flags None) result objects.new }
 {
     objects.heap_is_well_formed();
-    let told = open_path(
+    let came = open_path(
         &mut objects.heap,
         purse,
         &objects.procs,
@@ -96,9 +97,32 @@ fn open_anew(
         path,
         flags,
     );
-    match told {
-        Turned::Part(moved) => do_part(objects, caller, moved),
-        told => go_on_done(script, objects, caller, told),
+    go_on_opened(script, objects, caller, came)
+}
+
+// The caller goes on behind its open, which told a number or a fault; or it sleeps in it until the other side of a FIFO is opened.
+fn go_on_opened(
+    script: &Script,
+    objects: &mut Objects,
+    caller: &Caller,
+    came: Result<Opened, Errno>,
+) -> Turned
+    requires kept { AreKept script.now objects.old }
+    requires runs { Runs objects.old caller.now.place.pid caller.now.control }
+    requires placed { IsPlaced objects.old.procs caller.now.place }
+    requires begins { caller.now.control.done ≡ 0 }
+    ensures kept { AreKept script.now objects.new }
+    ensures told { result ≡ told_of came }
+    ensures takes { TakesNothing objects.old.heap objects.new.heap }
+    ensures goes { (world : World) → StandsFor script.now objects.old world → StandsFor script.now objects.new (came_in script.now world caller.now.place.pid came) }
+{
+    match came {
+        Ok(Opened::Over(fd)) => go_on(script, objects, caller, Reply::Val(i64::from(fd))),
+        Ok(Opened::Waits(opening)) => {
+            objects.wait_in(caller.place, Some(opening));
+            do_part(objects, caller, 1)
+        }
+        Err(errno) => go_on(script, objects, caller, Reply::Fail(errno)),
     }
 }
 

@@ -18,6 +18,9 @@ close_number-closed-requires-clause-listed c = listed_in c.args.script.now c.arg
 pub close_number-closed-requires-clause-owners : goal.close_number-closed-requires-clause-owners
 close_number-closed-requires-clause-owners c = c.requires.stands.1.kept.owners
 
+pub close_number-closed-requires-clause-chain : goal.close_number-closed-requires-clause-chain
+close_number-closed-requires-clause-chain c = c.requires.stands.1.kept.chain
+
 pub close_number-closed-requires-clause-hold : goal.close_number-closed-requires-clause-hold
 close_number-closed-requires-clause-hold c =
     holds_some_names c.args.script.now c.args.objects.now c.requires.stands.0 c.requires.stands.1 c.requires.stands.2 c.heap_is_well_formed.ensures
@@ -31,15 +34,15 @@ pub go_on-requires-clause-kept : goal.go_on-requires-clause-kept
 go_on-requires-clause-kept c =
     let n = c.close_number-closed in
     let some = n.ensures.hold in
-    kept_mid c.args.script.now c.args.objects.now n.new.heap n.new.tree n.new.names c.args.caller.now.place.pid c.args.caller.now.control c.requires.stands.1.kept c.requires.runs n.ensures.changes n.ensures.listed n.ensures.owners
-    some.hold.bound n.ensures.places (record { numbers = some.numbers; others = some.others; files = some.files; hold = some.hold.held })
+    kept_mid c.args.script.now c.args.objects.now n.new.heap n.new.tree n.new.names n.new.fifos c.args.caller.now.place.pid c.args.caller.now.control c.requires.stands.1.kept c.requires.runs n.ensures.changes n.ensures.listed n.ensures.owners
+    n.ensures.chain some.hold.bound n.ensures.places (record { numbers = some.numbers; others = some.others; files = some.files; hold = some.hold.held })
 
 pub go_on-requires-clause-runs : goal.go_on-requires-clause-runs
 go_on-requires-clause-runs c =
     let n = c.close_number-closed in
     let some = n.ensures.hold in
-    runs_mid c.args.script.now c.args.objects.now n.new.heap n.new.tree n.new.names c.args.caller.now.place.pid c.args.caller.now.control c.requires.stands.1.kept c.requires.runs n.ensures.changes n.ensures.listed n.ensures.owners
-    some.hold.bound n.ensures.places (record { numbers = some.numbers; others = some.others; files = some.files; hold = some.hold.held })
+    runs_mid c.args.script.now c.args.objects.now n.new.heap n.new.tree n.new.names n.new.fifos c.args.caller.now.place.pid c.args.caller.now.control c.requires.stands.1.kept c.requires.runs n.ensures.changes n.ensures.listed n.ensures.owners
+    n.ensures.chain some.hold.bound n.ensures.places (record { numbers = some.numbers; others = some.others; files = some.files; hold = some.hold.held })
 
 pub returns-clause-uses : goal.returns-clause-uses
 returns-clause-uses c =
@@ -60,16 +63,16 @@ returns-clause-does c =
     let which = call.Close c.args.on.now.fd in
     let said = c.zero.result in
     let one : HoldSome n.new.heap old.procs n.new.tree = record { numbers = some.numbers; others = some.others; files = some.files; hold = some.hold.held } in
-    serves_naming script old n.new.heap n.new.tree n.new.names pid c.args.caller.now.control kept c.requires.runs n.ensures.changes n.ensures.listed n.ensures.owners some.hold.bound n.ensures.places one
+    serves_naming script old n.new.heap n.new.tree n.new.names n.new.fifos pid c.args.caller.now.control kept c.requires.runs n.ensures.changes n.ensures.listed n.ensures.owners n.ensures.chain some.hold.bound n.ensures.places one
     which said c.go_on.result c.go_on.new.objects (λ plain. close script plain pid c.args.on.now.fd) c.heap_is_well_formed.ensures
-    (within_same old (mid script old n.new.heap n.new.tree n.new.names pid c.args.caller.now.control kept c.requires.runs n.ensures.changes n.ensures.listed n.ensures.owners some.hold.bound n.ensures.places one)
+    (within_same old (mid script old n.new.heap n.new.tree n.new.names n.new.fifos pid c.args.caller.now.control kept c.requires.runs n.ensures.changes n.ensures.listed n.ensures.owners n.ensures.chain some.hold.bound n.ensures.places one)
     c.kept_back-purse.result n.new.purse which n.ensures.paid n.ensures.same n.ensures.reads)
     n.ensures.queues c.go_on.ensures.told c.go_on.ensures.goes (no_frames which (λ frames pid value. refl) pid said)
     (λ numbers others plain hold.
     subst (AnswersNaming numbers others n.new.heap old.procs n.new.tree n.new.names script plain pid (close script plain pid c.args.on.now.fd)) (sym c.zero.ensures)
     (n.ensures.answers numbers others script plain hold))
     (λ world next stands.
-    leaves_numbers old (mid script old n.new.heap n.new.tree n.new.names pid c.args.caller.now.control kept c.requires.runs n.ensures.changes n.ensures.listed n.ensures.owners some.hold.bound n.ensures.places one)
+    leaves_numbers old (mid script old n.new.heap n.new.tree n.new.names n.new.fifos pid c.args.caller.now.control kept c.requires.runs n.ensures.changes n.ensures.listed n.ensures.owners n.ensures.chain some.hold.bound n.ensures.places one)
     world pid which (record { right = refl; paths = refl; leaves = λ plain pid. refl; walks = refl }) said next
     (λ off.
     n.ensures.stays

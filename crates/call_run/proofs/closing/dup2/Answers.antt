@@ -28,6 +28,9 @@ dup_number-made-requires-clause-listed c = listed_in c.args.script.now c.args.ob
 pub dup_number-made-requires-clause-owners : goal.dup_number-made-requires-clause-owners
 dup_number-made-requires-clause-owners c = c.requires.stands.1.kept.owners
 
+pub dup_number-made-requires-clause-chain : goal.dup_number-made-requires-clause-chain
+dup_number-made-requires-clause-chain c = c.requires.stands.1.kept.chain
+
 pub dup_number-made-requires-clause-hold : goal.dup_number-made-requires-clause-hold
 dup_number-made-requires-clause-hold c =
     holds_some_names c.args.script.now c.args.objects.now c.requires.stands.0 c.requires.stands.1 c.requires.stands.2 c.heap_is_well_formed.ensures
@@ -41,15 +44,15 @@ pub go_on-requires-clause-kept : goal.go_on-requires-clause-kept
 go_on-requires-clause-kept c =
     let n = c.dup_number-made in
     let some = n.ensures.hold in
-    kept_mid c.args.script.now c.args.objects.now n.new.heap n.new.tree n.new.names c.args.caller.now.place.pid c.args.caller.now.control c.requires.stands.1.kept c.requires.runs n.ensures.changes n.ensures.listed n.ensures.owners
-    some.hold.bound n.ensures.places (record { numbers = some.numbers; others = some.others; files = some.files; hold = some.hold.held })
+    kept_mid c.args.script.now c.args.objects.now n.new.heap n.new.tree n.new.names n.new.fifos c.args.caller.now.place.pid c.args.caller.now.control c.requires.stands.1.kept c.requires.runs n.ensures.changes n.ensures.listed n.ensures.owners
+    n.ensures.chain some.hold.bound n.ensures.places (record { numbers = some.numbers; others = some.others; files = some.files; hold = some.hold.held })
 
 pub go_on-requires-clause-runs : goal.go_on-requires-clause-runs
 go_on-requires-clause-runs c =
     let n = c.dup_number-made in
     let some = n.ensures.hold in
-    runs_mid c.args.script.now c.args.objects.now n.new.heap n.new.tree n.new.names c.args.caller.now.place.pid c.args.caller.now.control c.requires.stands.1.kept c.requires.runs n.ensures.changes n.ensures.listed n.ensures.owners
-    some.hold.bound n.ensures.places (record { numbers = some.numbers; others = some.others; files = some.files; hold = some.hold.held })
+    runs_mid c.args.script.now c.args.objects.now n.new.heap n.new.tree n.new.names n.new.fifos c.args.caller.now.place.pid c.args.caller.now.control c.requires.stands.1.kept c.requires.runs n.ensures.changes n.ensures.listed n.ensures.owners
+    n.ensures.chain some.hold.bound n.ensures.places (record { numbers = some.numbers; others = some.others; files = some.files; hold = some.hold.held })
 
 pub returns-clause-uses : goal.returns-clause-uses
 returns-clause-uses c =
@@ -75,9 +78,9 @@ returns-clause-does c =
     let said = c.value.result in
     let to = to_z-of_z w64 c.args.to c.ranges.to in
     let one : HoldSome n.new.heap old.procs n.new.tree = record { numbers = some.numbers; others = some.others; files = some.files; hold = some.hold.held } in
-    serves_naming script old n.new.heap n.new.tree n.new.names pid c.args.caller.now.control kept c.requires.runs n.ensures.changes n.ensures.listed n.ensures.owners some.hold.bound n.ensures.places one
+    serves_naming script old n.new.heap n.new.tree n.new.names n.new.fifos pid c.args.caller.now.control kept c.requires.runs n.ensures.changes n.ensures.listed n.ensures.owners n.ensures.chain some.hold.bound n.ensures.places one
     which said c.go_on.result c.go_on.new.objects (λ plain. dup2 script plain pid c.args.on.now.fd c.args.to) c.heap_is_well_formed.ensures
-    (within_turns old (mid script old n.new.heap n.new.tree n.new.names pid c.args.caller.now.control kept c.requires.runs n.ensures.changes n.ensures.listed n.ensures.owners some.hold.bound n.ensures.places one)
+    (within_turns old (mid script old n.new.heap n.new.tree n.new.names n.new.fifos pid c.args.caller.now.control kept c.requires.runs n.ensures.changes n.ensures.listed n.ensures.owners n.ensures.chain some.hold.bound n.ensures.places one)
     n.ensures.paid.mid c.kept_back-back.result c.args.purse.now n.new.purse which n.ensures.paid.closes n.ensures.paid.opens n.ensures.spent n.ensures.reads)
     n.ensures.queues c.go_on.ensures.told c.go_on.ensures.goes (no_frames which (λ frames pid value. refl) pid said)
     (λ numbers others plain hold.
@@ -85,7 +88,7 @@ returns-clause-does c =
     (subst (λ z. AnswersNaming numbers others n.new.heap old.procs n.new.tree n.new.names script plain pid (dup2 script plain pid c.args.on.now.fd z) (value_of n.result)) to
     (n.ensures.answers numbers others script plain hold)))
     (λ world next stands.
-    leaves_numbers old (mid script old n.new.heap n.new.tree n.new.names pid c.args.caller.now.control kept c.requires.runs n.ensures.changes n.ensures.listed n.ensures.owners some.hold.bound n.ensures.places one)
+    leaves_numbers old (mid script old n.new.heap n.new.tree n.new.names n.new.fifos pid c.args.caller.now.control kept c.requires.runs n.ensures.changes n.ensures.listed n.ensures.owners n.ensures.chain some.hold.bound n.ensures.places one)
     world pid which (record { right = refl; paths = refl; leaves = λ plain pid. refl; walks = refl }) said next
     (λ off.
     let first = c.requires.stands in

@@ -1,5 +1,7 @@
 use Rattle.std.proofs.Common.{ap, not, sym, ◌∙◌}
 use Rattle.std.specs.Option.{option_map}
+use Rattle.posix_defs.specs.Calls.OnFiles.{open_by}
+use Rattle.posix_defs.specs.Machine.{blocks}
 use Rattle.proc_table.specs.Opening.{half_in}
 use Rattle.store_objects.proofs.Keeping.{listed_in}
 use Rattle.file_calls.proofs.Waiting.{begins_on, open_blocks, waits_on}
@@ -19,12 +21,12 @@ returns-in-Some c = λ script world stands path flags.
     let pid = c.args.place.pid in
     ap not (c.is_met.ensures stands.files.numbers world.plain.files stands.files.opened)
     ∙ sym (open_blocks script world.plain pid path flags (option_map half_in c.opening_of.result) (c.opening_of.ensures script world stands)
-    ∙ ap (λ o. _) c.in-Some.is
+    ∙ ap (λ r. blocks (open_by script world.plain pid path flags (option_map half_in r))) c.in-Some.is
     ∙ waits_on script world.plain pid path flags (half_in c.in-Some.opening))
 
 pub returns-in-None : goal.returns-in-None
 returns-in-None c = λ script world stands path flags.
     let pid = c.args.place.pid in
     sym (open_blocks script world.plain pid path flags (option_map half_in c.opening_of.result) (c.opening_of.ensures script world stands)
-    ∙ ap (λ o. _) c.in-None.is
+    ∙ ap (λ r. blocks (open_by script world.plain pid path flags (option_map half_in r))) c.in-None.is
     ∙ begins_on script world.plain pid path flags)

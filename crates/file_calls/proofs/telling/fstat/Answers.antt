@@ -25,15 +25,15 @@ pub go_on-requires-clause-kept : goal.go_on-requires-clause-kept
 go_on-requires-clause-kept c =
     let old = c.args.objects.now in
     let kept = c.requires.stands.1.kept in
-    kept_mid c.args.script.now old old.heap c.stat_number-told.new.tree old.names c.args.caller.now.place.pid c.args.caller.now.control kept c.requires.runs
-    (unchanged c.args.script.now old c.args.caller.now.place.pid c.args.caller.now.control kept c.requires.runs) (listed_in c.args.script.now old kept) kept.owners kept.bound refl c.stat_number-told.ensures.hold
+    kept_mid c.args.script.now old old.heap c.stat_number-told.new.tree old.names old.fifos c.args.caller.now.place.pid c.args.caller.now.control kept c.requires.runs
+    (unchanged c.args.script.now old c.args.caller.now.place.pid c.args.caller.now.control kept c.requires.runs) (listed_in c.args.script.now old kept) kept.owners kept.chain kept.bound refl c.stat_number-told.ensures.hold
 
 pub go_on-requires-clause-runs : goal.go_on-requires-clause-runs
 go_on-requires-clause-runs c =
     let old = c.args.objects.now in
     let kept = c.requires.stands.1.kept in
-    runs_mid c.args.script.now old old.heap c.stat_number-told.new.tree old.names c.args.caller.now.place.pid c.args.caller.now.control kept c.requires.runs
-    (unchanged c.args.script.now old c.args.caller.now.place.pid c.args.caller.now.control kept c.requires.runs) (listed_in c.args.script.now old kept) kept.owners kept.bound refl c.stat_number-told.ensures.hold
+    runs_mid c.args.script.now old old.heap c.stat_number-told.new.tree old.names old.fifos c.args.caller.now.place.pid c.args.caller.now.control kept c.requires.runs
+    (unchanged c.args.script.now old c.args.caller.now.place.pid c.args.caller.now.control kept c.requires.runs) (listed_in c.args.script.now old kept) kept.owners kept.chain kept.bound refl c.stat_number-told.ensures.hold
 
 pub returns-clause-does : goal.returns-clause-does
 returns-clause-does c =
@@ -45,8 +45,8 @@ returns-clause-does c =
     let which = call.Fstat c.args.on.now.fd in
     let said = c.stat.result in
     let same = unchanged script old pid c.args.caller.now.control kept c.requires.runs in
-    let then = mid script old old.heap n.new.tree old.names pid c.args.caller.now.control kept c.requires.runs same (listed_in script old kept) kept.owners kept.bound refl n.ensures.hold in
-    serves_holding script old old.heap n.new.tree old.names pid c.args.caller.now.control kept c.requires.runs same (listed_in script old kept) kept.owners kept.bound refl n.ensures.hold
+    let then = mid script old old.heap n.new.tree old.names old.fifos pid c.args.caller.now.control kept c.requires.runs same (listed_in script old kept) kept.owners kept.chain kept.bound refl n.ensures.hold in
+    serves_holding script old old.heap n.new.tree old.names old.fifos pid c.args.caller.now.control kept c.requires.runs same (listed_in script old kept) kept.owners kept.chain kept.bound refl n.ensures.hold
     which said c.go_on.result c.go_on.new.objects (λ plain. fstat script plain pid c.args.on.now.fd) c.heap_is_well_formed.ensures
     (within_nothing old then which (takes_none old.heap) (used_reads old.tree n.new.tree n.ensures.used))
     (queues_same old.heap old.heap refl refl) c.go_on.ensures.told c.go_on.ensures.goes (no_frames which (λ frames pid value. refl) pid said)
