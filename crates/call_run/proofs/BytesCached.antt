@@ -4,7 +4,7 @@ use Rattle.kabi_types.specs.declared.calls.Call.{Call}
 use Rattle.kabi_types.specs.declared.calls.Call.TheVariants as call
 use Rattle.kheap_slabs.specs.declared.objects.Desc.{Desc}
 use Rattle.kheap_slabs.specs.declared.objects.Target.TheVariants as target
-use Rattle.open_laws.specs.Described.{node_in}
+use Rattle.open_laws.specs.Described.{inode_in}
 use Rattle.posix_defs.specs.declared.turner.Turned.{Turned}
 use Rattle.proc_numbers.specs.Found.{IsOffNodes}
 use Rattle.store_objects.specs.declared.objects.Objects.{Objects}
@@ -16,8 +16,8 @@ pub cached_that : (old new : Objects) (pid : ℕ) {which that : Call} (told : Tu
 cached_that old new pid told is cached = subst (λ w. ReadsCached old pid w told new) (sym is) cached
 
 module _ (old new : Objects) (pid : ℕ) where
-  is_no_node : (desc : Desc) (number : ℕ) → desc.target ≡ target.Inode number → node_in desc.target ≡ None → ⊥
-  is_no_node desc number leads none = let both : ◌≡◌ {A = Option ℕ} None (Some number) = sym none ∙ ap node_in leads in absurd (cc)
+  is_no_node : (desc : Desc) (number : ℕ) → desc.target ≡ target.Inode number → inode_in desc.target ≡ None → ⊥
+  is_no_node desc number leads none = let both : ◌≡◌ {A = Option ℕ} None (Some number) = sym none ∙ ap inode_in leads in absurd (cc)
 
   -- a number of a queue names no node
   off_cached : (fd : ℤ) (at : Desc → ℕ) (count : ℕ) → IsOffNodes old.heap old.procs pid fd → AreBytesCached old pid fd at count new

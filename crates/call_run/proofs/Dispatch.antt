@@ -80,7 +80,7 @@ module _ {script : Script} {old new : Objects} {pid : ℕ} {which that : Call} {
   reaches_that does = serves_that (served script old new pid that told (λ plain. answer_to script plain pid that) does)
 
   -- and where it keeps all that, and leaves no name
-  pub performs_that : path_to_leave that ≡ None → PerformsCall script old pid that told new → ServesCall script old pid which told new
+  pub performs_that : ((plain : Plain) → path_to_leave plain pid that ≡ None) → PerformsCall script old pid that told new → ServesCall script old pid which told new
   performs_that unnamed does = serves_that (unnamed_served script old new pid that told (λ plain. answer_to script plain pid that) unnamed does)
 
 -- ---- what is done

@@ -18,6 +18,7 @@ pub mod Numbering
 pub mod Needing
 pub mod Telling
 pub mod Minding
+pub mod NoFifo
 pub mod Asking
 pub mod Channels
 pub mod Meeting

@@ -1,9 +1,10 @@
 -- What a call waits for, beside what a number of another is open on.
-use Rattle.std.proofs.Common.{◌≡◌, ℕ, ◌==◌, ◌||◌, ◌+◌, ◌<◌, ℤ, not, Bool, true, false, List, [], ◌∷◌, drop, length, map, get_or, Option, None, Some, refl, ap, sym, ◌∙◌, subst}
+use Rattle.std.proofs.Common.{◌≡◌, ℕ, ◌==◌, ◌||◌, ◌+◌, ◌<◌, ℤ, not, Bool, true, false, cond, is_none, List, [], ◌∷◌, drop, length, map, get_or, Option, None, Some, refl, ap, sym, ◌∙◌, subst}
 use Rattle.std.specs.List.{list_any}
 use Rattle.std.specs.Option.{option_map}
 use Rattle.std.proofs.lemmas.List.{drop_more}
 use borrow.Author.Tests.{eqb-true, eq-eqb}
+use Rattle.kabi_types.specs.Arguments.{argument_fault}
 use Rattle.kabi_types.specs.declared.calls.Call.{Call}
 use Rattle.kabi_types.specs.declared.calls.Call.TheVariants as call
 use Rattle.kabi_types.specs.declared.scripts.Script.{Script}
@@ -27,7 +28,7 @@ use Rattle.proc_numbers.proofs.OpenedBy.{opened_is}
 use Rattle.proc_table.specs.Table.{TableView}
 use Rattle.prog_ctl.specs.Waits.{wait_of}
 use Rattle.prog_ctl.specs.declared.waits.Awaited.{Awaited}
-use Rattle.prog_ctl.specs.declared.waits.Awaited.TheVariants.{Bytes, Room, Peer, Events}
+use Rattle.prog_ctl.specs.declared.waits.Awaited.TheVariants.{Bytes, Room, Peer, Events, OtherSide}
 use Rattle.waking_laws.specs.Waking.{awaited, is_apart, meet, target_at}
 use Rattle.call_run.specs.Touching.{IsOpenOn, MeetsNone, meet_in}
 
@@ -106,6 +107,11 @@ awaited_is (call.Read fd addr n) = refl
 awaited_is (call.Write fd addr n done) = refl
 awaited_is (call.Accept fd) = refl
 awaited_is (call.Poll timeout entries) = refl
+awaited_is (call.OpenFile path flags) = go (is_none (argument_fault (call.OpenFile path flags)))
+  where
+    go : (right : Bool) → [] ≡ awaited_for (cond right (Some OtherSide) None)
+    go true = refl
+    go false = refl
 awaited_is _ = refl
 
 module _ (script : Script) (plain : Plain) (who pid : ℕ) (fd : ℤ) where

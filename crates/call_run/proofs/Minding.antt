@@ -24,9 +24,10 @@ use Rattle.posix_defs.specs.declared.turner.Turned.{Turned}
 use Rattle.posix_defs.specs.declared.turner.Turned.TheVariants as turned
 use Rattle.store_objects.specs.declared.objects.Objects.{Objects}
 use Rattle.store_objects.specs.Standing.{StandsFor}
-use Rattle.waking_laws.specs.Waking.{StaysAsItWas, StaysItself, awaited, gives_number, is_apart, meet, moves_through, passes_by, target_at, wakes_nobody}
+use Rattle.waking_laws.specs.Waking.{StaysAsItWas, StaysItself, awaited, gives_number, is_apart, meet, moves_through, no_fifo, passes_by, target_at, wakes_nobody}
 use Rattle.waking_laws.proofs.Behind.{moved_apart, moved_lives, own_kept, own_passed, stays_itself}
 use Rattle.waking_laws.proofs.Passing.{came_further, passed_by}
+use Rattle.call_run.specs.declared.sleepers.Came.{Came}
 use Rattle.call_run.specs.declared.sleepers.Came.TheVariants as came
 use Rattle.call_run.specs.declared.sleepers.Channel.{Channel}
 use Rattle.call_run.specs.declared.sleepers.Sleeper.{Sleeper}
@@ -156,22 +157,22 @@ carried script old new (sleeper ∷ rest) channels minded stay through = record 
 -- ---- what a turn came to
 
 -- whom it stirs says what it was
-pub nobody_passes : (which : Call) (told : Turned) → stirs_of which (came_of told) ≡ Nobody → passes_by which told ≡ true
-nobody_passes which turned.Sleep e = refl
-nobody_passes which turned.Gone e = refl
-nobody_passes which (turned.Done (reply.Fail errno)) e = refl
-nobody_passes which (turned.Done said) e = by_done (moves_through which) (wakes_nobody which) e
+pub nobody_passes : (no : Bool) (which : Call) (told : Turned) → stirs_of no which (came_of told) ≡ Nobody → passes_by no which told ≡ true
+nobody_passes no which turned.Sleep e = refl
+nobody_passes no which turned.Gone e = refl
+nobody_passes no which (turned.Done (reply.Fail errno)) e = refl
+nobody_passes no which (turned.Done said) e = by_done (moves_through which) (wakes_nobody no which) e
   where
     by_done : (through : Option ℤ) (nobody : Bool) → stirs_by through nobody ≡ Nobody → nobody ≡ true
     by_done (Some fd) nobody f = cc
     by_done None true f = refl
     by_done None false f = cc
-nobody_passes which (turned.Part moved) e = by_part (moves_through which) e
+nobody_passes no which (turned.Part moved) e = by_part (moves_through which) e
   where
     by_part : {X : Type 0} (through : Option ℤ) → stirs_by through false ≡ Nobody → X
     by_part (Some fd) f = cc
     by_part None f = cc
-nobody_passes which (turned.Ended status) e = cc
+nobody_passes no which (turned.Ended status) e = cc
 
 -- through which number it moved bytes
 through_moves : (through : Option ℤ) (nobody : Bool) (fd : ℤ) → stirs_by through nobody ≡ Through fd → through ≡ Some fd
@@ -179,22 +180,38 @@ through_moves (Some number) nobody fd e = cc
 through_moves None true fd e = cc
 through_moves None false fd e = cc
 
-pub moves_so : (which : Call) (told : Turned) (fd : ℤ) → stirs_of which (came_of told) ≡ Through fd
+pub moves_so : (which : Call) (told : Turned) (fd : ℤ) → stirs_of false which (came_of told) ≡ Through fd
     → (moves_through which ≡ Some fd) × ((status : ℕ) → told ≡ turned.Ended status → ⊥)
 moves_so which turned.Sleep fd e = cc
 moves_so which turned.Gone fd e = cc
 moves_so which (turned.Done (reply.Fail errno)) fd e = cc
-moves_so which (turned.Done said) fd e = (through_moves (moves_through which) (wakes_nobody which) fd e, λ status f. (cc))
+moves_so which (turned.Done said) fd e = (through_moves (moves_through which) (wakes_nobody false which) fd e, λ status f. (cc))
 moves_so which (turned.Part moved) fd e = (through_moves (moves_through which) false fd e, λ status f. (cc))
 moves_so which (turned.Ended status) fd e = cc
 
+-- whether a FIFO is open has no part in it
+pub through_so : (no : Bool) (which : Call) (how : Came) (fd : ℤ) → stirs_of no which how ≡ Through fd → stirs_of false which how ≡ Through fd
+through_so no which came.Nothing fd e = e
+through_so no which came.Sleep fd e = e
+through_so no which came.Part fd e = e
+through_so no which came.Done fd e = go (moves_through which) e
+  where
+    go : (through : Option ℤ) → stirs_by through (wakes_nobody no which) ≡ Through fd → stirs_by through (wakes_nobody false which) ≡ Through fd
+    go (Some number) f = f
+    go None f = absurd (none (wakes_nobody no which) f)
+      where
+        none : (nobody : Bool) → stirs_by None nobody ≡ Through fd → ⊥
+        none true g = cc
+        none false g = cc
+through_so no which came.End fd e = e
+
 -- a turn that passes by doesn't end its process
-pub passes_lasts : (which : Call) (told : Turned) → passes_by which told ≡ true → (status : ℕ) → told ≡ turned.Ended status → ⊥
-passes_lasts which turned.Sleep e status f = cc
-passes_lasts which turned.Gone e status f = cc
-passes_lasts which (turned.Done said) e status f = cc
-passes_lasts which (turned.Part moved) e status f = cc
-passes_lasts which (turned.Ended other) e status f = cc
+pub passes_lasts : (no : Bool) (which : Call) (told : Turned) → passes_by no which told ≡ true → (status : ℕ) → told ≡ turned.Ended status → ⊥
+passes_lasts no which turned.Sleep e status f = cc
+passes_lasts no which turned.Gone e status f = cc
+passes_lasts no which (turned.Done said) e status f = cc
+passes_lasts no which (turned.Part moved) e status f = cc
+passes_lasts no which (turned.Ended other) e status f = cc
 
 -- a process lives on behind its own turn, unless that ended it
 pub mover_lives : (script : Script) (old new : World) (pid : ℕ) (which : Call) (told : Turned) → IsReached script old.plain → TurnsTo script old pid which told new
@@ -213,7 +230,7 @@ mover_lives script old new pid which told reached turns lasts alive =
 -- ---- a turn that passes by
 
 module _ (script : Script) (old new : World) (pid : ℕ) (which : Call) (told : Turned) (reached : IsReached script old.plain) (turns : TurnsTo script old pid which told new)
-    (passes : passes_by which told ≡ true) (sleepers : List Sleeper) (channels : List (Option Channel)) (minded : AreMinded script old.plain sleepers channels)
+    (passes : passes_by (no_fifo new.plain.files) which told ≡ true) (sleepers : List Sleeper) (channels : List (Option Channel)) (minded : AreMinded script old.plain sleepers channels)
     (up : told_of sleepers pid ≡ None) where
   stay_passed : AllByRecursion (λ sleeper. StaysAsItWas script sleeper.pid old.plain new.plain) sleepers
   stay_passed =
@@ -233,7 +250,7 @@ module _ (script : Script) (old new : World) (pid : ℕ) (which : Call) (told : 
     | inl same ↦ record {
       lives =
           ap (is_alive new.plain.table) same.1
-          ∙ mover_lives script old new pid which told reached turns (passes_lasts which told passes) (ap (is_alive old.plain.table) (sym same.1) ∙ alive);
+          ∙ mover_lives script old new pid which told reached turns (passes_lasts (no_fifo new.plain.files) which told passes) (ap (is_alive old.plain.table) (sym same.1) ∙ alive);
       target =
           ap (λ n. target_at new.plain.files n channel.fd) same.1 ∙ own_passed script old new pid channel.fd which told reached turns passes keeps
           ∙ sym (ap (λ n. target_at old.plain.files n channel.fd) same.1);
@@ -671,15 +688,15 @@ alive_some plain (suc pid) alive = omega arith
 
 -- who moved bytes was alive
 pub mover_was : (script : Script) (old new : World) (pid : ℕ) (fd : ℤ) (which : Call) (told : Turned) → TurnsTo script old pid which told new
-    → stirs_of which (came_of told) ≡ Through fd → is_alive old.plain.table pid ≡ true
+    → stirs_of false which (came_of told) ≡ Through fd → is_alive old.plain.table pid ≡ true
 mover_was script old new pid fd which told turns stirs = go (is_alive old.plain.table pid) refl turns
   where
-    gone : stirs_of which (came_of turned.Gone) ≡ Through fd → ⊥
+    gone : stirs_of false which (came_of turned.Gone) ≡ Through fd → ⊥
     gone e = cc
 
     go : (lives : Bool) → is_alive old.plain.table pid ≡ lives → TurnsWhere lives script old pid which told new → is_alive old.plain.table pid ≡ true
     go true is answers = is
-    go false is over = absurd (gone (ap (λ t. stirs_of which (came_of t)) (sym over.0) ∙ stirs))
+    go false is over = absurd (gone (ap (λ t. stirs_of false which (came_of t)) (sym over.0) ∙ stirs))
 
 -- a process of whose call a part was done lives
 pub part_lives : (script : Script) (objects : Objects) (old new : World) (pid : ℕ) (which : Call) (told : Turned) (sleepers : List Sleeper) (channels : List (Option Channel))
@@ -716,16 +733,16 @@ module _ (script : Script) (objects : Objects) (old new : World) (pid : ℕ) (wh
 
   module _ (up : told_of sleepers pid ≡ None) where
     -- nobody is stirred
-    pub nobody_stirred : stirs_of which (came_of told) ≡ Nobody → gives_number which ≡ false → AreMinded script new.plain sleepers channels
+    pub nobody_stirred : stirs_of (no_fifo new.plain.files) which (came_of told) ≡ Nobody → gives_number which ≡ false → AreMinded script new.plain sleepers channels
     nobody_stirred stirs keeps =
-        passed_minded script old new pid which told behind.reached behind.turns (nobody_passes which told stirs) sleepers channels behind.minded up keeps
+        passed_minded script old new pid which told behind.reached behind.turns (nobody_passes (no_fifo new.plain.files) which told stirs) sleepers channels behind.minded up keeps
 
-    pub nobody_forgotten : (none : List (Option Channel)) → ((place : ℕ) → channel_at none place ≡ None) → stirs_of which (came_of told) ≡ Nobody → AreMinded script new.plain sleepers none
+    pub nobody_forgotten : (none : List (Option Channel)) → ((place : ℕ) → channel_at none place ≡ None) → stirs_of (no_fifo new.plain.files) which (came_of told) ≡ Nobody → AreMinded script new.plain sleepers none
     nobody_forgotten none are_none stirs =
         minded_alone script new.plain sleepers none are_none
-        (passed_truly script old new pid which told behind.reached behind.turns (nobody_passes which told stirs) sleepers channels behind.minded up)
+        (passed_truly script old new pid which told behind.reached behind.turns (nobody_passes (no_fifo new.plain.files) which told stirs) sleepers channels behind.minded up)
 
-    module _ (fd : ℤ) (stirs : stirs_of which (came_of told) ≡ Through fd) where
+    module _ (fd : ℤ) (stirs : stirs_of false which (came_of told) ≡ Through fd) where
       mover : is_alive old.plain.table pid ≡ true
       mover = mover_was script old new pid fd which told behind.turns stirs
 

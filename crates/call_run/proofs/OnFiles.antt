@@ -5,36 +5,35 @@ use Rattle.kabi_types.specs.declared.calls.Call.TheVariants as call
 use Rattle.kheap_slabs.specs.Heap.{Heap}
 use Rattle.posix_defs.specs.Calls.Opened.{Opened, opened_at}
 use Rattle.posix_defs.specs.Files.Descriptions.{Target, OnNode, OnPipe, OnSocket}
-use Rattle.posix_defs.specs.Files.State.{Files, node_of}
+use Rattle.posix_defs.specs.Files.State.{Files}
 use Rattle.posix_defs.specs.Files.Whole.{is_queue, is_queue_in}
-use Rattle.posix_defs.specs.Reaching.{is_on_node}
 use Rattle.std.specs.Prelude.{is_some}
-use Rattle.proc_numbers.specs.Found.{IsOffNodes, IsOnNode}
+use Rattle.proc_numbers.specs.Found.{IsOffNodes, IsOnNode, is_in_tree, number_in}
 use Rattle.proc_table.specs.Table.{TableView}
 use Rattle.call_run.specs.Families.{HasHalf, IsFresh, IsOffFiles, IsOnFile, is_moving, number_of}
 
 never : {X : Type 0} → false ≡ true → X
 never e = cc
 
--- what is on a node is no queue
-no_queue : (files : Files) (o : Option Opened) → is_on_node files o ≡ true → is_queue_in o ≡ true → ⊥
-no_queue files None on queue = never on
-no_queue files (Some opened) on queue = by_target opened.is.target on queue
+-- what is a node of the tree by its number is no queue
+no_queue : (o : Option Opened) → is_in_tree o ≡ true → is_queue_in o ≡ true → ⊥
+no_queue None on queue = never on
+no_queue (Some opened) on queue = by_target opened.is.target on queue
   where
-    by_target : (target : Target) → is_some (node_of files target) ≡ true → is_queue target ≡ true → ⊥
+    by_target : (target : Target) → is_some (number_in target) ≡ true → is_queue target ≡ true → ⊥
     by_target (OnNode number) on queue = never queue
     by_target (OnPipe place) on queue = never on
     by_target (OnSocket place) on queue = never on
 
 -- of a file nobody has written a part
-fresh_of : (files : Files) (pid : ℕ) (fd addr n : ℤ) (done : ℕ) → is_on_node files (opened_at files pid fd) ≡ true → HasHalf files pid (call.Write fd addr n done) → done ≡ 0
-fresh_of files pid fd addr n zero on half = refl
-fresh_of files pid fd addr n (suc done) on half = absurd (no_queue files (opened_at files pid fd) on (half (omega arith)))
+fresh_of : (files : Files) (pid : ℕ) (fd addr n : ℤ) (done moved : ℕ) → is_in_tree (opened_at files pid fd) ≡ true → HasHalf files pid (call.Write fd addr n done) moved → done ≡ 0
+fresh_of files pid fd addr n zero moved on half = refl
+fresh_of files pid fd addr n (suc done) moved on half = absurd (no_queue (opened_at files pid fd) on (half (omega arith)))
 
-pub fresh_on : (files : Files) (pid : ℕ) (which : Call) (fd : ℤ) → number_of which ≡ Some fd → is_on_node files (opened_at files pid fd) ≡ true → HasHalf files pid which → IsFresh which
-fresh_on files pid (call.Write at addr n done) fd is on half = let same : fd ≡ at = cc in
-    fresh_of files pid at addr n done (subst (λ z. is_on_node files (opened_at files pid z) ≡ true) same on) half
-fresh_on files pid _ fd is on half = tt
+pub fresh_on : (files : Files) (pid : ℕ) (which : Call) (fd : ℤ) (moved : ℕ) → number_of which ≡ Some fd → is_in_tree (opened_at files pid fd) ≡ true → HasHalf files pid which moved → IsFresh which
+fresh_on files pid (call.Write at addr n done) fd moved is on half = let same : fd ≡ at = cc in
+    fresh_of files pid at addr n done moved (subst (λ z. is_in_tree (opened_at files pid z) ≡ true) same on) half
+fresh_on files pid _ fd moved is on half = tt
 
 pub written_anew : {which : Call} {fd addr n : ℤ} {done : ℕ} → which ≡ call.Write fd addr n done → IsFresh which → which ≡ call.Write fd addr n 0
 written_anew {fd} {addr} {n} is fresh = is ∙ ap (call.Write fd addr n) (subst IsFresh is fresh)

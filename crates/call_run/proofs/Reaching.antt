@@ -51,12 +51,12 @@ pub served : (script : Script) (old new : Objects) (pid : ℕ) (which : Call) (t
 served script old new pid which told answer does = λ world stands sound alive. does world stands alive
 
 -- where the call leaves no name in the caches
-pub unnamed_served : (script : Script) (old new : Objects) (pid : ℕ) (which : Call) (told : Turned) (answer : Plain → Answer) → path_to_leave which ≡ None
+pub unnamed_served : (script : Script) (old new : Objects) (pid : ℕ) (which : Call) (told : Turned) (answer : Plain → Answer) → ((plain : Plain) → path_to_leave plain pid which ≡ None)
     → Performs script old pid which answer told new → Serves script old pid which answer told new
 unnamed_served script old new pid which told answer unnamed does =
     served script old new pid which told answer
     (reaches script old new pid which told answer does
-    (λ world next _. subst (λ path. IsLeft next.plain.files.tree next.kept (option_and_then (λ p. last_of (resolve world.plain.files.tree (directory_of world.plain.table pid) p)) path)) (sym unnamed) tt))
+    (λ world next _. subst (λ path. IsLeft next.plain.files.tree next.kept (option_and_then (λ p. last_of (resolve world.plain.files.tree (directory_of world.plain.table pid) p)) path)) (sym (unnamed world.plain)) tt))
 
 -- and where it fails
 pub failed_served : (script : Script) (old new : Objects) (pid : ℕ) (which : Call) (errno : Errno) (told : Turned) (answer : Plain → Answer) → told ≡ turned.Done (reply.Fail errno)

@@ -1,5 +1,5 @@
 -- What machines that are reached have, of which calls on files and names make use.
-use Rattle.std.proofs.Common.{◌≡◌, ℕ, ◌<◌, true, sym, subst}
+use Rattle.std.proofs.Common.{◌≡◌, ℕ, zero, suc, ◌<◌, ◌||◌, Bool, true, false, is_some, refl, ap, sym, subst, ◌∙◌, arith}
 use Rattle.kabi_types.specs.declared.calls.Call.{Call}
 use Rattle.kabi_types.specs.declared.calls.Call.TheVariants as call
 use Rattle.kabi_types.specs.declared.scripts.Script.{Script}
@@ -11,7 +11,8 @@ use Rattle.machine_laws.specs.Reached.{IsReached}
 use Rattle.posix_defs.specs.Control.{settled, statement_of}
 use Rattle.posix_defs.specs.Files.Descriptions.{OnNode}
 use Rattle.posix_defs.specs.Files.State.{Files}
-use Rattle.posix_defs.specs.Files.Whole.{IsTarget, IsWhole, is_write_of}
+use Rattle.posix_defs.specs.Calls.Opened.{opened_at}
+use Rattle.posix_defs.specs.Files.Whole.{IsTarget, IsWhole, is_half_open, is_queue_in, is_write_of}
 use Rattle.posix_defs.specs.Plain.{Plain, call_of, control_of}
 use Rattle.posix_defs.specs.Process.{is_alive}
 use Rattle.posix_defs.specs.ValidScript.{IsValid}
@@ -38,13 +39,23 @@ sound script plain valid reached = record {
     whole : IsWhole script plain
     whole = is_whole script plain texts reached
 
--- a write that has moved a part is one to a queue
-halves : (files : Files) (pid : ℕ) (which : Call) (moved : ℕ) → HasDone which moved → (0 < moved → is_write_of files pid which ≡ true) → HasHalf files pid which
-halves files pid (call.Write fd addr n done) moved has half = λ some. half (subst (λ d. 0 < d) (sym has) some)
+-- a write that has moved a part is one to a queue, and an open that has done one has made its end of a FIFO
+halves : (files : Files) (pid : ℕ) (which : Call) (moved : ℕ) → HasDone which moved → (0 < moved → (is_write_of files pid which || is_half_open files pid which) ≡ true)
+    → HasHalf files pid which moved
+halves files pid (call.Write fd addr n done) moved has half = λ some. first (is_queue_in (opened_at files pid fd)) (half (subst (λ d. 0 < d) (sym has) some))
+  where
+    first : (b : Bool) → (b || false) ≡ true → b ≡ true
+    first true e = refl
+    first false e = e
+halves files pid (call.OpenFile path flags) zero has half = λ none. refl
+halves files pid (call.OpenFile path flags) (suc moved) has half = λ none. absurd (never (sym (ap is_some none) ∙ half (omega arith)))
+  where
+    never : false ≡ true → ⊥
+    never e = cc
 halves files pid _ moved has half = tt
 
 -- and so is the next call of a live process
-pub half : (script : Script) (plain : Plain) (pid : ℕ) → IsValid script → IsReached script plain → is_alive plain.table pid ≡ true → HasHalf plain.files pid (call_of script plain pid)
+pub half : (script : Script) (plain : Plain) (pid : ℕ) → IsValid script → IsReached script plain → is_alive plain.table pid ≡ true → HasHalf plain.files pid (call_of script plain pid) (control_of plain pid).done
 half script plain pid valid reached alive =
     let control = control_of plain pid in
     let whole : IsWhole script plain = is_whole script plain (valid_texts script valid) reached in

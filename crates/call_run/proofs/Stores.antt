@@ -6,7 +6,7 @@ use Rattle.kabi_types.specs.declared.scripts.Script.{Script}
 use Rattle.kheap_slabs.specs.Heap.{IsWellFormed, live_bytes}
 use Rattle.machine_laws.specs.Reached.{IsReached}
 use Rattle.posix_defs.specs.Needs.{bound}
-use Rattle.posix_defs.specs.Plain.{call_of}
+use Rattle.posix_defs.specs.Plain.{call_of, control_of}
 use Rattle.posix_defs.specs.Process.{is_alive}
 use Rattle.posix_defs.specs.Sizes.{reserve}
 use Rattle.posix_defs.specs.World.{World, live_of}
@@ -19,6 +19,7 @@ use Rattle.store_objects.proofs.LiveIs.{live_is}
 use Rattle.store_objects.proofs.RunningProcs.{alive_is, alive_runs}
 use Rattle.call_run.specs.Families.{HasDone, HasHalf, HasPaths}
 use Rattle.call_run.specs.Stores.{IsStoreOf}
+use Rattle.call_run.proofs.SettledDone.{settled_done}
 use Rattle.call_run.proofs.Sound.{half, sound}
 use Rattle.call_run.proofs.Turning.{next_done, next_is, next_paths}
 
@@ -45,9 +46,11 @@ module _ (script : Script) (objects : Objects) (world : World) (pid : ℕ) (whic
   pub turn_alive : is_alive world.plain.table pid ≡ true
   turn_alive = alive_is script objects world.plain pid stands.processes ∙ caller_running objects pid caller is
 
-  pub turn_half : HasHalf world.plain.files caller.place.pid which
-  turn_half = subst (λ p. HasHalf world.plain.files p which) (sym is.same)
-      (subst (HasHalf world.plain.files pid) (sym (own turn_alive)) (half script world.plain pid stands.valid reached turn_alive))
+  pub turn_half : HasHalf world.plain.files caller.place.pid which caller.control.done
+  turn_half = subst (λ p. HasHalf world.plain.files p which caller.control.done) (sym is.same)
+      (subst (λ (control : Control). HasHalf world.plain.files pid which control.done) (stands.processes.controls pid is.proc is.found is.up ∙ sym is.control)
+      (subst (λ n. HasHalf world.plain.files pid which n) (sym (settled_done script (control_of world.plain pid)))
+      (subst (λ w. HasHalf world.plain.files pid w (control_of world.plain pid).done) (sym (own turn_alive)) (half script world.plain pid stands.valid reached turn_alive))))
 
   pub turn_paths : HasPaths which
   turn_paths = subst HasPaths (sym (own turn_alive)) (next_paths script world.plain pid stands.valid)

@@ -6,7 +6,7 @@ use Rattle.kabi_types.specs.declared.calls.Call.TheVariants as call
 use Rattle.kheap_slabs.specs.Heap.{Heap}
 use Rattle.machine_laws.specs.Texts.{ArePathBytes}
 use Rattle.posix_defs.specs.Calls.Opened.{opened_at}
-use Rattle.posix_defs.specs.Files.State.{Files}
+use Rattle.posix_defs.specs.Files.State.{Files, opening_at}
 use Rattle.posix_defs.specs.Files.Whole.{is_queue_in}
 use Rattle.posix_defs.specs.Reaching.{paths_of}
 use Rattle.proc_numbers.specs.Found.{IsOffNodes, IsOnNode}
@@ -60,10 +60,12 @@ abbrev pub IsFresh : Call → Type 0
 IsFresh (call.Write fd addr n done) = done ≡ 0
 IsFresh _ = Unit {0}
 
--- of what is open as the call says a write to a queue alone has moved a part before
-abbrev pub HasHalf : Files → ℕ → Call → Type 0
-HasHalf files pid (call.Write fd addr n done) = 0 < done → is_queue_in (opened_at files pid fd) ≡ true
-HasHalf files pid _ = Unit {0}
+-- Of what is open as the call says a write to a queue alone has moved a part before; and an open that has made its end of a FIFO
+-- alone has done so much.
+abbrev pub HasHalf : Files → ℕ → Call → ℕ → Type 0
+HasHalf files pid (call.Write fd addr n done) moved = 0 < done → is_queue_in (opened_at files pid fd) ≡ true
+HasHalf files pid (call.OpenFile path flags) moved = opening_at files pid ≡ None → moved ≡ 0
+HasHalf files pid _ moved = Unit {0}
 
 -- so many bytes of a call are moved before it runs, which of all calls a write alone counts
 abbrev pub HasDone : Call → ℕ → Type 0

@@ -38,13 +38,13 @@ came_of (turned.Done said) = if is_failure said then came.Nothing else came.Done
 came_of (turned.Part moved) = came.Part
 came_of (turned.Ended status) = came.End
 
--- by what the turn came to
-abbrev pub stirs_of : Call → Came → Stirs
-stirs_of which came.Nothing = Nobody
-stirs_of which came.Sleep = Nobody
-stirs_of which came.Part = stirs_by (moves_through which) false
-stirs_of which came.Done = stirs_by (moves_through which) (wakes_nobody which)
-stirs_of which came.End = Everybody
+-- by what the turn came to, and whether no FIFO is open behind it
+abbrev pub stirs_of : Bool → Call → Came → Stirs
+stirs_of no_fifo which came.Nothing = Nobody
+stirs_of no_fifo which came.Sleep = Nobody
+stirs_of no_fifo which came.Part = stirs_by (moves_through which) false
+stirs_of no_fifo which came.Done = stirs_by (moves_through which) (wakes_nobody no_fifo which)
+stirs_of no_fifo which came.End = Everybody
 
 -- the turn left its call asleep
 abbrev pub is_sleep : Turned → Bool

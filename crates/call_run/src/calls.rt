@@ -90,7 +90,7 @@ fn run_right(
 ) -> Turned
     requires kept { AreKept script.now objects.old }
     requires stands { (world : World) × StandsFor script.now objects.old world × IsSound world.plain }
-    requires half { (world : World) × StandsFor script.now objects.old world × HasHalf world.plain.files caller.now.place.pid call.now }
+    requires half { (world : World) × StandsFor script.now objects.old world × HasHalf world.plain.files caller.now.place.pid call.now caller.now.control.done }
     requires caller { IsCaller objects.old caller.now.place.pid caller.now }
     requires runs { Runs objects.old caller.now.place.pid caller.now.control }
     requires placed { IsPlaced objects.old.procs caller.now.place }
@@ -216,7 +216,7 @@ pub fn run(
     call: &Call,
     need: Need,
 ) -> Turned
-    requires stands { (world : World) × StandsFor script.now objects.old world × IsSound world.plain × HasHalf world.plain.files caller.now.place.pid call.now }
+    requires stands { (world : World) × StandsFor script.now objects.old world × IsSound world.plain × HasHalf world.plain.files caller.now.place.pid call.now caller.now.control.done }
     requires caller { IsCaller objects.old caller.now.place.pid caller.now }
     requires paths { HasPaths call.now }
     requires so_far { HasDone call.now caller.now.control.done }

@@ -80,8 +80,8 @@ pub(crate) fn target_of(call: &Call, on: &Named) -> Target
         → result ≡ File → IsOnFile h kept pid call.now }
     ensures off { (h : Heap) (kept : TableView) (pid : ℕ) → IsOpened h kept pid on.now → number_of call.now ≡ Some on.now.fd
         → result ≡ Queue → IsOffFiles h kept pid call.now }
-    ensures fresh { (script : Script) (objects : Standing) (world : World) (pid : ℕ) → IsOpened objects.heap objects.procs pid on.now
-        → number_of call.now ≡ Some on.now.fd → result ≡ File → StandsFor script objects world → HasHalf world.plain.files pid call.now
+    ensures fresh { (script : Script) (objects : Standing) (world : World) (pid moved : ℕ) → IsOpened objects.heap objects.procs pid on.now
+        → number_of call.now ≡ Some on.now.fd → result ≡ File → StandsFor script objects world → HasHalf world.plain.files pid call.now moved
         → IsFresh call.now }
 {
     if !moves(call) {

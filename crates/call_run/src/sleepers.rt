@@ -611,11 +611,11 @@ impl Sleepers {
     #[inline(never)]
     fn touch(&mut self, script: &Script, objects: &Objects, pid: u32, fd: i64)
         requires behind { (old new : World) × (call : CallOf) × (told : TurnedOf) × IsBehind script.now objects.now old new pid call told self.old.told self.old.channels
-            × (stirs_of call (came_of told) ≡ Through fd) }
+            × (stirs_of false call (came_of told) ≡ Through fd) }
         requires up { told_of self.old.told pid ≡ None }
         requires room { length self.old.stirred ≤ 1 }
         ensures minded { (old new : World) (call : CallOf) (told : TurnedOf) → IsBehind script.now objects.now old new pid call told self.old.told self.old.channels
-            → stirs_of call (came_of told) ≡ Through fd → AreMinded script.now new.plain self.new.told self.new.channels }
+            → stirs_of false call (came_of told) ≡ Through fd → AreMinded script.now new.plain self.new.told self.new.channels }
         ensures up { told_of self.new.told pid ≡ None }
         ensures named { NamesMore self.old.told self.old.stirred self.new.told self.new.stirred }
         ensures room { length self.new.stirred ≤ 65 }

@@ -26,7 +26,7 @@ pub record NamesNumber (which : Call) (fd : ℤ) : Type 0 where
   pub right : argument_fault which ≡ None
   pub paths : paths_of which ≡ []
   pub numbers : descriptors_in which ≡ fd ∷ []
-  pub leaves : path_to_leave which ≡ None
+  pub leaves : (plain : Plain) (pid : ℕ) → path_to_leave plain pid which ≡ None
   pub walks : path_to_walk which ≡ None
 
 never : {X : Type 0} → true ≡ false → X
@@ -57,7 +57,7 @@ module _ (script : Script) (old new : Objects) (world : World) (pid : ℕ) (whic
         let same : new.tree ≡ old.tree = stays stands.files.numbers world.plain.files stands.files.opened (off_node next none) in
         (ap kept_by same, ap (λ (fs : TreeView). fs.disk.reads) same);
     left = λ ok.
-        subst (λ path. IsLeft next.files.tree (kept_by new.tree) (option_and_then (λ p. last_of (resolve world.plain.files.tree (directory_of world.plain.table pid) p)) path)) (sym names.leaves) tt;
+        subst (λ path. IsLeft next.files.tree (kept_by new.tree) (option_and_then (λ p. last_of (resolve world.plain.files.tree (directory_of world.plain.table pid) p)) path)) (sym (names.leaves world.plain pid)) tt;
     known = λ known.
         never (sym known
         ∙ ap (λ o. option_map_or (λ path. knows world.plain.files.tree world.kept (begins_at (directory_of world.plain.table pid) path) (components path)) o false) names.walks);

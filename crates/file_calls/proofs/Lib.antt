@@ -1,4 +1,6 @@
+pub mod Waiting
 pub mod Purses
+pub mod Waiting
 pub mod Reached
 pub mod CallingOpens
 pub mod Opened

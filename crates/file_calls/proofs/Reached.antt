@@ -12,17 +12,21 @@ use Rattle.kabi_types.specs.declared.errnos.Errno.{Errno}
 use Rattle.kabi_types.specs.declared.errnos.Errno.TheVariants.{EBADF}
 use Rattle.kabi_types.specs.declared.replies.Reply.{Reply}
 use Rattle.kabi_types.specs.declared.replies.Reply.TheVariants.{Fail, Val}
+use Rattle.kheap_slabs.specs.declared.objects.Access.{Access}
 use Rattle.kheap_slabs.specs.declared.objects.Desc.{Desc}
 use Rattle.kheap_slabs.specs.declared.objects.Descriptor.{Descriptor as HeldDescriptor}
+use Rattle.kheap_slabs.specs.declared.objects.Target.{Target}
+use Rattle.kheap_slabs.specs.declared.objects.Target.TheVariants as target
 use Rattle.kheap_slabs.specs.Heap.{Heap}
 use Rattle.memfs_ops.specs.FileTree.{TreeView}
-use Rattle.open_laws.specs.Described.{node_in, node_left}
-use Rattle.open_laws.specs.Owned.{HasItsOwners}
+use Rattle.open_laws.specs.Described.{node_in, node_left, target_in}
+use Rattle.open_laws.specs.Owned.{HasItsOwners, IsThereFor}
+use Rattle.open_laws.proofs.RelinkedLemmas.{node_placed}
 use Rattle.open_laws.specs.Placed.{Numbers}
 use Rattle.posix_defs.specs.Answer.{Answer, Done, failed, replied}
 use Rattle.posix_defs.specs.Calls.OnDescriptors.{dup2, duplicated_to}
 use Rattle.posix_defs.specs.Calls.Opened.{Opened, answer_on, opened_at}
-use Rattle.posix_defs.specs.Files.State.{Files}
+use Rattle.posix_defs.specs.Files.State.{Files, node_of}
 use Rattle.posix_defs.specs.Paths.{begins_at, resolve}
 use Rattle.posix_defs.specs.Plain.{Plain, with_files}
 use Rattle.posix_defs.specs.Process.{directory_of}
@@ -32,7 +36,6 @@ use Rattle.proc_table.specs.Table.{TableView}
 use Rattle.proc_numbers.specs.Having.{AreListed, HaveOpen, node_closed, node_dropped}
 use Rattle.proc_numbers.specs.Naming.{named_at, named_by}
 use Rattle.proc_numbers.proofs.NumberNames.{desc_named_by, opened_so}
-use Rattle.proc_numbers.proofs.OnNodes.{tells_target}
 use Rattle.proc_numbers.specs.Answering.{node_replaced, value_of}
 use Rattle.store_objects.specs.declared.objects.Objects.{Objects}
 use Rattle.store_objects.specs.Trees.{kept_by}
@@ -42,7 +45,7 @@ use Rattle.store_objects.specs.FileWorlds.{LeavesCached}
 pub record NamesNumbers (which : Call) : Type 0 where
   pub right : argument_fault which ≡ None
   pub paths : paths_of which ≡ []
-  pub leaves : path_to_leave which ≡ None
+  pub leaves : (plain : Plain) (pid : ℕ) → path_to_leave plain pid which ≡ None
   pub walks : path_to_walk which ≡ None
 
 left_false : (a b : Bool) → (a || b) ≡ false → a ≡ false
@@ -78,31 +81,38 @@ pub second_off : (a b : Bool) → (a || (b || false)) ≡ false → b ≡ false
 second_off a b none = left_false b false (right_false a (b || false) none)
 
 module _ (numbers : Numbers) (h : Heap) (kept : TableView) (files : Files) (pid : ℕ) (have : HaveOpen numbers h kept files) (listed : AreListed h kept) (owners : HasItsOwners h []) where
-  dropped : (desc : Desc) → node_in desc.target ≡ None → node_left desc ≡ None
+  dropped : (desc : Desc) → node_in h.pipes desc.target ≡ None → node_left h.pipes desc ≡ None
   dropped desc none = go (desc.count == 1)
     where
-      go : (b : Bool) → cond b (node_in desc.target) None ≡ None
+      go : (b : Bool) → cond b (node_in h.pipes desc.target) None ≡ None
       go true = none
       go false = refl
 
+  -- the node of a FIFO is that of each of its ends
+  node_same : (access : Access) (on : Target) → IsThereFor h access on → node_of files (target_in numbers on) ≡ node_in h.pipes on
+  node_same access (target.Inode number) there = refl
+  node_same access (target.Pipe key) there = node_placed numbers h files key there.0 have.opened.piped
+  node_same access (target.Sock key) there = refl
+
   -- no node goes with a number that isn't open on one
-  pub closed_off : (fd : ℤ) → is_on_node files (opened_at files pid fd) ≡ false → node_closed h.descs (named_by h kept pid fd) ≡ None
+  pub closed_off : (fd : ℤ) → is_on_node files (opened_at files pid fd) ≡ false → node_closed h (named_by h kept pid fd) ≡ None
   closed_off fd off = by_named (named_by h kept pid fd) refl
     where
-      by_named : (o : Option HeldDescriptor) → named_by h kept pid fd ≡ o → node_closed h.descs o ≡ None
+      by_named : (o : Option HeldDescriptor) → named_by h kept pid fd ≡ o → node_closed h o ≡ None
       by_named None is = refl
       by_named (Some held) is =
           let desc = desc_named_by h kept [] listed owners pid fd held is in
-          ap node_dropped desc.1
+          ap (node_dropped h.pipes) desc.1
           ∙ dropped desc.0
-          (none_so (node_in desc.0.target)
-          (tells_target numbers files desc.0.target ∙ sym (ap (is_on_node files) (opened_so numbers h kept files pid have fd held desc.0 is desc.1)) ∙ off))
+          (none_so (node_in h.pipes desc.0.target)
+          (ap is_some (sym (node_same desc.0.access desc.0.target (owners.held.targets held.desc desc.0 desc.1)))
+          ∙ sym (ap (is_on_node files) (opened_so numbers h kept files pid have fd held desc.0 is desc.1)) ∙ off))
 
   -- nor with what names the description of another, where it is a number that a descriptor may have
   pub replaced_off : (fd : ℤ) (to : ℕ) → is_on_node files (opened_at files pid (pos to)) ≡ false → node_replaced h kept pid fd (pos to) ≡ None
   replaced_off fd to off = go (count_of fd == to)
     where
-      go : (b : Bool) → cond b None (node_closed h.descs (named_at h kept pid to)) ≡ None
+      go : (b : Bool) → cond b None (node_closed h (named_at h kept pid to)) ≡ None
       go true = refl
       go false = closed_off (pos to) off
 
@@ -115,7 +125,7 @@ module _ (old new : Objects) (world : World) (pid : ℕ) (which : Call) (names :
         let same : new.tree ≡ old.tree = stays (none_on world.plain pid which next names none) in
         (ap kept_by same, ap (λ (fs : TreeView). fs.disk.reads) same);
     left = λ ok.
-        subst (λ path. IsLeft next.files.tree (kept_by new.tree) (option_and_then (λ p. last_of (resolve world.plain.files.tree (directory_of world.plain.table pid) p)) path)) (sym names.leaves) tt;
+        subst (λ path. IsLeft next.files.tree (kept_by new.tree) (option_and_then (λ p. last_of (resolve world.plain.files.tree (directory_of world.plain.table pid) p)) path)) (sym (names.leaves world.plain pid)) tt;
     known = λ known. absurd (false≢true (sym
         (ap (λ o. option_map_or (λ path. knows world.plain.files.tree world.kept (begins_at (directory_of world.plain.table pid) path) (components path)) o false) names.walks)
         ∙ known));

@@ -1,14 +1,20 @@
 //! A new description of a file, a directory or an end of a FIFO: `open`.
 
-ghost use Rattle.std.specs.Prelude.{◌≡◌, ◌<◌, ◌^◌, None};
+ghost use Rattle.std.specs.Prelude.{◌≡◌, ◌<◌, ◌^◌, ℕ, ℤ, List, None, Some, true};
 ghost use Rattle.std.specs.List.{All};
+ghost use Rattle.std.specs.Option.{option_map};
 ghost use Rattle.kabi_types.specs.Arguments.{argument_fault};
 ghost use Rattle.kabi_types.specs.declared.calls.Call.{Call};
-ghost use Rattle.kheap_slabs.specs.Paid.{IsPaid};
+ghost use Rattle.kabi_types.specs.declared.scripts.Script.{Script};
+ghost use Rattle.kheap_slabs.specs.Paid.{IsPaid, TakesNothing};
 ghost use Rattle.memfs_ops.specs.FileTree.{MayWalk};
-ghost use Rattle.posix_defs.specs.Calls.OnFiles.{open_file};
+ghost use Rattle.posix_defs.specs.Calls.OnFiles.{open_again, open_by, open_file};
+ghost use Rattle.posix_defs.specs.Files.State.{opening_at};
+ghost use Rattle.posix_defs.specs.Machine.{blocks};
 ghost use Rattle.posix_defs.specs.Needs.{need_of};
+ghost use Rattle.posix_defs.specs.Process.{is_alive};
 ghost use Rattle.posix_defs.specs.World.{World};
+ghost use Rattle.proc_numbers.specs.Having.{half_in};
 ghost use Rattle.proc_table.specs.Table.{IsPlaced};
 ghost use Rattle.store_objects.specs.Objects.{AreKept, Runs};
 ghost use Rattle.store_objects.specs.Standing.{IsSound, StandsFor};
@@ -47,13 +53,38 @@ pub fn open(
     requires bytes { All (λ byte. (0 < byte) × (byte < 2 ^ 8)) path.now }
     requires may { MayWalk objects.old.heap purse.old }
     requires needed { purse.old.left ≡ need_of (Call.OpenFile path.now flags) }
+    requires begins { (world : World) × StandsFor script.now objects.old world × (opening_at world.plain.files caller.now.place.pid ≡ None → caller.now.control.done ≡ 0) }
     ensures kept { AreKept script.now objects.new }
     ensures paid { IsPaid objects.old.heap purse.old objects.new.heap purse.new }
     ensures does { Serves script.now objects.old caller.now.place.pid (Call.OpenFile path.now flags) (λ plain. open_file script.now plain caller.now.place.pid path.now flags) result objects.new }
 {
-    if let Some(opening) = opening_of(objects, caller.place) {
-        return open_again(script, objects, caller, opening);
+    match opening_of(objects, caller.place) {
+        Some(opening) => open_again(script, objects, caller, opening),
+        None => open_anew(script, objects, purse, caller, path, flags),
     }
+}
+
+// An open that begins: what its path leads to is opened, and where that is a FIFO it may sleep.
+fn open_anew(
+    script: &Script,
+    objects: &mut Objects,
+    purse: &mut Purse,
+    caller: &Caller,
+    path: &[u8],
+    flags: i64,
+) -> Turned
+    requires stands { (world : World) × StandsFor script.now objects.old world × IsSound world.plain }
+    requires runs { Runs objects.old caller.now.place.pid caller.now.control }
+    requires placed { IsPlaced objects.old.procs caller.now.place }
+    requires right { argument_fault (Call.OpenFile path.now flags) ≡ None }
+    requires bytes { All (λ byte. (0 < byte) × (byte < 2 ^ 8)) path.now }
+    requires may { MayWalk objects.old.heap purse.old }
+    requires needed { purse.old.left ≡ need_of (Call.OpenFile path.now flags) }
+    requires begins { caller.now.control.done ≡ 0 }
+    ensures kept { AreKept script.now objects.new }
+    ensures paid { IsPaid objects.old.heap purse.old objects.new.heap purse.new }
+    ensures does { Serves script.now objects.old caller.now.place.pid (Call.OpenFile path.now flags) (λ plain. open_by script.now plain caller.now.place.pid path.now flags None) result objects.new }
+{
     objects.heap_is_well_formed();
     let told = open_path(
         &mut objects.heap,
@@ -72,7 +103,12 @@ pub fn open(
 }
 
 // The open of a FIFO in which a process sleeps, if it sleeps in one.
-fn opening_of(objects: &Objects, place: Place) -> Option<HalfOpen> {
+fn opening_of(objects: &Objects, place: Place) -> Option<HalfOpen>
+    requires stands { (script : Script) × (world : World) × StandsFor script objects.now world }
+    requires placed { IsPlaced objects.now.procs place }
+    ensures { (script : Script) (world : World) → StandsFor script objects.now world
+        → option_map half_in result ≡ opening_at world.plain.files place.pid }
+{
     objects.procs.at(&objects.heap, place).opening
 }
 
@@ -82,7 +118,17 @@ fn open_again(
     objects: &mut Objects,
     caller: &Caller,
     opening: HalfOpen,
-) -> Turned {
+) -> Turned
+    requires stands { (world : World) × StandsFor script.now objects.old world }
+    requires runs { Runs objects.old caller.now.place.pid caller.now.control }
+    requires placed { IsPlaced objects.old.procs caller.now.place }
+    requires sleeps { (world : World) → StandsFor script.now objects.old world
+        → opening_at world.plain.files caller.now.place.pid ≡ Some (half_in opening) }
+    ensures kept { AreKept script.now objects.new }
+    ensures takes { TakesNothing objects.old.heap objects.new.heap }
+    ensures does { (path : List ℕ) (flags : ℤ) → Serves script.now objects.old caller.now.place.pid (Call.OpenFile path flags)
+        (λ plain. open_again script.now plain caller.now.place.pid (half_in opening)) result objects.new }
+{
     if !is_met(&objects.heap, &objects.procs, caller.place, opening) {
         return Turned::Sleep;
     }
@@ -90,8 +136,14 @@ fn open_again(
     go_on(script, objects, caller, Reply::Val(i64::from(opening.fd)))
 }
 
-/// Whether an `open` of a live process would sleep: it has made its end of a FIFO, whose other side wasn't opened since.
-pub fn open_would_block(objects: &Objects, place: Place) -> bool {
+/// Whether an `open` of a live process would sleep, whatever its operands are, if they are right: it has made its end of a FIFO, whose
+/// other side wasn't opened since.
+pub fn open_would_block(objects: &Objects, place: Place) -> bool
+    requires stands { (script : Script) × (world : World) × StandsFor script objects.now world × (is_alive world.plain.table place.pid ≡ true) }
+    requires placed { IsPlaced objects.now.procs place }
+    ensures { (script : Script) (world : World) → StandsFor script objects.now world
+        → (path : List ℕ) (flags : ℤ) → result ≡ blocks (open_file script world.plain place.pid path flags) }
+{
     match opening_of(objects, place) {
         Some(opening) => !is_met(&objects.heap, &objects.procs, place, opening),
         None => false,

@@ -53,12 +53,12 @@ both_added old mid new one other first second = λ number.
 
 -- so all are in that a process holds: the node that it works in, and those of its own row and of its Leaves'
 pub held_added : (old mid own one two new : NodeSet) (h : Heap) (proc : Proc) → length proc.leaves ≡ 3 → Adds old mid (λ number. works_at number proc)
-    → Adds mid own (some_opens h.descs proc.descriptors) → Adds own one (some_opens h.descs (row_at h.leaves (get_or proc.leaves 0 None)))
-    → Adds one two (some_opens h.descs (row_at h.leaves (get_or proc.leaves 1 None))) → Adds two new (some_opens h.descs (row_at h.leaves (get_or proc.leaves 2 None)))
+    → Adds mid own (some_opens h proc.descriptors) → Adds own one (some_opens h (row_at h.leaves (get_or proc.leaves 0 None)))
+    → Adds one two (some_opens h (row_at h.leaves (get_or proc.leaves 1 None))) → Adds two new (some_opens h (row_at h.leaves (get_or proc.leaves 2 None)))
     → Adds old new (λ number. holds_node h number proc)
 held_added old mid own one two new h proc three works row first second last = λ number.
     both_added old mid new (λ n. works_at n proc) opened works
-    (both_added mid own new (some_opens h.descs proc.descriptors) later row (both_added own one new (leaf_opens 0) (λ n. leaf_opens 1 n || leaf_opens 2 n) first (both_added one two new (leaf_opens 1) (leaf_opens 2) second last)))
+    (both_added mid own new (some_opens h proc.descriptors) later row (both_added own one new (leaf_opens 0) (λ n. leaf_opens 1 n || leaf_opens 2 n) first (both_added one two new (leaf_opens 1) (leaf_opens 2) second last)))
     number
     ∙ ap (λ b. has_node old number || (nat_lt number most_nodes && (works_at number proc || b))) (sym (all_opened number))
   where
@@ -66,17 +66,17 @@ held_added old mid own one two new h proc three works row first second last = λ
     leaf_row at = row_at h.leaves (get_or proc.leaves at None)
 
     leaf_opens : ℕ → ℕ → Bool
-    leaf_opens at number = some_opens h.descs (leaf_row at) number
+    leaf_opens at number = some_opens h (leaf_row at) number
 
     later : ℕ → Bool
     later n = leaf_opens 0 n || (leaf_opens 1 n || leaf_opens 2 n)
 
     opened : ℕ → Bool
-    opened n = some_opens h.descs proc.descriptors n || later n
+    opened n = some_opens h proc.descriptors n || later n
 
-    all_opened : (n : ℕ) → some_opens h.descs (numbers_in h proc) n ≡ opened n
+    all_opened : (n : ℕ) → some_opens h (numbers_in h proc) n ≡ opened n
     all_opened n =
-        ap (λ places. some_opens h.descs places n) (numbers_by-three h.leaves proc.descriptors proc.leaves three)
-        ∙ list_any-append (opens_at h.descs n) proc.descriptors (leaf_row 0 ++ (leaf_row 1 ++ leaf_row 2))
-        ∙ ap (λ b. some_opens h.descs proc.descriptors n || b)
-        (list_any-append (opens_at h.descs n) (leaf_row 0) (leaf_row 1 ++ leaf_row 2) ∙ ap (λ b. leaf_opens 0 n || b) (list_any-append (opens_at h.descs n) (leaf_row 1) (leaf_row 2)))
+        ap (λ places. some_opens h places n) (numbers_by-three h.leaves proc.descriptors proc.leaves three)
+        ∙ list_any-append (opens_at h n) proc.descriptors (leaf_row 0 ++ (leaf_row 1 ++ leaf_row 2))
+        ∙ ap (λ b. some_opens h proc.descriptors n || b)
+        (list_any-append (opens_at h n) (leaf_row 0) (leaf_row 1 ++ leaf_row 2) ∙ ap (λ b. leaf_opens 0 n || b) (list_any-append (opens_at h n) (leaf_row 1) (leaf_row 2)))

@@ -6,7 +6,7 @@ use Rattle.std.proofs.lemmas.Bool.{lt-ltb, ltb-true}
 use Rattle.std.proofs.lemmas.Bool.Decides.{eqb_tells}
 use Rattle.std.proofs.lemmas.List.Folds.{list_any-append}
 use Rattle.machine_laws.proofs.NodesAfter.{dir_or_sock}
-use Rattle.machine_laws.proofs.Openers.{opens_by}
+use Rattle.machine_laws.proofs.Openers.{node_is, opens_by}
 use Rattle.memfs_ops.specs.Removing.{HoldsNoSocket, TellsHeld, TellsOpened, is_held}
 use Rattle.posix_defs.specs.Calls.OnNames.{is_busy, works_in}
 use Rattle.posix_defs.specs.Files.Descriptions.{Descriptions}
@@ -110,7 +110,7 @@ module _ (plain : Plain) (is_tree : IsTree plain.files.tree) (works : AreDirecto
       closed n is false e = e
       closed n is true e =
           let by = opens_by plain.files n e in
-          absurd (let both : true ≡ false = sym is ∙ (nodes by.place n by.description by.is by.on).unnamed in cc)
+          absurd (let both : true ≡ false = sym is ∙ (nodes by.place n by.description by.is (node_is plain.files by.description.target ∙ by.on)).unnamed in cc)
 
       none_held : (pins : ℕ) → nat_lt 0 pins ≡ false → pins ≡ 0
       none_held zero e = refl

@@ -1,5 +1,5 @@
 -- The objects of a store once a call has changed the tree of files: the caches and the disk are others, and the rest is as it was.
-use Rattle.std.proofs.Common.{◌≡◌, ℕ, ◌==◌, ◌&&◌, ◌||◌, not, Bool, true, false, List, [], ◌∷◌, ◌++◌, length, Option, None, Some, is_none, refl, ap, sym, ◌∙◌, subst}
+use Rattle.std.proofs.Common.{◌≡◌, ℕ, ◌==◌, ◌&&◌, ◌||◌, not, Bool, true, false, List, [], ◌∷◌, ◌++◌, length, Option, None, Some, is_none, slice_index_or, refl, ap, sym, ◌∙◌, subst}
 use Rattle.std.specs.Prelude.{count_by}
 use Rattle.std.specs.List.{list_any}
 use Rattle.std.specs.Option.{option_and_then, option_map_or}
@@ -25,6 +25,7 @@ use Rattle.posix_defs.specs.Memory.{Frames}
 use Rattle.posix_defs.specs.MemoryCalls.{frames_after}
 use Rattle.posix_defs.specs.Needs.{need_of}
 use Rattle.posix_defs.specs.Paths.{begins_at, resolve}
+use Rattle.posix_defs.specs.Pipe.{Pipe, fifo_of}
 use Rattle.posix_defs.specs.Plain.{Plain, root, with_files}
 use Rattle.posix_defs.specs.Process.{directory_of}
 use Rattle.posix_defs.specs.Reaching.{IsLeft, descriptors_in, ends_node, is_on_node, knows, last_of, path_to_leave, path_to_walk, paths_of, reaches_node}
@@ -50,7 +51,7 @@ use Rattle.path_calls.proofs.Walked.{KeepsFew, keeps_few, kept_mid as kept_looke
 -- A call names a path, leaves no name of it in the caches, walks none that it knows, and leaves memory.
 pub record ChangesNames (which : Call) : Type 0 where
   pub named : not (length (paths_of which) == 0) ≡ true
-  pub leaves : path_to_leave which ≡ None
+  pub leaves : (plain : Plain) (pid : ℕ) → path_to_leave plain pid which ≡ None
   pub walks : path_to_walk which ≡ None
   pub frames : (frames : Frames) (pid : ℕ) (said : Reply) → frames_after frames pid which said ≡ frames
 
@@ -60,20 +61,21 @@ pub record ChangesNames (which : Call) : Type 0 where
 abbrev pub retreed_as : Plain → Tree → Plain
 retreed_as plain tree = with_files plain (with_tree plain.files tree)
 
-same_node : (files now : Files) (target : Target) → node_of now target ≡ node_of files target
-same_node files now (OnNode number) = refl
-same_node files now (OnPipe place) = refl
-same_node files now (OnSocket place) = refl
+same_node : (files now : Files) → now.pipes ≡ files.pipes → (target : Target) → node_of now target ≡ node_of files target
+same_node files now pipes (OnNode number) = refl
+same_node files now pipes (OnPipe place) = ap (λ (list : List (Option Pipe)). option_and_then fifo_of (slice_index_or list place None)) pipes
+same_node files now pipes (OnSocket place) = refl
 
-pub same_opened : (files now : Files) (descriptions : Descriptions) → nodes_among now descriptions ≡ nodes_among files descriptions
-same_opened files now [] = refl
-same_opened files now (None ∷ descriptions) = same_opened files now descriptions
-same_opened files now (Some description ∷ descriptions) =
-    ap (λ o. beside o (nodes_among now descriptions)) (same_node files now description.target) ∙ ap (beside (node_of files description.target)) (same_opened files now descriptions)
+pub same_opened : (files now : Files) → now.pipes ≡ files.pipes → (descriptions : Descriptions) → nodes_among now descriptions ≡ nodes_among files descriptions
+same_opened files now pipes [] = refl
+same_opened files now pipes (None ∷ descriptions) = same_opened files now pipes descriptions
+same_opened files now pipes (Some description ∷ descriptions) =
+    ap (λ o. beside o (nodes_among now descriptions)) (same_node files now pipes description.target)
+    ∙ ap (beside (node_of files description.target)) (same_opened files now pipes descriptions)
 
 held_still : (plain : Plain) (tree : Tree) → held_nodes (retreed_as plain tree) ≡ held_nodes plain
 held_still plain tree =
-    ap (λ opened. root ∷ opened ++ but_root (directories_of plain.table)) (same_opened plain.files (with_tree plain.files tree) plain.files.descriptions)
+    ap (λ opened. root ∷ opened ++ but_root (directories_of plain.table)) (same_opened plain.files (with_tree plain.files tree) refl plain.files.descriptions)
 
 pub stands_still : (h : Heap) (fs : TreeView) (plain : Plain) (tree : Tree) → Stands h fs tree (pins_in plain) → Stands h fs tree (pins_in (retreed_as plain tree))
 stands_still h fs plain tree =
@@ -110,7 +112,7 @@ reached fault paths more ends right named = ap (λ f. (is_none f && (paths || mo
 
 module _ (script : Script) (old : Objects) (heap : Heap) (fs : TreeView) (before after : Purse) (pays : Pays old.heap heap before after old.tree fs) where
   abbrev pub mid : Objects
-  mid = record { heap = heap; procs = old.procs; tree = fs; names = old.names }
+  mid = record { heap = heap; procs = old.procs; tree = fs; names = old.names; fifos = old.fifos }
 
   pub kept_mid : KeepsTree heap fs → AreKept script old → AreKept script mid
   kept_mid keeps kept = kept_looked script old heap fs pays.only keeps kept
@@ -127,9 +129,9 @@ module _ (script : Script) (old : Objects) (heap : Heap) (fs : TreeView) (before
   stands_mid world tree was stands works =
       let has : HasTree mid (changed world tree) =
       record { stands = stands_still heap fs world.plain tree stands; kept = refl; reads = refl } in
-      subst (λ (h : Heap). StandsFor script (record { heap = h; procs = old.procs; tree = fs; names = old.names }) (changed world tree)) (sym pays.only)
+      subst (λ (h : Heap). StandsFor script (record { heap = h; procs = old.procs; tree = fs; names = old.names; fifos = old.fifos }) (changed world tree)) (sym pays.only)
       (stands_beside script old heap.vnodes heap.names heap.blocks heap.high old.heap.marks old.heap.last_high fs world tree (kept_by fs) fs.disk.reads was works
-      (subst (λ (h : Heap). HasTree (record { heap = h; procs = old.procs; tree = fs; names = old.names }) (changed world tree)) pays.only has))
+      (subst (λ (h : Heap). HasTree (record { heap = h; procs = old.procs; tree = fs; names = old.names; fifos = old.fifos }) (changed world tree)) pays.only has))
 
   -- it is paid for, and the step behind the call takes nothing more
   pub paid_on : (new : Heap) → TakesNothing heap new → IsPaid old.heap before new after
@@ -146,7 +148,7 @@ module _ (script : Script) (old : Objects) (heap : Heap) (fs : TreeView) (before
       reads = kept.reads;
       untouched = λ none. never (sym reaches ∙ none);
       left = λ ok.
-          subst (λ path. IsLeft next.files.tree (kept_by fs) (option_and_then (λ p. last_of (resolve world.plain.files.tree (directory_of world.plain.table pid) p)) path)) (sym changes.leaves) tt;
+          subst (λ path. IsLeft next.files.tree (kept_by fs) (option_and_then (λ p. last_of (resolve world.plain.files.tree (directory_of world.plain.table pid) p)) path)) (sym (changes.leaves world.plain pid)) tt;
       known = λ known.
           never (sym known
           ∙ ap (λ o. option_map_or (λ path. knows world.plain.files.tree world.kept (begins_at (directory_of world.plain.table pid) path) (components path)) o false) changes.walks);

@@ -13,6 +13,7 @@ use Rattle.kheap_slabs.specs.declared.objects.Sock.{Sock}
 use Rattle.kheap_slabs.proofs.ObjectLemmas.{length-without}
 use Rattle.kheap_slabs.specs.Heap.{Heap, IsWellFormed}
 use Rattle.memfs_ops.specs.FileTree.{Pays, Stands, TreeView}
+use Rattle.fifo_nodes.proofs.ChainLemmas.{chain_kept}
 use Rattle.open_laws.specs.Open.{HaveFronts}
 use Rattle.open_laws.specs.Owned.{HasItsOwners}
 use Rattle.open_laws.specs.Placed.{Numbers}
@@ -28,6 +29,7 @@ use Rattle.posix_defs.specs.Sockets.{Sockets}
 use Rattle.posix_defs.specs.World.{World, directories_of}
 use Rattle.posix_defs.specs.declared.turner.Turned.{Turned}
 use Rattle.posix_defs.specs.declared.turner.Turned.TheVariants as turned
+use Rattle.pipe_ends.proofs.LinkLemmas.{links_same}
 use Rattle.proc_numbers.specs.Queues.{QueuesStand, fronts_on}
 use Rattle.proc_numbers.proofs.Fronts.{fronts_follow}
 use Rattle.proc_files.specs.Holding.{HoldFiles}
@@ -108,7 +110,7 @@ socks_in h chunks socks high = record h { chunks = chunks; socks = socks; high =
 
 -- the objects with that heap, and another table of names
 abbrev pub freed_as : Objects → Heap → List (Option ℕ) → Objects
-freed_as objects heap names = record { heap = heap; procs = objects.procs; tree = objects.tree; names = names }
+freed_as objects heap names = record { heap = heap; procs = objects.procs; tree = objects.tree; names = names; fifos = objects.fifos }
 
 kept_so : (script : Script) (old : Objects) (chunks : List (Option Chunk)) (socks : List (Option Sock)) (high : ℕ) (names : List (Option ℕ)) → AreKept script old
     → HasItsOwners (socks_in old.heap chunks socks high) [] → AreBound (name_of socks) names → length names ≡ length old.names
@@ -138,6 +140,7 @@ kept_so script old chunks socks high names kept owners bound long keeps = record
   places = subst (λ n. most_nodes < n) (sym long) kept.places;
   caches = keeps;
   size = kept.size;
+  chain = chain_kept old.heap (socks_in old.heap chunks socks high) old.fifos (links_same old.heap (socks_in old.heap chunks socks high) refl) kept.chain;
 }
 
 -- A socket's name is taken from these objects, if one was freed.
@@ -218,7 +221,7 @@ module _ (script : Script) (old : Objects) (heap : Heap) (names : List (Option �
         still : (number : ℕ) → pins_in world.plain number ≡ pins_in (unnamed_in world).plain number
         still number =
             ap (λ opened. count_by (λ node. node == number) (root ∷ opened ++ but_root (directories_of world.plain.table)))
-            (sym (same_opened world.plain.files (without_name world.plain.files freed) world.plain.files.descriptions))
+            (sym (same_opened world.plain.files (without_name world.plain.files freed) refl world.plain.files.descriptions))
 
 -- ---- a call that may free a name
 

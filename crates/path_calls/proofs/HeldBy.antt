@@ -45,11 +45,11 @@ works_from (there h first proc table procs e rest) n =
 
 -- some hold it where some work in it, or have it open
 either : (h : Heap) (procs : List Proc) (n : ℕ)
-    → some_holds h procs n ≡ (list_any (λ proc. some_opens h.descs (numbers_in h proc) n) procs || list_any (works_at n) procs)
+    → some_holds h procs n ≡ (list_any (λ proc. some_opens h (numbers_in h proc) n) procs || list_any (works_at n) procs)
 either h [] n = refl
 either h (proc ∷ procs) n =
     ap (λ b. holds_node h n proc || b) (either h procs n)
-    ∙ swapped (works_at n proc) (some_opens h.descs (numbers_in h proc) n) (list_any (λ p. some_opens h.descs (numbers_in h p) n) procs) (list_any (works_at n) procs)
+    ∙ swapped (works_at n proc) (some_opens h (numbers_in h proc) n) (list_any (λ p. some_opens h (numbers_in h p) n) procs) (list_any (works_at n) procs)
   where
     swapped : (works opens others others_work : Bool) → ((works || opens) || (others || others_work)) ≡ ((opens || others) || (works || others_work))
     swapped true true others others_work = refl

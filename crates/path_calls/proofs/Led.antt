@@ -6,17 +6,17 @@ use Rattle.kabi_types.specs.declared.errnos.Errno.{Errno}
 use Rattle.kabi_types.specs.declared.replies.Reply.{Reply}
 use Rattle.kabi_types.specs.declared.replies.Reply.TheVariants as reply
 use Rattle.kheap_slabs.specs.Heap.{Heap}
-use Rattle.machine_laws.proofs.NodesAfter.{Turns, link_path_turns, mkdir_turns, rename_path_turns, rmdir_turns, unlink_path_turns}
+use Rattle.machine_laws.proofs.NodesAfter.{Turns, link_path_turns, mkdir_turns, mkfifo_turns, rename_path_turns, rmdir_turns, unlink_path_turns}
 use Rattle.memfs_ops.specs.Changing.{ChangedTo, DoneAs}
 use Rattle.memfs_ops.specs.FileTree.{Stands, TreeView}
 use Rattle.memfs_ops.specs.Removing.{TellsHeld, TellsOpened, ToldTo}
 use Rattle.posix_defs.specs.Answer.{Answer, failed, replied}
-use Rattle.posix_defs.specs.Calls.OnNames.{freed_in, is_busy, link, made_node, mkdir, rename, renamed, retreed, rmdir, unlink}
+use Rattle.posix_defs.specs.Calls.OnNames.{freed_in, is_busy, link, made_node, mkdir, mkfifo, rename, renamed, retreed, rmdir, unlink}
 use Rattle.posix_defs.specs.Files.State.{opens}
 use Rattle.posix_defs.specs.IsTree.{IsTree}
 use Rattle.posix_defs.specs.Memory.{Frames}
 use Rattle.posix_defs.specs.MemoryCalls.{frames_after}
-use Rattle.posix_defs.specs.PathCalls.{link_path, mkdir_path, rename_path, rmdir_path, unlink_path}
+use Rattle.posix_defs.specs.PathCalls.{link_path, mkdir_path, mkfifo_path, rename_path, rmdir_path, unlink_path}
 use Rattle.posix_defs.specs.Plain.{Plain, with_files}
 use Rattle.posix_defs.specs.Process.{directory_of}
 use Rattle.posix_defs.specs.Tree.{Tree, is_directory}
@@ -39,35 +39,42 @@ use Rattle.path_calls.proofs.OpenAfter.{names_after, nodes_after}
 -- ---- they leave memory
 
 pub mkdir_changes : (path : List ℕ) → ChangesNames (call.Mkdir path)
-mkdir_changes path = record { named = refl; leaves = refl; walks = refl; frames = same }
+mkdir_changes path = record { named = refl; leaves = λ plain pid. refl; walks = refl; frames = same }
   where
     same : (frames : Frames) (pid : ℕ) (said : Reply) → frames_after frames pid (call.Mkdir path) said ≡ frames
     same frames pid (reply.Val value) = refl
     same frames pid _ = refl
 
+pub mkfifo_changes : (path : List ℕ) → ChangesNames (call.Mkfifo path)
+mkfifo_changes path = record { named = refl; leaves = λ plain pid. refl; walks = refl; frames = same }
+  where
+    same : (frames : Frames) (pid : ℕ) (said : Reply) → frames_after frames pid (call.Mkfifo path) said ≡ frames
+    same frames pid (reply.Val value) = refl
+    same frames pid _ = refl
+
 pub rmdir_changes : (path : List ℕ) → ChangesNames (call.Rmdir path)
-rmdir_changes path = record { named = refl; leaves = refl; walks = refl; frames = same }
+rmdir_changes path = record { named = refl; leaves = λ plain pid. refl; walks = refl; frames = same }
   where
     same : (frames : Frames) (pid : ℕ) (said : Reply) → frames_after frames pid (call.Rmdir path) said ≡ frames
     same frames pid (reply.Val value) = refl
     same frames pid _ = refl
 
 pub unlink_changes : (path : List ℕ) → ChangesNames (call.Unlink path)
-unlink_changes path = record { named = refl; leaves = refl; walks = refl; frames = same }
+unlink_changes path = record { named = refl; leaves = λ plain pid. refl; walks = refl; frames = same }
   where
     same : (frames : Frames) (pid : ℕ) (said : Reply) → frames_after frames pid (call.Unlink path) said ≡ frames
     same frames pid (reply.Val value) = refl
     same frames pid _ = refl
 
 pub link_changes : (old new : List ℕ) → ChangesNames (call.Link old new)
-link_changes old new = record { named = refl; leaves = refl; walks = refl; frames = same }
+link_changes old new = record { named = refl; leaves = λ plain pid. refl; walks = refl; frames = same }
   where
     same : (frames : Frames) (pid : ℕ) (said : Reply) → frames_after frames pid (call.Link old new) said ≡ frames
     same frames pid (reply.Val value) = refl
     same frames pid _ = refl
 
 pub rename_changes : (old new : List ℕ) → ChangesNames (call.Rename old new)
-rename_changes old new = record { named = refl; leaves = refl; walks = refl; frames = same }
+rename_changes old new = record { named = refl; leaves = λ plain pid. refl; walks = refl; frames = same }
   where
     same : (frames : Frames) (pid : ℕ) (said : Reply) → frames_after frames pid (call.Rename old new) said ≡ frames
     same frames pid (reply.Val value) = refl
@@ -150,6 +157,14 @@ module _ (script : Script) (h : Heap) (fs : TreeView) (plain : Plain) (pid : ℕ
         (made_led (mkdir_path tree cwd path) done is worked
         (λ made next told. works_after plain next (opens plain.files) None (mkdir_turns tree cwd path made next (opens plain.files) (is_busy plain) told) worked) at)
 
+    pub mkfifo_led : (path : List ℕ) (done : Result (Unit {0}) Errno) → said ≡ done_reply done → DoneAs h fs tree (mkfifo_path tree cwd path) (pins_in plain) done
+        → Led script h fs plain pid said (mkfifo script plain pid path)
+    unfolding mkfifo
+    mkfifo_led path done is at =
+        subst (λ dir. Led script h fs plain pid said (made_node script plain pid (mkfifo_path tree dir path))) (sym works)
+        (made_led (mkfifo_path tree cwd path) done is worked
+        (λ made next told. works_after plain next (opens plain.files) None (mkfifo_turns tree cwd path made next (opens plain.files) (is_busy plain) told) worked) at)
+
     pub rmdir_led : (path : List ℕ) (done : Result (Unit {0}) Errno) → said ≡ done_reply done
         → ChangedTo h fs tree (rmdir_path tree cwd path (is_busy plain)) (pins_in plain) done → Led script h fs plain pid said (rmdir script plain pid path)
     unfolding rmdir
@@ -207,6 +222,13 @@ module _ (script : Script) (old : Objects) (pid cwd : ℕ) (proc : Proc) (found 
         → (world : World) → StandsFor script old world → Led script heap fs world.plain pid said (mkdir script world.plain pid path)
     mkdir_leads path done is answer world stands =
         mkdir_led script heap fs world.plain pid said cwd (works world stands) stands.tree.stands.is_tree (at_directory world stands) stands.works path done is
+        (answer world.plain.files.tree (pins_in world.plain) stands.tree.stands)
+
+    pub mkfifo_leads : (path : List ℕ) (done : Result (Unit {0}) Errno) → said ≡ done_reply done
+        → ((tree : Tree) (pins : ℕ → ℕ) → Stands old.heap old.tree tree pins → DoneAs heap fs tree (mkfifo_path tree cwd path) pins done)
+        → (world : World) → StandsFor script old world → Led script heap fs world.plain pid said (mkfifo script world.plain pid path)
+    mkfifo_leads path done is answer world stands =
+        mkfifo_led script heap fs world.plain pid said cwd (works world stands) stands.tree.stands.is_tree (at_directory world stands) stands.works path done is
         (answer world.plain.files.tree (pins_in world.plain) stands.tree.stands)
 
     pub rmdir_leads : (path : List ℕ) (done : Result (Unit {0}) Errno) → said ≡ done_reply done

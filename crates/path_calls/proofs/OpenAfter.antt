@@ -1,7 +1,7 @@
 -- What is open, and what has a name, once a name of the tree has gone or changed.
 use Rattle.std.proofs.Common.{◌≡◌, ℕ, Bool, true, false, Option, None, Some, is_some, refl, sym, ◌∙◌, inl, inr}
 use Rattle.machine_laws.proofs.NodesAfter.{Turns}
-use Rattle.machine_laws.proofs.Openers.{Opener, by_opener, opener_busy}
+use Rattle.machine_laws.proofs.Openers.{Opener, by_opener, node_is, opener_busy}
 use Rattle.posix_defs.specs.Calls.OnNames.{is_busy}
 use Rattle.posix_defs.specs.Files.State.{opens, with_tree}
 use Rattle.posix_defs.specs.PathCalls.{is_socket, is_socket_kind, kind_in}
@@ -34,8 +34,8 @@ module _ (plain : Plain) (sound : IsSound plain) (after : Tree) (freed : Option 
       it : IsOpenNode plain.files.tree description number
       it = sound.nodes place number description there on
 
-      opener : Opener plain.files.descriptions number
-      opener = record { place = place; description = description; is = there; on = on }
+      opener : Opener plain.files.descriptions plain.files.pipes number
+      opener = record { place = place; description = description; is = there; on = sym (node_is plain.files description.target) ∙ on }
 
       both : (b : Bool) → b ≡ true → b ≡ false → ⊥
       both true e f = cc

@@ -7,6 +7,7 @@ use Rattle.std.proofs.lemmas.Bool.Decides.{eqb_tells}
 use Rattle.std.proofs.lemmas.List.Sums.{get_or-le-sum_by}
 use Rattle.kheap_slabs.specs.Objects.{InUse, object}
 use Rattle.kheap_slabs.proofs.ObjectLemmas.{object_of}
+use Rattle.kheap_slabs.specs.declared.objects.Access.{Access}
 use Rattle.kheap_slabs.specs.declared.objects.Desc.{Desc}
 use Rattle.kheap_slabs.specs.declared.objects.Descriptor.{Descriptor}
 use Rattle.kheap_slabs.specs.declared.objects.Proc.{Proc}
@@ -15,13 +16,15 @@ use Rattle.kheap_slabs.specs.declared.objects.Target.TheVariants as target
 use Rattle.kheap_slabs.specs.Heap.{Heap}
 use Rattle.kheap_slabs.specs.Leaves.{row_at}
 use Rattle.kheap_laws.proofs.LeafLemmas.{numbers_by-count}
-use Rattle.machine_laws.proofs.Openers.{Opener, by_opener, opens_by}
+use Rattle.machine_laws.proofs.Openers.{Opener, by_opener, node_in as plain_node, node_is, opens_by}
 use Rattle.open_laws.specs.Described.{Counted, CountedList, counted_in, node_in, target_in, uncounted}
-use Rattle.open_laws.specs.Owned.{HasItsOwners, all_namings, desc_count_at, names_desc}
+use Rattle.open_laws.specs.Owned.{HasItsOwners, IsThereFor, all_namings, desc_count_at, names_desc}
 use Rattle.open_laws.proofs.DropLemmas.{description_in}
 use Rattle.open_laws.proofs.GoingLemmas.{named_there}
+use Rattle.open_laws.proofs.RelinkedLemmas.{node_placed}
+use Rattle.open_laws.specs.Piped.{ArePiped}
 use Rattle.open_laws.specs.Placed.{Numbers}
-use Rattle.posix_defs.specs.Files.Descriptions.{Description, Descriptions, OnNode, Target, description_at}
+use Rattle.posix_defs.specs.Files.Descriptions.{Description, Descriptions, OnPipe, Target, description_at}
 use Rattle.posix_defs.specs.Files.State.{Files, is_number, opens}
 use Rattle.proc_numbers.specs.Having.{AreListed, HaveOpen}
 use Rattle.proc_numbers.proofs.NumberParts.{named_part, named_whole}
@@ -68,37 +71,50 @@ module _ (h : Heap) (proc : Proc) (key : ℕ) where
 
 -- ---- from the heap to the machine
 
--- what is open on a node in the heap is so in the machine
-on_node : (numbers : Numbers) (on : HeldTarget) (n : ℕ) → is_number n (node_in on) ≡ true → target_in numbers on ≡ OnNode n
-on_node numbers (target.Inode number) n is = elim (eqb_tells number n) [ inl same ↦ ap OnNode same.1 | inr apart ↦ never (sym is ∙ apart.0) ]
-on_node numbers (target.Pipe key) n is = cc
-on_node numbers (target.Sock key) n is = cc
+-- the node that a Desc is open on, a FIFO's too, is the machine's
+node_same : (numbers : Numbers) (h : Heap) (files : Files) (access : Access) (on : HeldTarget) → ArePiped numbers h files.pipes → IsThereFor h access on
+    → plain_node files.pipes (target_in numbers on) ≡ node_in h.pipes on
+node_same numbers h files access (target.Inode number) piped there = refl
+node_same numbers h files access (target.Pipe key) piped there = sym (node_is files (OnPipe (numbers.pipes key))) ∙ node_placed numbers h files key there.0 piped
+node_same numbers h files access (target.Sock key) piped there = refl
 
-module _ (numbers : Numbers) (h : Heap) (kept : TableView) (files : Files) (have : HaveOpen numbers h kept files) where
-  opened_key : (key n : ℕ) (o : Option Desc) → object h.descs key ≡ o → is_number n (node_of o) ≡ true → opens files n ≡ true
+-- it is this one
+numbered : (n : ℕ) (o : Option ℕ) → is_number n o ≡ true → o ≡ Some n
+numbered n None e = cc
+numbered n (Some number) e = elim (eqb_tells number n) [ inl same ↦ ap Some same.1 | inr apart ↦ never (sym e ∙ apart.0) ]
+
+module _ (numbers : Numbers) (h : Heap) (kept : TableView) (files : Files) (have : HaveOpen numbers h kept files) (owners : HasItsOwners h []) where
+  node_so : (key : ℕ) (desc : Desc) → object h.descs key ≡ Some desc → plain_node files.pipes (target_in numbers desc.target) ≡ node_in h.pipes desc.target
+  node_so key desc is = node_same numbers h files desc.access desc.target have.opened.piped (owners.held.targets key desc is)
+
+  opened_key : (key n : ℕ) (o : Option Desc) → object h.descs key ≡ o → is_number n (node_of h.pipes o) ≡ true → opens files n ≡ true
   opened_key key n None is e = cc
   opened_key key n (Some desc) is e =
-      by_opener files n
-      (record { place = numbers.descs key; description = (counted_in numbers desc).is; is = described_so numbers h have.list files key desc have.opened is; on = on_node numbers desc.target n e })
+      by_opener files n (record {
+        place = numbers.descs key;
+        description = (counted_in numbers desc).is;
+        is = described_so numbers h have.list files key desc have.opened is;
+        on = node_so key desc is ∙ numbered n (node_in h.pipes desc.target) e;
+      })
 
-  opened_place : (n : ℕ) (place : Option Descriptor) → opens_at h.descs n place ≡ true → opens files n ≡ true
+  opened_place : (n : ℕ) (place : Option Descriptor) → opens_at h n place ≡ true → opens files n ≡ true
   opened_place n None e = cc
   opened_place n (Some held) e = opened_key held.desc n (object h.descs held.desc) refl e
 
-  opened_places : (n : ℕ) (places : List (Option Descriptor)) → some_opens h.descs places n ≡ true → opens files n ≡ true
+  opened_places : (n : ℕ) (places : List (Option Descriptor)) → some_opens h places n ≡ true → opens files n ≡ true
   opened_places n [] e = cc
-  opened_places n (place ∷ places) e = go (opens_at h.descs n place) refl e (opened_places n places)
+  opened_places n (place ∷ places) e = go (opens_at h n place) refl e (opened_places n places)
     where
-      go : (b : Bool) → opens_at h.descs n place ≡ b → (b || some_opens h.descs places n) ≡ true → (some_opens h.descs places n ≡ true → opens files n ≡ true) → opens files n ≡ true
+      go : (b : Bool) → opens_at h n place ≡ b → (b || some_opens h places n) ≡ true → (some_opens h places n ≡ true → opens files n ≡ true) → opens files n ≡ true
       go true is some rest = opened_place n place is
       go false is some rest = rest some
 
-  opened_procs : (n : ℕ) (procs : List Proc) → list_any (λ proc. some_opens h.descs (numbers_in h proc) n) procs ≡ true → opens files n ≡ true
+  opened_procs : (n : ℕ) (procs : List Proc) → list_any (λ proc. some_opens h (numbers_in h proc) n) procs ≡ true → opens files n ≡ true
   opened_procs n [] e = cc
-  opened_procs n (proc ∷ procs) e = go (some_opens h.descs (numbers_in h proc) n) refl e (opened_procs n procs)
+  opened_procs n (proc ∷ procs) e = go (some_opens h (numbers_in h proc) n) refl e (opened_procs n procs)
     where
-      go : (b : Bool) → some_opens h.descs (numbers_in h proc) n ≡ b → (b || list_any (λ p. some_opens h.descs (numbers_in h p) n) procs) ≡ true
-          → (list_any (λ p. some_opens h.descs (numbers_in h p) n) procs ≡ true → opens files n ≡ true) → opens files n ≡ true
+      go : (b : Bool) → some_opens h (numbers_in h proc) n ≡ b → (b || list_any (λ p. some_opens h (numbers_in h p) n) procs) ≡ true
+          → (list_any (λ p. some_opens h (numbers_in h p) n) procs ≡ true → opens files n ≡ true) → opens files n ≡ true
       go true is some rest = opened_places n (numbers_in h proc) is
       go false is some rest = rest some
 
@@ -123,15 +139,6 @@ any_found test (first ∷ procs) pid proc found passes = by_pid (first.pid == pi
     by_pid true is rest = ap (λ b. b || list_any test procs) (ap test (some_same (Some first) first proc refl is) ∙ passes)
     by_pid false is rest = later (test first) (list_any test procs) (rest is passes)
 
--- what a target of the machine is on a node for, that of the heap is
-node_back : (numbers : Numbers) (on : HeldTarget) (n : ℕ) → target_in numbers on ≡ OnNode n → is_number n (node_in on) ≡ true
-node_back numbers (target.Inode number) n is = eqb_same number n (same (OnNode number) refl is)
-  where
-    same : (t : Target) → t ≡ OnNode number → t ≡ OnNode n → number ≡ n
-    same t e f = cc
-node_back numbers (target.Pipe key) n is = cc
-node_back numbers (target.Sock key) n is = cc
-
 -- a descriptor that names a key
 names_key : (key : ℕ) (held : Descriptor) → 0 < one_if (names_desc key (Some held)) → held.desc ≡ key
 names_key key held some = elim (eqb_tells held.desc key) [
@@ -141,14 +148,17 @@ names_key key held some = elim (eqb_tells held.desc key) [
 
 module _ (numbers : Numbers) (h : Heap) (kept : TableView) (files : Files) (have : HaveOpen numbers h kept files) (listed : AreListed h kept) (owners : HasItsOwners h []) where
   -- the Desc of each description that opens a node
-  desc_of : (n : ℕ) (opener : Opener files.descriptions n) → (key : ℕ) × (desc : Desc) × (object h.descs key ≡ Some desc) × (is_number n (node_in desc.target) ≡ true)
+  desc_of : (n : ℕ) (opener : Opener files.descriptions files.pipes n) → (key : ℕ) × (desc : Desc) × (object h.descs key ≡ Some desc) × (is_number n (node_in h.pipes desc.target) ≡ true)
   desc_of n opener =
       let all = have.opened.described in
       let counted = counted_at have.list opener.place opener.description (sym (ap (λ (d : Descriptions). description_at d opener.place) have.opened.descriptions) ∙ opener.is) in
       let found = all.found opener.place counted.0 counted.1 in
       let desc = object_of h.descs found.0 found.1 in
       let means = all.means found.0 desc.0 counted.0 desc.1 (ap (object have.list) found.2 ∙ counted.1) in
-      (found.0, desc.0, desc.1, node_back numbers desc.0.target n (same_target counted.0 (counted_in numbers desc.0) opener.description means counted.2 ∙ opener.on))
+      let on : node_in h.pipes desc.0.target ≡ Some n =
+      sym (node_so numbers h kept files have owners found.0 desc.0 desc.1)
+      ∙ ap (plain_node files.pipes) (same_target counted.0 (counted_in numbers desc.0) opener.description means counted.2) ∙ opener.on in
+      (found.0, desc.0, desc.1, ap (is_number n) on ∙ eqb_same n n refl)
     where
       same_target : (one other : Counted) (d : Description) → one ≡ other → one.is ≡ d → other.is.target ≡ d.target
       same_target one other d e f = sym (ap (λ (c : Counted). c.is.target) e) ∙ ap (λ (t : Description). t.target) f
@@ -174,13 +184,14 @@ module _ (numbers : Numbers) (h : Heap) (kept : TableView) (files : Files) (have
       more : (count names : ℕ) → count ≡ names + 0 → 0 < count → 0 < names
       more count names same some = omega (arith, same, some)
 
-  opens_procs : (n : ℕ) → opens files n ≡ true → list_any (λ proc. some_opens h.descs (numbers_in h proc) n) (processes h kept) ≡ true
+  opens_procs : (n : ℕ) → opens files n ≡ true → list_any (λ proc. some_opens h (numbers_in h proc) n) (processes h kept) ≡ true
   opens_procs n some =
       let at = desc_of n (opens_by files n some) in
-      named_so (λ proc. some_opens h.descs (numbers_in h proc) n) at.0 (let used : InUse h.descs at.0 = rw at.2 refl in used)
+      named_so (λ proc. some_opens h (numbers_in h proc) n) at.0 (let used : InUse h.descs at.0 = rw at.2 refl in used)
       (λ proc fd held is names.
-      any_here (opens_at h.descs n) (numbers_in h proc) fd held is (ap (λ key. is_number n (node_of (object h.descs key))) names ∙ ap (λ o. is_number n (node_of o)) at.2 ∙ at.3))
+      any_here (opens_at h n) (numbers_in h proc) fd held is
+      (ap (λ key. is_number n (node_of h.pipes (object h.descs key))) names ∙ ap (λ o. is_number n (node_of h.pipes o)) at.2 ∙ at.3))
 
   -- the same are open
-  pub opens_same : (n : ℕ) → list_any (λ proc. some_opens h.descs (numbers_in h proc) n) (processes h kept) ≡ opens files n
-  opens_same n = alike (list_any (λ proc. some_opens h.descs (numbers_in h proc) n) (processes h kept)) (opens files n) (opened_procs numbers h kept files have n (processes h kept)) (opens_procs n)
+  pub opens_same : (n : ℕ) → list_any (λ proc. some_opens h (numbers_in h proc) n) (processes h kept) ≡ opens files n
+  opens_same n = alike (list_any (λ proc. some_opens h (numbers_in h proc) n) (processes h kept)) (opens files n) (opened_procs numbers h kept files have owners n (processes h kept)) (opens_procs n)

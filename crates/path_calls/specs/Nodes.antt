@@ -4,6 +4,7 @@ use Rattle.std.specs.List.{list_any}
 use Rattle.kheap_slabs.specs.Objects.{object}
 use Rattle.kheap_slabs.specs.declared.objects.Desc.{Desc}
 use Rattle.kheap_slabs.specs.declared.objects.Descriptor.{Descriptor}
+use Rattle.kheap_slabs.specs.declared.objects.Pipe.{Pipe}
 use Rattle.kheap_slabs.specs.declared.objects.Proc.{Proc}
 use Rattle.open_laws.specs.Described.{node_in}
 use Rattle.posix_defs.specs.Files.State.{is_number}
@@ -30,23 +31,23 @@ Adds old new test = (number : ℕ) → has_node new number ≡ (has_node old num
 abbrev pub works_at : ℕ → Proc → Bool
 works_at number proc = is_none proc.status && proc.cwd == number
 
--- the node that a description opens
-abbrev pub node_of : Option Desc → Option ℕ
-node_of None = None
-node_of (Some desc) = node_in desc.target
+-- the node that a description opens; one of an end of a FIFO's pipe opens the FIFO
+abbrev pub node_of : List (Option Pipe) → Option Desc → Option ℕ
+node_of pipes None = None
+node_of pipes (Some desc) = node_in pipes desc.target
 
 -- a descriptor, if it is one, is open on this node
-abbrev pub opens_at : List (Option Desc) → ℕ → Option Descriptor → Bool
-opens_at descs number None = false
-opens_at descs number (Some held) = is_number number (node_of (object descs held.desc))
+abbrev pub opens_at : Heap → ℕ → Option Descriptor → Bool
+opens_at h number None = false
+opens_at h number (Some held) = is_number number (node_of h.pipes (object h.descs held.desc))
 
 -- some descriptor of these is
-abbrev pub some_opens : List (Option Desc) → List (Option Descriptor) → ℕ → Bool
-some_opens descs places number = list_any (opens_at descs number) places
+abbrev pub some_opens : Heap → List (Option Descriptor) → ℕ → Bool
+some_opens h places number = list_any (opens_at h number) places
 
 -- a process works in this node as long as it runs, or has it open
 abbrev pub holds_node : Heap → ℕ → Proc → Bool
-holds_node h number proc = works_at number proc || some_opens h.descs (numbers_in h proc) number
+holds_node h number proc = works_at number proc || some_opens h (numbers_in h proc) number
 
 -- some process of these does
 abbrev pub some_holds : Heap → List Proc → ℕ → Bool

@@ -8,6 +8,7 @@ ghost use Rattle.kheap_slabs.specs.Heap.{IsWellFormed};
 ghost use Rattle.kheap_slabs.specs.Leaves.{OwnsLeaves, row_at};
 ghost use Rattle.open_laws.specs.Described.{node_in};
 ghost use Rattle.open_laws.specs.Owned.{HasItsOwners};
+ghost use Rattle.open_laws.specs.Polled.{IsTargetIn};
 ghost use Rattle.posix_defs.specs.Files.State.{is_number};
 ghost use Rattle.proc_numbers.specs.Having.{AreListed};
 ghost use Rattle.proc_table.specs.Table.{AreStored, processes};
@@ -56,8 +57,9 @@ fn add_held(heap: &KHeap, key: u32, nodes: &mut NodeSet)
 fn add_leaf(heap: &KHeap, leaf: Option<u32>, nodes: &mut NodeSet)
     requires there { (key : ℕ) → leaf ≡ Some key → InUse heap.now.leaves key }
     requires whole { IsWellFormed heap.now }
+    requires owners { HasItsOwners heap.now [] }
     requires named { (fd : ℕ) (held : HeldDescriptor) → object (row_at heap.now.leaves leaf) fd ≡ Some held → InUse heap.now.descs held.desc }
-    ensures { Adds nodes.old nodes.new (some_opens heap.now.descs (row_at heap.now.leaves leaf)) }
+    ensures { Adds nodes.old nodes.new (some_opens heap.now (row_at heap.now.leaves leaf)) }
 {
     let Some(key) = leaf else {
         return;
@@ -67,8 +69,9 @@ fn add_leaf(heap: &KHeap, leaf: Option<u32>, nodes: &mut NodeSet)
 
 // The nodes that these descriptors are open on.
 fn add_row(heap: &KHeap, row: &[Option<Descriptor>; 32], nodes: &mut NodeSet)
+    requires owners { HasItsOwners heap.now [] }
     requires named { (fd : ℕ) (held : HeldDescriptor) → object row.now fd ≡ Some held → InUse heap.now.descs held.desc }
-    ensures { Adds nodes.old nodes.new (some_opens heap.now.descs row.now) }
+    ensures { Adds nodes.old nodes.new (some_opens heap.now row.now) }
 {
     for descriptor in row {
         if let Some(held) = descriptor {
@@ -79,7 +82,8 @@ fn add_row(heap: &KHeap, row: &[Option<Descriptor>; 32], nodes: &mut NodeSet)
 
 // The node that a description opens, if it opens one.
 fn add_opened(heap: &KHeap, desc: &Desc, nodes: &mut NodeSet)
-    ensures { Adds nodes.old nodes.new (λ number. is_number number (node_in desc.now.target)) }
+    requires { IsTargetIn heap.now desc.now.target }
+    ensures { Adds nodes.old nodes.new (λ number. is_number number (node_in heap.now.pipes desc.now.target)) }
 {
     if let Some(node) = node_of(heap, desc.target) {
         nodes.add(node);
@@ -87,7 +91,10 @@ fn add_opened(heap: &KHeap, desc: &Desc, nodes: &mut NodeSet)
 }
 
 // The node of a target; an end of a FIFO's pipe has that of the FIFO.
-fn node_of(heap: &KHeap, target: Target) -> Option<u32> {
+fn node_of(heap: &KHeap, target: Target) -> Option<u32>
+    requires { IsTargetIn heap.now target }
+    ensures { result ≡ node_in heap.now.pipes target }
+{
     match target {
         Target::Inode(node) => Some(node),
         Target::Pipe(key) => pipe_fifo(heap, key),

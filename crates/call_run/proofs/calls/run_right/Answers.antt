@@ -18,7 +18,7 @@ use Rattle.call_run.proofs.Breaking.{performs_write, serves_broken}
 use Rattle.call_run.proofs.Dispatch.{done_is, named_four, named_one, named_three, named_two, numbered, performs_that, reaches_that, serves_that, spelt_one, spelt_two}
 use Rattle.call_run.proofs.Naming.{has_file_need, has_left, has_need, leaf_where, may_fetch, paths_of_it, pays, right_that, room_kept, walks_connecting, walks_one, walks_opening, walks_two}
 use Rattle.call_run.proofs.OnFiles.{written_anew}
-use Rattle.call_run.specs.Families.{IsOffFiles, IsOnFile, is_moving}
+use Rattle.call_run.specs.Families.{HasHalf, IsOffFiles, IsOnFile, is_moving}
 use Rattle.call_run.proofs.calls.run_right.Goals as goal
 
 -- ---- what its number names
@@ -33,7 +33,7 @@ returns-in-Getpid-clause-uses c = uses_nothing _ _ _ _ c.tell.ensures.takes
 
 pub returns-in-Getpid-clause-does : goal.returns-in-Getpid-clause-does
 returns-in-Getpid-clause-does c =
-    performs_that c.in-Getpid.is refl
+    performs_that c.in-Getpid.is (λ plain. refl)
     (does_tell c.args.script.now c.args.objects.now c.tell.new.objects c.args.caller.now.place.pid call.Getpid (pos c.args.caller.now.place.pid) c.tell.result _ (λ plain. pos c.args.caller.now.place.pid)
     c.tell.ensures.told c.tell.ensures.goes (λ frames. refl)
     (λ world stands. refl) (λ plain. refl))
@@ -49,7 +49,7 @@ returns-in-Getppid-clause-uses c = uses_nothing _ _ _ _ c.tell-in-Getppid.ensure
 pub returns-in-Getppid-clause-does : goal.returns-in-Getppid-clause-does
 returns-in-Getppid-clause-does c =
     let it = c.requires.caller in
-    performs_that c.in-Getppid.is refl
+    performs_that c.in-Getppid.is (λ plain. refl)
     (does_tell c.args.script.now c.args.objects.now c.tell-in-Getppid.new.objects c.args.caller.now.place.pid call.Getppid (pos c.args.caller.now.parent) c.tell-in-Getppid.result _ (λ plain. pos (parent_of plain.table c.args.caller.now.place.pid))
     c.tell-in-Getppid.ensures.told c.tell-in-Getppid.ensures.goes (λ frames. refl)
     (λ world stands. ap pos (it.parent ∙ sym (parent_is c.args.script.now c.args.objects.now world.plain c.args.caller.now.place.pid it.proc stands.processes it.found))) (λ plain. refl))
@@ -64,7 +64,7 @@ returns-in-SchedYield-clause-uses c = uses_nothing _ _ _ _ c.tell-in-SchedYield.
 
 pub returns-in-SchedYield-clause-does : goal.returns-in-SchedYield-clause-does
 returns-in-SchedYield-clause-does c =
-    performs_that c.in-SchedYield.is refl
+    performs_that c.in-SchedYield.is (λ plain. refl)
     (does_tell c.args.script.now c.args.objects.now c.tell-in-SchedYield.new.objects c.args.caller.now.place.pid call.SchedYield (pos 0) c.tell-in-SchedYield.result _ (λ plain. pos 0)
     c.tell-in-SchedYield.ensures.told c.tell-in-SchedYield.ensures.goes (λ frames. refl)
     (λ world stands. refl) (λ plain. refl))
@@ -99,7 +99,7 @@ pub returns-in-Fork-clause-uses : goal.returns-in-Fork-clause-uses
 returns-in-Fork-clause-uses c = uses_paid _ _ _ _ _ _ c.fork.ensures.paid (c.purse_for-paid.ensures.within c.args.call.now c.requires.needed)
 
 pub returns-in-Fork-clause-does : goal.returns-in-Fork-clause-does
-returns-in-Fork-clause-does c = performs_that c.in-Fork.is refl c.fork.ensures.does
+returns-in-Fork-clause-does c = performs_that c.in-Fork.is (λ plain. refl) c.fork.ensures.does
 
 pub returns-in-Fork-clause-cached : goal.returns-in-Fork-clause-cached
 returns-in-Fork-clause-cached c = cached_that _ _ _ _ c.in-Fork.is tt
@@ -161,7 +161,7 @@ returns-in-Waitpid-clause-uses c = uses_nothing _ _ _ _ c.wait.ensures.takes
 
 pub returns-in-Waitpid-clause-does : goal.returns-in-Waitpid-clause-does
 returns-in-Waitpid-clause-does c =
-    performs_that (spelt_two call.Waitpid c.in-Waitpid.is (search (rules, to_z-of_z)) (search (rules, to_z-of_z))) refl c.wait.ensures.does
+    performs_that (spelt_two call.Waitpid c.in-Waitpid.is (search (rules, to_z-of_z)) (search (rules, to_z-of_z))) (λ plain. refl) c.wait.ensures.does
 
 pub returns-in-Waitpid-clause-cached : goal.returns-in-Waitpid-clause-cached
 returns-in-Waitpid-clause-cached c = cached_that _ _ _ _ c.in-Waitpid.is tt
@@ -202,7 +202,7 @@ pub returns-in-Mmap-clause-uses : goal.returns-in-Mmap-clause-uses
 returns-in-Mmap-clause-uses c = uses_paid _ _ _ _ _ _ c.mmap.ensures.paid (c.purse_for-paid.ensures.within c.args.call.now c.requires.needed)
 
 pub returns-in-Mmap-clause-does : goal.returns-in-Mmap-clause-does
-returns-in-Mmap-clause-does c = performs_that (spelt_one call.Mmap c.in-Mmap.is (search (rules, to_z-of_z))) refl c.mmap.ensures.does
+returns-in-Mmap-clause-does c = performs_that (spelt_one call.Mmap c.in-Mmap.is (search (rules, to_z-of_z))) (λ plain. refl) c.mmap.ensures.does
 
 pub returns-in-Mmap-clause-cached : goal.returns-in-Mmap-clause-cached
 returns-in-Mmap-clause-cached c = cached_that _ _ _ _ c.in-Mmap.is tt
@@ -214,7 +214,7 @@ returns-in-Munmap-clause-uses c = uses_nothing _ _ _ _ c.munmap.ensures.takes
 
 pub returns-in-Munmap-clause-does : goal.returns-in-Munmap-clause-does
 returns-in-Munmap-clause-does c =
-    performs_that (spelt_two call.Munmap c.in-Munmap.is (search (rules, to_z-of_z)) (search (rules, to_z-of_z))) refl c.munmap.ensures.does
+    performs_that (spelt_two call.Munmap c.in-Munmap.is (search (rules, to_z-of_z)) (search (rules, to_z-of_z))) (λ plain. refl) c.munmap.ensures.does
 
 pub returns-in-Munmap-clause-cached : goal.returns-in-Munmap-clause-cached
 returns-in-Munmap-clause-cached c = cached_that _ _ _ _ c.in-Munmap.is tt
@@ -236,7 +236,7 @@ returns-in-Store-clause-uses c = uses_paid _ _ _ _ _ _ c.store.ensures.paid (c.p
 
 pub returns-in-Store-clause-does : goal.returns-in-Store-clause-does
 returns-in-Store-clause-does c =
-    performs_that (spelt_one (λ z. call.Store z c.in-Store.bytes) c.in-Store.is (search (rules, to_z-of_z))) refl c.store.ensures.does
+    performs_that (spelt_one (λ z. call.Store z c.in-Store.bytes) c.in-Store.is (search (rules, to_z-of_z))) (λ plain. refl) c.store.ensures.does
 
 pub returns-in-Store-clause-cached : goal.returns-in-Store-clause-cached
 returns-in-Store-clause-cached c = cached_that _ _ _ _ c.in-Store.is tt
@@ -248,7 +248,7 @@ returns-in-Load-clause-uses c = uses_nothing _ _ _ _ c.load.ensures.takes
 
 pub returns-in-Load-clause-does : goal.returns-in-Load-clause-does
 returns-in-Load-clause-does c =
-    performs_that (spelt_two call.Load c.in-Load.is (search (rules, to_z-of_z)) (search (rules, to_z-of_z))) refl c.load.ensures.does
+    performs_that (spelt_two call.Load c.in-Load.is (search (rules, to_z-of_z)) (search (rules, to_z-of_z))) (λ plain. refl) c.load.ensures.does
 
 pub returns-in-Load-clause-cached : goal.returns-in-Load-clause-cached
 returns-in-Load-clause-cached c = cached_that _ _ _ _ c.in-Load.is tt
@@ -272,6 +272,11 @@ open-requires-clause-needed c =
 pub open-requires-clause-bytes : goal.open-requires-clause-bytes
 open-requires-clause-bytes c =
     let paths = paths_of_it (spelt_one (call.OpenFile c.in-OpenFile.path) c.in-OpenFile.is (search (rules, to_z-of_z)) ∙ ap (λ p. call.OpenFile p (to_z w64 (of_z w64 c.in-OpenFile.flags))) (sym c.items-in-OpenFile.ensures.same)) c.requires.paths in paths.0
+
+pub open-requires-clause-begins : goal.open-requires-clause-begins
+open-requires-clause-begins c =
+    let half = c.requires.half in
+    (half.0, half.1, subst (λ w. HasHalf half.0.plain.files c.args.caller.now.place.pid w c.args.caller.now.control.done) c.in-OpenFile.is half.2)
 
 pub returns-in-OpenFile-clause-uses : goal.returns-in-OpenFile-clause-uses
 returns-in-OpenFile-clause-uses c = uses_paid _ _ _ _ _ _ c.open.ensures.paid (c.purse_for-paid.ensures.within c.args.call.now c.requires.needed)
@@ -312,7 +317,7 @@ pub returns-in-Dup-clause-uses : goal.returns-in-Dup-clause-uses
 returns-in-Dup-clause-uses c = uses_paid _ _ _ _ _ _ c.dup.ensures.paid (c.purse_for-paid.ensures.within c.args.call.now c.requires.needed)
 
 pub returns-in-Dup-clause-does : goal.returns-in-Dup-clause-does
-returns-in-Dup-clause-does c = performs_that (named_one c.named_by-named.ensures.number call.Dup c.in-Dup.is refl) refl c.dup.ensures.does
+returns-in-Dup-clause-does c = performs_that (named_one c.named_by-named.ensures.number call.Dup c.in-Dup.is refl) (λ plain. refl) c.dup.ensures.does
 
 pub returns-in-Dup-clause-cached : goal.returns-in-Dup-clause-cached
 returns-in-Dup-clause-cached c = cached_that _ _ _ _ c.in-Dup.is tt
@@ -363,7 +368,7 @@ returns-in-Fcntl-clause-uses c = uses_paid _ _ _ _ _ _ c.fcntl.ensures.paid (c.p
 
 pub returns-in-Fcntl-clause-does : goal.returns-in-Fcntl-clause-does
 returns-in-Fcntl-clause-does c =
-    performs_that (named_three c.named_by-named.ensures.number call.Fcntl c.in-Fcntl.is refl (search (rules, to_z-of_z)) (search (rules, to_z-of_z))) refl c.fcntl.ensures.does
+    performs_that (named_three c.named_by-named.ensures.number call.Fcntl c.in-Fcntl.is refl (search (rules, to_z-of_z)) (search (rules, to_z-of_z))) (λ plain. refl) c.fcntl.ensures.does
 
 pub returns-in-Fcntl-clause-cached : goal.returns-in-Fcntl-clause-cached
 returns-in-Fcntl-clause-cached c = cached_that _ _ _ _ c.in-Fcntl.is tt
@@ -425,7 +430,7 @@ returns-in-Queue-clause-uses c = uses_paid _ _ _ _ _ _ c.read-in-Queue.ensures.p
 
 pub returns-in-Queue-clause-does : goal.returns-in-Queue-clause-does
 returns-in-Queue-clause-does c =
-    performs_that (named_three c.named_by-named.ensures.number call.Read c.in-Read.is refl (search (rules, to_z-of_z)) (search (rules, to_z-of_z))) refl c.read-in-Queue.ensures.does
+    performs_that (named_three c.named_by-named.ensures.number call.Read c.in-Read.is refl (search (rules, to_z-of_z)) (search (rules, to_z-of_z))) (λ plain. refl) c.read-in-Queue.ensures.does
 
 pub returns-in-Queue-clause-cached : goal.returns-in-Queue-clause-cached
 returns-in-Queue-clause-cached c =
@@ -435,28 +440,28 @@ returns-in-Queue-clause-cached c =
 
 pub write-requires-clause-right : goal.write-requires-clause-right
 write-requires-clause-right c =
-    right_that c.requires.right (named_three c.named_by-named.ensures.number (λ x y z. call.Write x y z 0) (written_anew c.in-Write.is (c.target_of-target.ensures.fresh _ _ _ _ c.named_by-named.ensures.opened (numbered c.named_by-named.ensures.number c.in-Write.is refl) c.in-File-target.is c.requires.half.1 c.requires.half.2)) refl (search (rules, to_z-of_z)) (search (rules, to_z-of_z)))
+    right_that c.requires.right (named_three c.named_by-named.ensures.number (λ x y z. call.Write x y z 0) (written_anew c.in-Write.is (c.target_of-target.ensures.fresh _ _ _ _ _ c.named_by-named.ensures.opened (numbered c.named_by-named.ensures.number c.in-Write.is refl) c.in-File-target.is c.requires.half.1 c.requires.half.2)) refl (search (rules, to_z-of_z)) (search (rules, to_z-of_z)))
 
 pub write-requires-clause-may : goal.write-requires-clause-may
 write-requires-clause-may c =
     may_fetch c.purse_for-paid.ensures.value c.in-File-target.is c.requires.needed c.requires.right
-    (named_three c.named_by-named.ensures.number (λ x y z. call.Write x y z 0) (written_anew c.in-Write.is (c.target_of-target.ensures.fresh _ _ _ _ c.named_by-named.ensures.opened (numbered c.named_by-named.ensures.number c.in-Write.is refl) c.in-File-target.is c.requires.half.1 c.requires.half.2)) refl (search (rules, to_z-of_z)) (search (rules, to_z-of_z))) refl c.requires.room
+    (named_three c.named_by-named.ensures.number (λ x y z. call.Write x y z 0) (written_anew c.in-Write.is (c.target_of-target.ensures.fresh _ _ _ _ _ c.named_by-named.ensures.opened (numbered c.named_by-named.ensures.number c.in-Write.is refl) c.in-File-target.is c.requires.half.1 c.requires.half.2)) refl (search (rules, to_z-of_z)) (search (rules, to_z-of_z))) refl c.requires.room
 
 pub write-requires-clause-needed : goal.write-requires-clause-needed
 write-requires-clause-needed c =
     has_file_need c.purse_for-paid.ensures.value c.in-File-target.is c.requires.needed c.requires.right
-    (named_three c.named_by-named.ensures.number (λ x y z. call.Write x y z 0) (written_anew c.in-Write.is (c.target_of-target.ensures.fresh _ _ _ _ c.named_by-named.ensures.opened (numbered c.named_by-named.ensures.number c.in-Write.is refl) c.in-File-target.is c.requires.half.1 c.requires.half.2)) refl (search (rules, to_z-of_z)) (search (rules, to_z-of_z)))
+    (named_three c.named_by-named.ensures.number (λ x y z. call.Write x y z 0) (written_anew c.in-Write.is (c.target_of-target.ensures.fresh _ _ _ _ _ c.named_by-named.ensures.opened (numbered c.named_by-named.ensures.number c.in-Write.is refl) c.in-File-target.is c.requires.half.1 c.requires.half.2)) refl (search (rules, to_z-of_z)) (search (rules, to_z-of_z)))
 
 pub write-requires-clause-on : goal.write-requires-clause-on
 write-requires-clause-on c =
-    subst (IsOnFile c.args.objects.now.heap c.args.objects.now.procs c.args.caller.now.place.pid) (named_three c.named_by-named.ensures.number (λ x y z. call.Write x y z 0) (written_anew c.in-Write.is (c.target_of-target.ensures.fresh _ _ _ _ c.named_by-named.ensures.opened (numbered c.named_by-named.ensures.number c.in-Write.is refl) c.in-File-target.is c.requires.half.1 c.requires.half.2)) refl (search (rules, to_z-of_z)) (search (rules, to_z-of_z))) (c.target_of-target.ensures.on _ _ _ c.named_by-named.ensures.opened (numbered c.named_by-named.ensures.number c.in-Write.is refl) c.in-File-target.is)
+    subst (IsOnFile c.args.objects.now.heap c.args.objects.now.procs c.args.caller.now.place.pid) (named_three c.named_by-named.ensures.number (λ x y z. call.Write x y z 0) (written_anew c.in-Write.is (c.target_of-target.ensures.fresh _ _ _ _ _ c.named_by-named.ensures.opened (numbered c.named_by-named.ensures.number c.in-Write.is refl) c.in-File-target.is c.requires.half.1 c.requires.half.2)) refl (search (rules, to_z-of_z)) (search (rules, to_z-of_z))) (c.target_of-target.ensures.on _ _ _ c.named_by-named.ensures.opened (numbered c.named_by-named.ensures.number c.in-Write.is refl) c.in-File-target.is)
 
 pub returns-in-File-target-clause-uses : goal.returns-in-File-target-clause-uses
 returns-in-File-target-clause-uses c = uses_paid _ _ _ _ _ _ c.write.ensures.paid (c.purse_for-paid.ensures.within c.args.call.now c.requires.needed)
 
 pub returns-in-File-target-clause-does : goal.returns-in-File-target-clause-does
 returns-in-File-target-clause-does c =
-    serves_that (named_three c.named_by-named.ensures.number (λ x y z. call.Write x y z 0) (written_anew c.in-Write.is (c.target_of-target.ensures.fresh _ _ _ _ c.named_by-named.ensures.opened (numbered c.named_by-named.ensures.number c.in-Write.is refl) c.in-File-target.is c.requires.half.1 c.requires.half.2)) refl (search (rules, to_z-of_z)) (search (rules, to_z-of_z))) c.write.ensures.does
+    serves_that (named_three c.named_by-named.ensures.number (λ x y z. call.Write x y z 0) (written_anew c.in-Write.is (c.target_of-target.ensures.fresh _ _ _ _ _ c.named_by-named.ensures.opened (numbered c.named_by-named.ensures.number c.in-Write.is refl) c.in-File-target.is c.requires.half.1 c.requires.half.2)) refl (search (rules, to_z-of_z)) (search (rules, to_z-of_z))) c.write.ensures.does
 
 pub returns-in-File-target-clause-cached : goal.returns-in-File-target-clause-cached
 returns-in-File-target-clause-cached c = cached_that _ _ _ _ c.in-Write.is tt
@@ -523,7 +528,7 @@ returns-else-write_breaks-clause-uses c =
 
 pub returns-else-write_breaks-clause-does : goal.returns-else-write_breaks-clause-does
 returns-else-write_breaks-clause-does c =
-    performs_that (named_three c.named_by-named.ensures.number (λ x y z. call.Write x y z c.in-Write.done) c.in-Write.is refl (search (rules, to_z-of_z)) (search (rules, to_z-of_z))) refl
+    performs_that (named_three c.named_by-named.ensures.number (λ x y z. call.Write x y z c.in-Write.done) c.in-Write.is refl (search (rules, to_z-of_z)) (search (rules, to_z-of_z))) (λ plain. refl)
     (performs_write c.args.script.now c.args.objects.now c.write-in-Queue-target.new.objects c.args.caller.now.place.pid _ _ _ c.in-Write.done c.write-in-Queue-target.result
     (λ world stands. sym c.if-write_breaks.false ∙ c.write_breaks.ensures c.args.script.now world stands) c.write-in-Queue-target.ensures.does)
 
@@ -885,7 +890,7 @@ pub returns-in-Pipe-clause-uses : goal.returns-in-Pipe-clause-uses
 returns-in-Pipe-clause-uses c = uses_paid _ _ _ _ _ _ c.pipe.ensures.paid (c.purse_for-paid.ensures.within c.args.call.now c.requires.needed)
 
 pub returns-in-Pipe-clause-does : goal.returns-in-Pipe-clause-does
-returns-in-Pipe-clause-does c = performs_that c.in-Pipe.is refl c.pipe.ensures.does
+returns-in-Pipe-clause-does c = performs_that c.in-Pipe.is (λ plain. refl) c.pipe.ensures.does
 
 pub returns-in-Pipe-clause-cached : goal.returns-in-Pipe-clause-cached
 returns-in-Pipe-clause-cached c = cached_that _ _ _ _ c.in-Pipe.is tt
@@ -917,7 +922,7 @@ pub returns-in-Socket-clause-uses : goal.returns-in-Socket-clause-uses
 returns-in-Socket-clause-uses c = uses_paid _ _ _ _ _ _ c.socket.ensures.paid (c.purse_for-paid.ensures.within c.args.call.now c.requires.needed)
 
 pub returns-in-Socket-clause-does : goal.returns-in-Socket-clause-does
-returns-in-Socket-clause-does c = performs_that c.in-Socket.is refl c.socket.ensures.does
+returns-in-Socket-clause-does c = performs_that c.in-Socket.is (λ plain. refl) c.socket.ensures.does
 
 pub returns-in-Socket-clause-cached : goal.returns-in-Socket-clause-cached
 returns-in-Socket-clause-cached c = cached_that _ _ _ _ c.in-Socket.is tt
@@ -949,7 +954,7 @@ pub returns-in-Socketpair-clause-uses : goal.returns-in-Socketpair-clause-uses
 returns-in-Socketpair-clause-uses c = uses_paid _ _ _ _ _ _ c.socketpair.ensures.paid (c.purse_for-paid.ensures.within c.args.call.now c.requires.needed)
 
 pub returns-in-Socketpair-clause-does : goal.returns-in-Socketpair-clause-does
-returns-in-Socketpair-clause-does c = performs_that c.in-Socketpair.is refl c.socketpair.ensures.does
+returns-in-Socketpair-clause-does c = performs_that c.in-Socketpair.is (λ plain. refl) c.socketpair.ensures.does
 
 pub returns-in-Socketpair-clause-cached : goal.returns-in-Socketpair-clause-cached
 returns-in-Socketpair-clause-cached c = cached_that _ _ _ _ c.in-Socketpair.is tt
@@ -993,7 +998,7 @@ pub returns-in-Listen-clause-uses : goal.returns-in-Listen-clause-uses
 returns-in-Listen-clause-uses c = uses_nothing _ _ _ _ c.listen.ensures.takes
 
 pub returns-in-Listen-clause-does : goal.returns-in-Listen-clause-does
-returns-in-Listen-clause-does c = performs_that (named_one c.named_by-named.ensures.number call.Listen c.in-Listen.is refl) refl c.listen.ensures.does
+returns-in-Listen-clause-does c = performs_that (named_one c.named_by-named.ensures.number call.Listen c.in-Listen.is refl) (λ plain. refl) c.listen.ensures.does
 
 pub returns-in-Listen-clause-cached : goal.returns-in-Listen-clause-cached
 returns-in-Listen-clause-cached c = cached_that _ _ _ _ c.in-Listen.is tt
@@ -1046,7 +1051,7 @@ pub returns-in-Accept-clause-uses : goal.returns-in-Accept-clause-uses
 returns-in-Accept-clause-uses c = uses_paid _ _ _ _ _ _ c.accept.ensures.paid (c.purse_for-paid.ensures.within c.args.call.now c.requires.needed)
 
 pub returns-in-Accept-clause-does : goal.returns-in-Accept-clause-does
-returns-in-Accept-clause-does c = performs_that (named_one c.named_by-named.ensures.number call.Accept c.in-Accept.is refl) refl c.accept.ensures.does
+returns-in-Accept-clause-does c = performs_that (named_one c.named_by-named.ensures.number call.Accept c.in-Accept.is refl) (λ plain. refl) c.accept.ensures.does
 
 pub returns-in-Accept-clause-cached : goal.returns-in-Accept-clause-cached
 returns-in-Accept-clause-cached c = cached_that _ _ _ _ c.in-Accept.is tt
@@ -1061,7 +1066,7 @@ returns-in-Shutdown-clause-uses c = uses_nothing _ _ _ _ c.shutdown.ensures.take
 
 pub returns-in-Shutdown-clause-does : goal.returns-in-Shutdown-clause-does
 returns-in-Shutdown-clause-does c =
-    performs_that (named_two c.named_by-named.ensures.number call.Shutdown c.in-Shutdown.is refl (search (rules, to_z-of_z))) refl c.shutdown.ensures.does
+    performs_that (named_two c.named_by-named.ensures.number call.Shutdown c.in-Shutdown.is refl (search (rules, to_z-of_z))) (λ plain. refl) c.shutdown.ensures.does
 
 pub returns-in-Shutdown-clause-cached : goal.returns-in-Shutdown-clause-cached
 returns-in-Shutdown-clause-cached c = cached_that _ _ _ _ c.in-Shutdown.is tt
@@ -1073,7 +1078,7 @@ returns-in-Poll-clause-uses c = uses_nothing _ _ _ _ c.poll.ensures.takes
 
 pub returns-in-Poll-clause-does : goal.returns-in-Poll-clause-does
 returns-in-Poll-clause-does c =
-    performs_that (spelt_one (λ z. call.Poll z c.in-Poll.entries) c.in-Poll.is (search (rules, to_z-of_z))) refl c.poll.ensures.does
+    performs_that (spelt_one (λ z. call.Poll z c.in-Poll.entries) c.in-Poll.is (search (rules, to_z-of_z))) (λ plain. refl) c.poll.ensures.does
 
 pub returns-in-Poll-clause-cached : goal.returns-in-Poll-clause-cached
 returns-in-Poll-clause-cached c = cached_that _ _ _ _ c.in-Poll.is tt
@@ -1085,7 +1090,37 @@ returns-in-Signal-clause-uses c = uses_nothing _ _ _ _ c.signal.ensures.takes
 
 pub returns-in-Signal-clause-does : goal.returns-in-Signal-clause-does
 returns-in-Signal-clause-does c =
-    performs_that (spelt_two call.Signal c.in-Signal.is (search (rules, to_z-of_z)) (search (rules, to_z-of_z))) refl c.signal.ensures.does
+    performs_that (spelt_two call.Signal c.in-Signal.is (search (rules, to_z-of_z)) (search (rules, to_z-of_z))) (λ plain. refl) c.signal.ensures.does
 
 pub returns-in-Signal-clause-cached : goal.returns-in-Signal-clause-cached
 returns-in-Signal-clause-cached c = cached_that _ _ _ _ c.in-Signal.is tt
+
+-- ---- Mkfifo
+
+pub mkfifo-requires-clause-stands : goal.mkfifo-requires-clause-stands
+mkfifo-requires-clause-stands c = (c.requires.stands.0, c.requires.stands.1)
+
+pub mkfifo-requires-clause-right : goal.mkfifo-requires-clause-right
+mkfifo-requires-clause-right c = right_that c.requires.right (c.in-Mkfifo.is ∙ ap call.Mkfifo (sym c.items-in-Mkfifo.ensures.same))
+
+pub mkfifo-requires-clause-may : goal.mkfifo-requires-clause-may
+mkfifo-requires-clause-may c =
+    walks_one c.purse_for-paid.ensures.value (c.target_of-target.ensures.other (ap is_moving c.in-Mkfifo.is)) c.requires.needed c.requires.right
+    (c.in-Mkfifo.is ∙ ap call.Mkfifo (sym c.items-in-Mkfifo.ensures.same)) refl c.requires.room
+
+pub mkfifo-requires-clause-needed : goal.mkfifo-requires-clause-needed
+mkfifo-requires-clause-needed c =
+    has_need c.purse_for-paid.ensures.value (c.target_of-target.ensures.other (ap is_moving c.in-Mkfifo.is)) c.requires.needed c.requires.right
+    (c.in-Mkfifo.is ∙ ap call.Mkfifo (sym c.items-in-Mkfifo.ensures.same)) refl
+
+pub mkfifo-requires-clause-bytes : goal.mkfifo-requires-clause-bytes
+mkfifo-requires-clause-bytes c = let paths = paths_of_it (c.in-Mkfifo.is ∙ ap call.Mkfifo (sym c.items-in-Mkfifo.ensures.same)) c.requires.paths in paths.0
+
+pub returns-in-Mkfifo-clause-uses : goal.returns-in-Mkfifo-clause-uses
+returns-in-Mkfifo-clause-uses c = uses_paid _ _ _ _ _ _ c.mkfifo.ensures.paid (c.purse_for-paid.ensures.within c.args.call.now c.requires.needed)
+
+pub returns-in-Mkfifo-clause-does : goal.returns-in-Mkfifo-clause-does
+returns-in-Mkfifo-clause-does c = reaches_that (c.in-Mkfifo.is ∙ ap call.Mkfifo (sym c.items-in-Mkfifo.ensures.same)) c.mkfifo.ensures.does
+
+pub returns-in-Mkfifo-clause-cached : goal.returns-in-Mkfifo-clause-cached
+returns-in-Mkfifo-clause-cached c = cached_that _ _ _ _ c.in-Mkfifo.is tt

@@ -2,9 +2,10 @@ use Rattle.std.proofs.Common.{◌≡◌, ◌∙◌, ap, is_some, sym, w64, rules
 use Rattle.std.proofs.lemmas.Int.{to_z-of_z}
 use mir.Val.{of_z, to_z}
 use Rattle.kabi_types.specs.declared.calls.Call.TheVariants.{Accept, Poll, Read, Waitpid, Write}
-use Rattle.prog_ctl.specs.declared.waits.Awaited.TheVariants.{Bytes, Child, Events, Peer, Room}
+use Rattle.posix_defs.specs.Machine.{blocks, machine}
+use Rattle.prog_ctl.specs.declared.waits.Awaited.TheVariants.{Bytes, Child, Events, OtherSide, Peer, Room}
 use Rattle.store_objects.proofs.RunningProcs.{alive_runs}
-use Rattle.call_run.proofs.Sleeping.{blocks_as, goes_on, is_waiting, no_fault, told_one, told_three, told_two, wrong_goes_on}
+use Rattle.call_run.proofs.Sleeping.{blocks_as, goes_on, is_waiting, no_fault, opens_as, told_one, told_three, told_two, wrong_goes_on}
 use Rattle.call_run.proofs.calls.would_block.Goals as goal
 
 pub key_there-key-requires-clause-stored : goal.key_there-key-requires-clause-stored
@@ -70,6 +71,12 @@ returns-in-Events c = λ script world stands call e.
     let seen : c.args.wait ≡ Some (Events c.in-Events.timeout c.in-Events.entries) = search rules in
     told_one script world.plain c.args.pid call c.poll_would_block.result (λ x. Poll x c.in-Events.entries) _ c.in-Events.timeout timeout
     (is_waiting call (Events c.in-Events.timeout c.in-Events.entries) (sym seen ∙ e)) (c.poll_would_block.ensures script world stands)
+
+pub returns-in-OtherSide : goal.returns-in-OtherSide
+returns-in-OtherSide c = λ script world stands call e.
+    let seen : c.args.wait ≡ Some OtherSide = search rules in
+    let it = is_waiting call OtherSide (sym seen ∙ e) in
+    c.open_would_block.ensures script world stands it.0 it.1 ∙ sym (opens_as script world.plain c.args.pid it.0 it.1 it.3) ∙ ap (λ w. blocks (machine script world.plain c.args.pid w)) it.2
 
 pub returns-in_default : goal.returns-in_default
 returns-in_default c = λ script world stands call e.

@@ -70,7 +70,7 @@ returns-clause-does c =
     (n.ensures.answers numbers others script plain hold))
     (λ world next stands.
     leaves_numbers old (mid script old n.new.heap n.new.tree n.new.names pid c.args.caller.now.control kept c.requires.runs n.ensures.changes n.ensures.listed n.ensures.owners some.hold.bound n.ensures.places one)
-    world pid which (record { right = refl; paths = refl; leaves = refl; walks = refl }) said next
+    world pid which (record { right = refl; paths = refl; leaves = λ plain pid. refl; walks = refl }) said next
     (λ off.
     n.ensures.stays
     (closed_off stands.files.numbers old.heap old.procs world.plain.files pid stands.files.opened (listed_in script old kept) kept.owners c.args.on.now.fd (first_off _ _ off))))

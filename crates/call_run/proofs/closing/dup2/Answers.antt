@@ -86,7 +86,7 @@ returns-clause-does c =
     (n.ensures.answers numbers others script plain hold)))
     (λ world next stands.
     leaves_numbers old (mid script old n.new.heap n.new.tree n.new.names pid c.args.caller.now.control kept c.requires.runs n.ensures.changes n.ensures.listed n.ensures.owners some.hold.bound n.ensures.places one)
-    world pid which (record { right = refl; paths = refl; leaves = refl; walks = refl }) said next
+    world pid which (record { right = refl; paths = refl; leaves = λ plain pid. refl; walks = refl }) said next
     (λ off.
     let first = c.requires.stands in
     let it = n.ensures.answers first.1.files.numbers (others_in first.0.plain) script first.0.plain (holds_names script old first.0 first.1 c.heap_is_well_formed.ensures first.2) in

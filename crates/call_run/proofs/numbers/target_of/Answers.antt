@@ -12,7 +12,7 @@ pub returns-then-not-moves-clause-off : goal.returns-then-not-moves-clause-off
 returns-then-not-moves-clause-off c = λ h kept pid opened numbered queue. cc
 
 pub returns-then-not-moves-clause-fresh : goal.returns-then-not-moves-clause-fresh
-returns-then-not-moves-clause-fresh c = λ script objects world pid opened numbered file stands half. other_fresh c.args.call.now (sym c.moves.ensures ∙ c.if-not-moves.true)
+returns-then-not-moves-clause-fresh c = λ script objects world pid moved opened numbered file stands half. other_fresh c.args.call.now (sym c.moves.ensures ∙ c.if-not-moves.true)
 
 pub returns-then-is_on_node-clause-other : goal.returns-then-is_on_node-clause-other
 returns-then-is_on_node-clause-other c = λ still. refl
@@ -25,8 +25,8 @@ pub returns-then-is_on_node-clause-off : goal.returns-then-is_on_node-clause-off
 returns-then-is_on_node-clause-off c = λ h kept pid opened numbered queue. cc
 
 pub returns-then-is_on_node-clause-fresh : goal.returns-then-is_on_node-clause-fresh
-returns-then-is_on_node-clause-fresh c = λ script objects world pid opened numbered file stands half.
-    fresh_on world.plain.files pid c.args.call.now c.args.on.now.fd numbered
+returns-then-is_on_node-clause-fresh c = λ script objects world pid moved opened numbered file stands half.
+    fresh_on world.plain.files pid c.args.call.now c.args.on.now.fd moved numbered
     (sym (c.is_on_node.ensures.tells objects.heap objects.procs pid stands.files.numbers world.plain.files opened stands.files.opened) ∙ c.if-is_on_node.true) half
 
 pub returns-else-is_on_node-clause-other : goal.returns-else-is_on_node-clause-other
@@ -40,4 +40,4 @@ returns-else-is_on_node-clause-off c = λ h kept pid opened numbered queue.
     off_files h kept pid c.args.call.now c.args.on.now.fd numbered (c.is_on_node.ensures.off h kept pid opened c.if-is_on_node.false)
 
 pub returns-else-is_on_node-clause-fresh : goal.returns-else-is_on_node-clause-fresh
-returns-else-is_on_node-clause-fresh c = λ script objects world pid opened numbered file stands half. cc
+returns-else-is_on_node-clause-fresh c = λ script objects world pid moved opened numbered file stands half. cc

@@ -35,7 +35,7 @@ changed script old heap fs pid fd size as_size is said same_size tells beside wo
   pages = ap (λ (h : Heap). h.pages) beside;
   listed = listed;
   owners = owners;
-  names = record { right = right; paths = refl; numbers = refl; leaves = refl; walks = refl };
+  names = record { right = right; paths = refl; numbers = refl; leaves = λ plain pid. refl; walks = refl };
   stays = stays;
   answers = subst (λ size1. AnswersSo script old heap fs pid (λ plain. ftruncate script plain pid fd size1) said)
       same_size (subst (AnswersSo script old heap fs pid (λ plain. ftruncate script plain pid fd as_size)) (sym tells) answers);

@@ -42,7 +42,7 @@ changed script old heap fs pid fd distance whence as_distance as_whence is said 
   pages = ap (λ (h : Heap). h.pages) beside;
   listed = listed;
   owners = owners;
-  names = record { right = right; paths = refl; numbers = refl; leaves = refl; walks = refl };
+  names = record { right = right; paths = refl; numbers = refl; leaves = λ plain pid. refl; walks = refl };
   stays = stays;
   answers = of_two (λ distance1 whence1. AnswersSo script old heap fs pid (λ plain. lseek script plain pid fd distance1 whence1) said)
       as_distance as_whence distance whence same_distance same_whence (subst (AnswersSo script old heap fs pid (λ plain. lseek script plain pid fd as_distance as_whence)) (sym tells) answers);

@@ -33,7 +33,7 @@ moved script old heap fs pid fd addr n at as_addr as_n as_at count said same_add
   well = well;
   others = leaves_others old.heap heap (record old.heap { nodes = heap.nodes; pages = heap.pages; blocks = heap.blocks; high = heap.high }) beside refl refl refl refl;
   is = is;
-  names = record { right = right; paths = refl; numbers = refl; leaves = refl; walks = refl };
+  names = record { right = right; paths = refl; numbers = refl; leaves = λ plain pid. refl; walks = refl };
   stays = stays;
   leads = of_three (λ addr1 n1 at1. Leads script old heap fs pid (call.Pread fd addr1 n1 at1) (λ plain. pread script plain pid fd addr1 n1 at1) said)
       as_addr as_n as_at addr n at same_addr same_n same_at (subst (Leads script old heap fs pid (call.Pread fd as_addr as_n as_at) (λ plain. pread script plain pid fd as_addr as_n as_at)) (sym tells) leads);

@@ -33,7 +33,7 @@ moved script old heap fs pid fd addr n as_addr as_n count said same_addr same_n 
   well = well;
   others = leaves_others old.heap heap (record old.heap { nodes = heap.nodes; pages = heap.pages; descs = heap.descs; blocks = heap.blocks; high = heap.high }) beside refl refl refl refl;
   is = is;
-  names = record { right = right; paths = refl; numbers = refl; leaves = refl; walks = refl };
+  names = record { right = right; paths = refl; numbers = refl; leaves = λ plain pid. refl; walks = refl };
   stays = stays;
   leads = of_two (λ addr1 n1. Leads script old heap fs pid (call.Readdir fd addr1 n1) (λ plain. readdir script plain pid fd addr1 n1) said)
       as_addr as_n addr n same_addr same_n (subst (Leads script old heap fs pid (call.Readdir fd as_addr as_n) (λ plain. readdir script plain pid fd as_addr as_n)) (sym tells) leads);

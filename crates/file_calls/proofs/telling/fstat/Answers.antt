@@ -54,6 +54,6 @@ returns-clause-does c =
     subst (AnswersHolding numbers others old.heap old.procs n.new.tree script plain pid (fstat script plain pid c.args.on.now.fd)) (sym c.stat.ensures)
     (n.ensures.answers numbers others script plain hold))
     (λ world next stands.
-    leaves_numbers old then world pid which (record { right = refl; paths = refl; leaves = refl; walks = refl }) said next
+    leaves_numbers old then world pid which (record { right = refl; paths = refl; leaves = λ plain pid. refl; walks = refl }) said next
     (λ off.
     n.ensures.stays stands.files.numbers world.plain.files stands.files.opened (first_off _ _ off)))

@@ -32,7 +32,7 @@ moved script old heap fs pid fd addr n as_addr as_n count said same_addr same_n 
   well = well;
   others = leaves_others old.heap heap (record old.heap { descs = heap.descs; vnodes = heap.vnodes; names = heap.names; blocks = heap.blocks; high = heap.high }) beside refl refl refl refl;
   is = is;
-  names = record { right = right; paths = refl; numbers = refl; leaves = refl; walks = refl };
+  names = record { right = right; paths = refl; numbers = refl; leaves = λ plain pid. refl; walks = refl };
   stays = stays;
   leads = of_two (λ addr1 n1. Leads script old heap fs pid (call.Write fd addr1 n1 0) (λ plain. write_ignoring script plain pid fd addr1 n1 0) said)
       as_addr as_n addr n same_addr same_n (subst (Leads script old heap fs pid (call.Write fd as_addr as_n 0) (λ plain. write_ignoring script plain pid fd as_addr as_n 0)) (sym tells) leads);
