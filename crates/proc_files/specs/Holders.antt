@@ -1,7 +1,7 @@
 -- Who holds the nodes of a tree: descriptions, directories that are worked in, and sockets that have names.
 use Rattle.std.specs.Prelude.{ℕ, ◌+◌, ◌%◌, ◌==◌, ◌<◌, ◌≤◌, ◌≡◌, ◌≢◌, true, false, List, Option, None, Some, count_by}
-use Rattle.posix_defs.specs.Files.Descriptions.{Description, OnNode, ReadOnly, description_at}
-use Rattle.posix_defs.specs.Files.State.{Files, opened_nodes}
+use Rattle.posix_defs.specs.Files.Descriptions.{Description, ReadOnly, description_at}
+use Rattle.posix_defs.specs.Files.State.{Files, node_of, opened_nodes}
 use Rattle.posix_defs.specs.PathCalls.{is_socket}
 use Rattle.posix_defs.specs.SocketLinks.{WaitsFor}
 use Rattle.posix_defs.specs.Sockets.{socket_at}
@@ -30,17 +30,17 @@ pub record HoldDirectories (others : ℕ → ℕ) (tree : Tree) : Type 0 where
 
 -- ---- what is open
 
--- What a description opens is a file, or a directory for reading alone, in which its offset stands between two entries.
+-- What a description opens is a file or a FIFO, or a directory for reading alone, in which its offset stands between two entries.
 pub record IsOpenNode (tree : Tree) (description : Description) (number : ℕ) : Type 0 where
   pub used : is_in_use tree number ≡ true
   pub unnamed : is_socket tree number ≡ false
   pub reads : is_directory tree number ≡ true → description.access ≡ ReadOnly
   pub between : is_directory tree number ≡ true → description.offset % 32 ≡ 0
 
--- each description of a node opens one so
+-- each description of a node opens one so, an end of a FIFO too
 abbrev pub AreOpenNodes : Files → Type 0
 AreOpenNodes files =
-    (place number : ℕ) (description : Description) → description_at files.descriptions place ≡ Some description → description.target ≡ OnNode number
+    (place number : ℕ) (description : Description) → description_at files.descriptions place ≡ Some description → node_of files description.target ≡ Some number
     → IsOpenNode files.tree description number
 
 -- ---- who has a name

@@ -1,11 +1,13 @@
 -- Descriptions that are open on nodes of the tree of files, and who holds these nodes.
-use Rattle.std.specs.Prelude.{ℕ, ◌≡◌}
+use Rattle.std.specs.Prelude.{ℕ, ◌≡◌, Some}
 use Rattle.proc_files.specs.Holders.{AreOpenNodes, HoldDirectories, holders}
 use Rattle.kheap_slabs.specs.Heap.{Heap}
 use Rattle.kheap_slabs.specs.declared.objects.Target.{Target}
 use Rattle.kheap_slabs.specs.declared.objects.Target.TheVariants as target
 use Rattle.memfs_ops.specs.FileTree.{HeldSome, Stands, TreeView}
+use Rattle.open_laws.specs.Described.{node_in}
 use Rattle.open_laws.specs.Placed.{Numbers}
+use Rattle.pipe_ends.specs.Standing.{IsPipeAt}
 use Rattle.posix_defs.specs.Files.State.{Files}
 use Rattle.posix_defs.specs.PathCalls.{is_socket}
 use Rattle.posix_defs.specs.Tree.{Tree, is_directory, is_in_use}
@@ -42,8 +44,8 @@ pub record HasSameKinds (old new : Tree) : Type 0 where
   pub directories : (number : ℕ) → is_directory new number ≡ is_directory old number
   pub sockets : (number : ℕ) → is_socket new number ≡ is_socket old number
 
--- the node that a target has is held
+-- the node that a target has is held, that of a FIFO too
 abbrev pub IsHeldIn : Heap → TreeView → Target → Type 0
 IsHeldIn h fs (target.Inode node) = HeldSome h fs node
-IsHeldIn h fs (target.Pipe key) = Unit {0}
+IsHeldIn h fs (target.Pipe key) = IsPipeAt h key × ((node : ℕ) → node_in h.pipes (target.Pipe key) ≡ Some node → HeldSome h fs node)
 IsHeldIn h fs (target.Sock key) = Unit {0}

@@ -1,6 +1,7 @@
 //! `close`, and what is closed with a number, where a socket may lose its name.
 
 ghost use Rattle.std.specs.Prelude.{◌≡◌, ◌≤◌, ℕ, [], None, OnErr, Some, length, pos};
+ghost use Rattle.fifo_nodes.specs.Chain.{IsChain};
 ghost use Rattle.kabi_types.specs.declared.scripts.Script.{Script};
 ghost use Rattle.kheap_slabs.specs.Objects.{object};
 ghost use Rattle.kheap_slabs.specs.Paid.{IsPaid, TakesNothing};
@@ -52,6 +53,7 @@ pub fn close_number(
 ) -> Result<(), Errno>
     requires listed { AreListed heap.old procs.now }
     requires owners { HasItsOwners heap.old [] }
+    requires chain { IsChain heap.old fifos.old }
     requires there { IsPlaced procs.now place }
     requires opened { IsOpened heap.old procs.now place.pid on.now }
     requires hold { HoldSomeNames heap.old procs.now tree.old names.old }
@@ -61,6 +63,7 @@ pub fn close_number(
         → AnswersNaming numbers others heap.new procs.now tree.new names.new script plain place.pid (close script plain place.pid on.now.fd) (zero_of result) }
     ensures listed { AreListed heap.new procs.now }
     ensures owners { HasItsOwners heap.new [] }
+    ensures chain { IsChain heap.new fifos.new }
     ensures hold { HoldSomeNames heap.new procs.now tree.new names.new }
     ensures changes { ChangesHolding heap.old heap.new procs.now place.pid }
     ensures places { length names.new ≡ length names.old }
@@ -69,7 +72,7 @@ pub fn close_number(
     ensures same { purse.new ≡ purse.old }
     ensures paid { IsPaid heap.old purse.old heap.new purse.new }
     ensures reads { tree.old.disk.reads ≤ tree.new.disk.reads }
-    ensures stays { node_closed heap.old.descs (named_by heap.old procs.now place.pid on.now.fd) ≡ None → tree.new ≡ tree.old }
+    ensures stays { node_closed heap.old (named_by heap.old procs.now place.pid on.now.fd) ≡ None → tree.new ≡ tree.old }
 {
     let Some(found) = on.found else {
         return Err(Errno::EBADF);
@@ -94,6 +97,7 @@ pub(crate) fn close_at(
 )
     requires listed { AreListed heap.old procs.now }
     requires owners { HasItsOwners heap.old [] }
+    requires chain { IsChain heap.old fifos.old }
     requires there { IsPlaced procs.now place }
     requires hold { HoldSomeNames heap.old procs.now tree.old names.old }
     requires may { MayClose heap.old purse.old }
@@ -102,6 +106,7 @@ pub(crate) fn close_at(
         → HoldNames numbers others heap.new procs.now tree.new names.new (after_close files place.pid fd) }
     ensures listed { AreListed heap.new procs.now }
     ensures owners { HasItsOwners heap.new [] }
+    ensures chain { IsChain heap.new fifos.new }
     ensures hold { HoldSomeNames heap.new procs.now tree.new names.new }
     ensures closes { ClosesHolding heap.old heap.new procs.now place.pid fd }
     ensures places { length names.new ≡ length names.old }
@@ -110,7 +115,7 @@ pub(crate) fn close_at(
     ensures may { MayClose heap.new purse.new }
     ensures paid { IsPaid heap.old purse.old heap.new purse.new }
     ensures reads { tree.old.disk.reads ≤ tree.new.disk.reads }
-    ensures stays { node_closed heap.old.descs (named_at heap.old procs.now place.pid fd) ≡ None → tree.new ≡ tree.old }
+    ensures stays { node_closed heap.old (named_at heap.old procs.now place.pid fd) ≡ None → tree.new ≡ tree.old }
     ensures cached { KeepsCached tree.old tree.new }
 {
     let on = opened(heap, procs, place, i64::from(fd));
@@ -138,6 +143,7 @@ fn close_open(
 )
     requires listed { AreListed heap.old procs.now }
     requires owners { HasItsOwners heap.old [] }
+    requires chain { IsChain heap.old fifos.old }
     requires there { IsPlaced procs.now place }
     requires opened { IsOpened heap.old procs.now place.pid (record { fd = pos found.now.number; found = Some found.now }) }
     requires hold { HoldSomeNames heap.old procs.now tree.old names.old }
@@ -147,6 +153,7 @@ fn close_open(
         → HoldNames numbers others heap.new procs.now tree.new names.new (after_close files place.pid found.now.number) }
     ensures listed { AreListed heap.new procs.now }
     ensures owners { HasItsOwners heap.new [] }
+    ensures chain { IsChain heap.new fifos.new }
     ensures hold { HoldSomeNames heap.new procs.now tree.new names.new }
     ensures closes { ClosesHolding heap.old heap.new procs.now place.pid found.now.number }
     ensures places { length names.new ≡ length names.old }
@@ -155,7 +162,7 @@ fn close_open(
     ensures may { MayClose heap.new purse.new }
     ensures paid { IsPaid heap.old purse.old heap.new purse.new }
     ensures reads { tree.old.disk.reads ≤ tree.new.disk.reads }
-    ensures stays { node_closed heap.old.descs (named_at heap.old procs.now place.pid found.now.number) ≡ None → tree.new ≡ tree.old }
+    ensures stays { node_closed heap.old (named_at heap.old procs.now place.pid found.now.number) ≡ None → tree.new ≡ tree.old }
     ensures cached { KeepsCached tree.old tree.new }
 {
     unname_going(heap, names, found);

@@ -2,12 +2,13 @@
 
 ghost use Rattle.std.specs.Prelude.{◌≡◌, ◌<◌, ◌≤◌, ℕ, [], None, Some, false, if◌then◌else◌, is_none, is_some, length, true};
 ghost use Rattle.std.specs.List.{list_all, list_any};
+ghost use Rattle.fifo_nodes.specs.Chain.{IsChain};
 ghost use Rattle.kheap_slabs.specs.Paid.{IsPaid};
 ghost use Rattle.kheap_slabs.specs.declared.objects.Proc.{Proc as HeldProc};
 ghost use Rattle.memfs_ops.specs.Closing.{KeepsCached};
 ghost use Rattle.open_laws.specs.Owned.{HasItsOwners};
 ghost use Rattle.open_laws.specs.Placed.{Numbers};
-ghost use Rattle.posix_defs.specs.Files.Closing.{after_close, after_end_of, after_exec_of};
+ghost use Rattle.posix_defs.specs.Files.Closing.{after_close, after_closes, after_exec_of, all_numbers};
 ghost use Rattle.posix_defs.specs.Files.State.{Files};
 ghost use Rattle.posix_defs.specs.Reaching.{ends_node};
 ghost use Rattle.kabi_types.specs.Arguments.{most_descriptors};
@@ -48,14 +49,16 @@ pub fn close_each(
 )
     requires listed { AreListed heap.old procs.now }
     requires owners { HasItsOwners heap.old [] }
+    requires chain { IsChain heap.old fifos.old }
     requires there { IsPlaced procs.now place }
     requires hold { HoldSomeNames heap.old procs.now tree.old names.old }
     requires may { MayClose heap.old purse.old }
     ensures closed { (numbers : Numbers) (others : ℕ → ℕ) (files : Files)
         → HoldNames numbers others heap.old procs.now tree.old names.old files
-        → HoldNames numbers others heap.new procs.now tree.new names.new (after_end_of files place.pid) }
+        → HoldNames numbers others heap.new procs.now tree.new names.new (after_closes files place.pid all_numbers) }
     ensures listed { AreListed heap.new procs.now }
     ensures owners { HasItsOwners heap.new [] }
+    ensures chain { IsChain heap.new fifos.new }
     ensures hold { HoldSomeNames heap.new procs.now tree.new names.new }
     ensures closes { ClosesEach heap.old heap.new procs.now place.pid }
     ensures places { length names.new ≡ length names.old }
@@ -65,7 +68,7 @@ pub fn close_each(
     ensures paid { IsPaid heap.old purse.old heap.new purse.new }
     ensures reads { tree.old.disk.reads ≤ tree.new.disk.reads }
     ensures stays { (numbers : Numbers) (others : ℕ → ℕ) (files : Files)
-        → HoldNames numbers others heap.old procs.now tree.old names.old files → ends_node files (after_end_of files place.pid) ≡ false
+        → HoldNames numbers others heap.old procs.now tree.old names.old files → ends_node files (after_closes files place.pid all_numbers) ≡ false
         → tree.new ≡ tree.old }
 {
     // Most processes that end have nothing open.
@@ -95,6 +98,7 @@ pub fn close_at_exec(
 )
     requires listed { AreListed heap.old procs.now }
     requires owners { HasItsOwners heap.old [] }
+    requires chain { IsChain heap.old fifos.old }
     requires there { IsPlaced procs.now place }
     requires hold { HoldSomeNames heap.old procs.now tree.old names.old }
     requires may { MayClose heap.old purse.old }
@@ -103,6 +107,7 @@ pub fn close_at_exec(
         → HoldNames numbers others heap.new procs.now tree.new names.new (after_exec_of files place.pid) }
     ensures listed { AreListed heap.new procs.now }
     ensures owners { HasItsOwners heap.new [] }
+    ensures chain { IsChain heap.new fifos.new }
     ensures hold { HoldSomeNames heap.new procs.now tree.new names.new }
     ensures changes { ChangesHolding heap.old heap.new procs.now place.pid }
     ensures places { length names.new ≡ length names.old }
@@ -216,6 +221,7 @@ fn close_marked(
 )
     requires listed { AreListed heap.old procs.now }
     requires owners { HasItsOwners heap.old [] }
+    requires chain { IsChain heap.old fifos.old }
     requires there { IsPlaced procs.now place }
     requires hold { HoldSomeNames heap.old procs.now tree.old names.old }
     requires within { below ≤ most_descriptors }
@@ -225,6 +231,7 @@ fn close_marked(
         → HoldNames numbers others heap.new procs.now tree.new names.new (closed_where (is_marked marks.now) files place.pid below) }
     ensures listed { AreListed heap.new procs.now }
     ensures owners { HasItsOwners heap.new [] }
+    ensures chain { IsChain heap.new fifos.new }
     ensures hold { HoldSomeNames heap.new procs.now tree.new names.new }
     ensures closes { ClosesMarked heap.old heap.new procs.now place.pid (is_marked marks.now) below }
     ensures places { length names.new ≡ length names.old }
@@ -262,6 +269,7 @@ fn close_if(
 )
     requires listed { AreListed heap.old procs.now }
     requires owners { HasItsOwners heap.old [] }
+    requires chain { IsChain heap.old fifos.old }
     requires there { IsPlaced procs.now place }
     requires hold { HoldSomeNames heap.old procs.now tree.old names.old }
     requires may { MayClose heap.old purse.old }
@@ -270,6 +278,7 @@ fn close_if(
         → HoldNames numbers others heap.new procs.now tree.new names.new (if marked then after_close files place.pid fd else files) }
     ensures listed { AreListed heap.new procs.now }
     ensures owners { HasItsOwners heap.new [] }
+    ensures chain { IsChain heap.new fifos.new }
     ensures hold { HoldSomeNames heap.new procs.now tree.new names.new }
     ensures closes { ClosesIf heap.old heap.new procs.now place.pid fd marked }
     ensures places { length names.new ≡ length names.old }

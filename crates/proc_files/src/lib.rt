@@ -32,7 +32,7 @@ pub use closing::close_number;
 pub use connecting::connect_number;
 pub use ending::{close_at_exec, close_each};
 pub use naming::name_freed;
-pub use opening::open_path;
+pub use opening::{Opened, open_path};
 pub use reading::{pread_file, read_entries, read_file};
 pub use seeking::seek_number;
 pub use sharing::dup_number;

@@ -1,7 +1,8 @@
 //! `open`.
 
-ghost use Rattle.std.specs.Prelude.{◌≡◌, ◌-◌, ◌<◌, ◌≤◌, ◌^◌, ℕ, [], None, OnOk, Some, false, true};
+ghost use Rattle.std.specs.Prelude.{◌≡◌, ◌-◌, ◌<◌, ◌≤◌, ◌^◌, ℕ, [], None, Ok, OnOk, Some, false, if◌then◌else◌, not, true};
 ghost use Rattle.std.specs.List.{All};
+ghost use Rattle.fifo_nodes.specs.Chain.{IsChain};
 ghost use Rattle.kabi_types.specs.Arguments.{argument_fault, most_descriptors};
 ghost use Rattle.kabi_types.specs.declared.calls.Call.{Call};
 ghost use Rattle.kabi_types.specs.declared.scripts.Script.{Script};
@@ -12,12 +13,16 @@ ghost use Rattle.kheap_slabs.specs.declared.objects.Proc.{Proc};
 ghost use Rattle.kheap_slabs.specs.Paid.{CanPay, HasFills, IsPaid};
 ghost use Rattle.memfs_ops.specs.FileTree.{KeepsLast, KnowsWay, MayWalk, Stands, in_call};
 ghost use Rattle.memfs_ops.specs.Opening.{asks_of};
+ghost use Rattle.open_laws.specs.Described.{target_in};
 ghost use Rattle.open_laws.specs.Owned.{HasItsOwners};
+ghost use Rattle.open_laws.specs.Piped.{ArePiped};
 ghost use Rattle.open_laws.specs.Placed.{Numbers};
-ghost use Rattle.posix_defs.specs.Calls.OnFiles.{description_for, open_file, opening_of};
-ghost use Rattle.posix_defs.specs.Files.Descriptions.{has_flag, o_cloexec, o_trunc};
+ghost use Rattle.posix_defs.specs.Calls.OnFiles.{description_on, end_opened, fifo_fault as plain_fault, fifo_pipe, fifo_waits, open_by, open_fifo as plain_open, opened_node_as, opening_of};
+ghost use Rattle.posix_defs.specs.Files.Descriptions.{access_of, has_flag, may_write, o_cloexec, o_trunc};
 ghost use Rattle.posix_defs.specs.Files.State.{Files, opened_as};
+ghost use Rattle.posix_defs.specs.PathCalls.{is_fifo};
 ghost use Rattle.posix_defs.specs.Paths.{resolve};
+ghost use Rattle.posix_defs.specs.Pipe.{opens_of};
 ghost use Rattle.posix_defs.specs.Plain.{Plain};
 ghost use Rattle.posix_defs.specs.Process.{Table, directory_of};
 ghost use Rattle.posix_defs.specs.Tree.{Tree};
@@ -27,17 +32,15 @@ ghost use Rattle.proc_table.specs.Table.{IsPlaced, processes};
 ghost use Rattle.proc_numbers.specs.Having.{AreListed, HaveOpen};
 ghost use Rattle.proc_numbers.specs.Naming.{ChangesNumbers, named_at};
 ghost use Rattle.proc_numbers.specs.Queues.{QueuesStand};
-ghost use Rattle.proc_numbers.specs.Answering.{value_of};
 ghost use Rattle.proc_files.specs.Closing.{ChangesHolding};
 ghost use Rattle.proc_files.specs.Holding.{CachesStay, HoldFiles, HoldSome};
-ghost use Rattle.proc_files.specs.Opening.{AnswersAnew, HaveAnew, MakesDesc, WorksSomewhere, desc_on, mode_of};
+ghost use Rattle.proc_files.specs.Opening.{AnswersOpening, HasLed, HasLedSome, HaveAnew, HaveWanting, MakesDesc, WantsDesc, WorksSomewhere, desc_on, end_came, mode_of};
 
 use crate::nodes::{is_fifo, is_well_formed};
 use fifo_nodes::FifoTable;
-use kabi_types::{Class, Errno, OpenFlags, Reply};
+use kabi_types::{Class, Errno, OpenFlags};
 use kheap_slabs::{Access, Desc, DescFlags, Descriptor, HalfOpen, KHeap, Purse, Target};
 use memfs_ops::{FileTree, Opening};
-use posix_defs::Turned;
 use proc_numbers::{lowest_from, open_one};
 use proc_table::{Place, ProcTable};
 
@@ -52,9 +55,18 @@ const O_NONBLOCK: u64 = 2048;
 
 const O_CLOEXEC: u64 = 524288;
 
+/// What an open came to.
+#[derive(Clone, Copy)]
+pub enum Opened {
+    /// It is over: its number is told.
+    Over(u32),
+    /// It has made its end of a FIFO, and waits until the other side is opened.
+    Waits(HalfOpen),
+}
+
 /// The lowest number of a process that is free names a new description of what a path leads to from its working directory, which
-/// may be made by the way (O_CREAT), and is told. Of a FIFO it is an end: where the other side has none, and without O_NONBLOCK, a
-/// part is told, and the process sleeps in its open until the other side is opened.
+/// may be made by the way (O_CREAT). Of a FIFO it is an end: where the other side has none, and without O_NONBLOCK, it waits until the
+/// other side is opened; that the process sleeps in it then is left to the caller.
 ///
 /// EMFILE where no number is free, before the path is walked; then EEXIST where something is there that must not be, EISDIR where a
 /// directory is to be written, EOPNOTSUPP of the name of a socket, ENOENT and ENOSPC where nothing is there and nothing is made, else
@@ -71,9 +83,10 @@ pub fn open_path(
     place: Place,
     path: &[u8],
     flags: i64,
-) -> Turned
+) -> Result<Opened, Errno>
     requires listed { AreListed heap.old procs.now }
     requires owners { HasItsOwners heap.old [] }
+    requires chain { IsChain heap.old fifos.old }
     requires there { IsPlaced procs.now place }
     requires works { WorksSomewhere heap.old procs.now tree.old place.pid }
     requires right { argument_fault (Call.OpenFile path.now flags) ≡ None }
@@ -81,12 +94,14 @@ pub fn open_path(
     requires may { MayWalk heap.old purse.old }
     requires left { 0 < purse.old.left.desc }
     requires left_leaf { 0 < purse.old.left.leaf }
+    requires left_pipe { 0 < purse.old.left.pipe }
     ensures answers { (numbers : Numbers) (others : ℕ → ℕ) (script : Script) (plain : Plain)
         → IsTable heap.old procs.now plain.table
         → HoldFiles numbers others heap.old procs.now tree.old plain.files
-        → AnswersAnew numbers others heap.old heap.new procs.now tree.new script plain place.pid (open_file script plain place.pid path.now flags) (value_of result) }
+        → AnswersOpening numbers others heap.old heap.new procs.now tree.new script plain place.pid (open_by script plain place.pid path.now flags None) result }
     ensures listed { AreListed heap.new procs.now }
     ensures owners { HasItsOwners heap.new [] }
+    ensures chain { IsChain heap.new fifos.new }
     ensures hold { HoldSome heap.new procs.now tree.new }
     ensures changes { ChangesHolding heap.old heap.new procs.now place.pid }
     ensures queues { QueuesStand heap.old heap.new }
@@ -101,25 +116,15 @@ pub fn open_path(
         → Stands heap.old tree.old plain pins → OnOk result (KeepsLast tree.new (resolve plain proc.cwd path.now)) }
 {
     let Some(fd) = lowest_from(heap, procs, place, 0) else {
-        return failed(Errno::EMFILE);
+        return Err(Errno::EMFILE);
     };
     let cwd = directory_of(heap, procs, place);
     let how = asked_by(flags);
     is_well_formed(heap);
     match tree.open_node(heap, purse, cwd, path, how) {
         Ok(node) => open_found(heap, purse, procs, tree, fifos, place, fd, node, flags),
-        Err(errno) => failed(errno),
+        Err(errno) => Err(errno),
     }
-}
-
-// An open is over, and has failed.
-fn failed(errno: Errno) -> Turned {
-    Turned::Done(Reply::Fail(errno))
-}
-
-// An open is over: its number is told.
-fn told(fd: u32) -> Turned {
-    Turned::Done(Reply::Val(i64::from(fd)))
 }
 
 // A number of a process that isn't open names a new description of a node, which is held for it already; an end, where that is a FIFO.
@@ -133,12 +138,39 @@ fn open_found(
     fd: u32,
     node: u32,
     flags: i64,
-) -> Turned {
+) -> Result<Opened, Errno>
+    requires listed { AreListed heap.old procs.now }
+    requires owners { HasItsOwners heap.old [] }
+    requires chain { IsChain heap.old fifos.old }
+    requires there { IsPlaced procs.now place }
+    requires number { fd < most_descriptors }
+    requires free { named_at heap.old procs.now place.pid fd ≡ None }
+    requires led { HasLedSome heap.old procs.now tree.old node flags }
+    requires pays { CanPay heap.old purse.old }
+    requires fills { HasFills heap.old purse.old }
+    requires left { 0 < purse.old.left.desc }
+    requires left_leaf { 0 < purse.old.left.leaf }
+    requires left_pipe { 0 < purse.old.left.pipe }
+    ensures answers { (numbers : Numbers) (others : ℕ → ℕ) (script : Script) (plain : Plain) (next : Tree)
+        → HasLed numbers others heap.old procs.now tree.old plain.files next node flags
+        → AnswersOpening numbers others heap.old heap.new procs.now tree.new script plain place.pid (opened_node_as script plain place.pid flags fd (Ok (node, next))) result }
+    ensures listed { AreListed heap.new procs.now }
+    ensures owners { HasItsOwners heap.new [] }
+    ensures chain { IsChain heap.new fifos.new }
+    ensures hold { HoldSome heap.new procs.now tree.new }
+    ensures changes { ChangesHolding heap.old heap.new procs.now place.pid }
+    ensures queues { QueuesStand heap.old heap.new }
+    ensures socks { heap.new.socks ≡ heap.old.socks }
+    ensures paid { IsPaid heap.old purse.old heap.new purse.new }
+    ensures fills { HasFills heap.new purse.new }
+    ensures disk { tree.new.disk ≡ tree.old.disk }
+    ensures names { tree.new.names ≡ tree.old.names }
+{
     if is_fifo(&tree.stat_node(heap, node)) {
         return open_fifo(heap, purse, procs, tree, fifos, place, fd, node, flags);
     }
     open_new(heap, purse, procs, place, fd, Target::Inode(node), flags);
-    told(fd)
+    Ok(Opened::Over(fd))
 }
 
 // The same of a FIFO: where it isn't opened, it is held no more for that.
@@ -152,16 +184,49 @@ fn open_fifo(
     fd: u32,
     node: u32,
     flags: i64,
-) -> Turned {
+) -> Result<Opened, Errno>
+    requires listed { AreListed heap.old procs.now }
+    requires owners { HasItsOwners heap.old [] }
+    requires chain { IsChain heap.old fifos.old }
+    requires there { IsPlaced procs.now place }
+    requires number { fd < most_descriptors }
+    requires free { named_at heap.old procs.now place.pid fd ≡ None }
+    requires led { HasLedSome heap.old procs.now tree.old node flags }
+    requires fifo { (numbers : Numbers) (others : ℕ → ℕ) (files : Files) (next : Tree)
+        → HasLed numbers others heap.old procs.now tree.old files next node flags → is_fifo next node ≡ true }
+    requires pays { CanPay heap.old purse.old }
+    requires fills { HasFills heap.old purse.old }
+    requires left { 0 < purse.old.left.desc }
+    requires left_leaf { 0 < purse.old.left.leaf }
+    requires left_pipe { 0 < purse.old.left.pipe }
+    ensures answers { (numbers : Numbers) (others : ℕ → ℕ) (script : Script) (plain : Plain) (next : Tree)
+        → HasLed numbers others heap.old procs.now tree.old plain.files next node flags
+        → AnswersOpening numbers others heap.old heap.new procs.now tree.new script plain place.pid (plain_open script plain place.pid flags fd node) result }
+    ensures listed { AreListed heap.new procs.now }
+    ensures owners { HasItsOwners heap.new [] }
+    ensures chain { IsChain heap.new fifos.new }
+    ensures hold { HoldSome heap.new procs.now tree.new }
+    ensures changes { ChangesHolding heap.old heap.new procs.now place.pid }
+    ensures queues { QueuesStand heap.old heap.new }
+    ensures socks { heap.new.socks ≡ heap.old.socks }
+    ensures paid { IsPaid heap.old purse.old heap.new purse.new }
+    ensures fills { HasFills heap.new purse.new }
+    ensures disk { tree.new.disk ≡ tree.old.disk }
+    ensures names { tree.new.names ≡ tree.old.names }
+{
     if let Some(errno) = fifo_fault(heap, fifos, node, flags) {
         tree.close_node(heap, purse, node);
-        return failed(errno);
+        return Err(errno);
     }
-    open_end(heap, purse, procs, fifos, place, fd, node, flags)
+    Ok(open_end(heap, purse, procs, fifos, place, fd, node, flags))
 }
 
 // Why a FIFO isn't opened, if it isn't.
-fn fifo_fault(heap: &KHeap, fifos: &FifoTable, node: u32, flags: i64) -> Option<Errno> {
+fn fifo_fault(heap: &KHeap, fifos: &FifoTable, node: u32, flags: i64) -> Option<Errno>
+    requires chain { IsChain heap.now fifos.now }
+    requires node { 0 < node }
+    ensures { (numbers : Numbers) (files : Files) → ArePiped numbers heap.now files.pipes → result ≡ plain_fault (fifo_pipe files node) flags }
+{
     let writing = match mode_of(flags) {
         Access::Read => false,
         Access::Write => true,
@@ -176,8 +241,7 @@ fn fifo_fault(heap: &KHeap, fifos: &FifoTable, node: u32, flags: i64) -> Option<
     None
 }
 
-// A number of a process that isn't open names a new end of a FIFO; where the other side has none, the process waits for it, but with
-// O_NONBLOCK.
+// A number of a process that isn't open names a new end of a FIFO. What the open came to.
 fn open_end(
     heap: &mut KHeap,
     purse: &mut Purse,
@@ -187,21 +251,60 @@ fn open_end(
     fd: u32,
     node: u32,
     flags: i64,
-) -> Turned {
-    let writing = is_to_write(flags);
-    let waits = !has_flag(flags, O_NONBLOCK) && fifos.ends(heap, node, !writing) == 0;
-    let pipe = fifos.open_end(heap, purse, node, writing);
+) -> Opened
+    requires listed { AreListed heap.old procs.now }
+    requires owners { HasItsOwners heap.old [] }
+    requires chain { IsChain heap.old fifos.old }
+    requires there { IsPlaced procs.now place }
+    requires number { fd < most_descriptors }
+    requires free { named_at heap.old procs.now place.pid fd ≡ None }
+    requires node { 0 < node }
+    requires right { (numbers : Numbers) × (files : Files) × HaveOpen numbers heap.old procs.now files × (plain_fault (fifo_pipe files node) flags ≡ None) }
+    requires pays { CanPay heap.old purse.old }
+    requires fills { HasFills heap.old purse.old }
+    requires left { 0 < purse.old.left.desc }
+    requires left_leaf { 0 < purse.old.left.leaf }
+    requires left_pipe { 0 < purse.old.left.pipe }
+    ensures opened { (numbers : Numbers) (files : Files) → HaveOpen numbers heap.old procs.now files
+        → HaveAnew numbers heap.old heap.new procs.now (end_opened files place.pid flags fd node) }
+    ensures came { (numbers : Numbers) (files : Files) → HaveOpen numbers heap.old procs.now files → result ≡ end_came (fifo_pipe files node) flags fd }
+    ensures listed { AreListed heap.new procs.now }
+    ensures owners { HasItsOwners heap.new [] }
+    ensures chain { IsChain heap.new fifos.new }
+    ensures changes { ChangesHolding heap.old heap.new procs.now place.pid }
+    ensures stay { CachesStay heap.old heap.new }
+    ensures queues { QueuesStand heap.old heap.new }
+    ensures socks { heap.new.socks ≡ heap.old.socks }
+    ensures paid { IsPaid heap.old purse.old heap.new purse.new }
+    ensures fills { HasFills heap.new purse.new }
+{
+    let awaited = awaited(heap, fifos, node, flags);
+    let pipe = fifos.open_end(heap, purse, node, is_to_write(flags));
     open_new(heap, purse, procs, place, fd, Target::Pipe(pipe), flags);
-    if !waits {
-        return told(fd);
+    match awaited {
+        Some(seen) => Opened::Waits(HalfOpen { fd, seen }),
+        None => Opened::Over(fd),
     }
-    let seen = fifos.begun(heap, node, !writing);
-    heap.set_proc_opening(place.key, Some(HalfOpen { fd, seen }));
-    Turned::Part(1)
+}
+
+// How often the other side of a FIFO was opened so far, where an open waits for it: where it has no end, but with O_NONBLOCK.
+fn awaited(heap: &KHeap, fifos: &FifoTable, node: u32, flags: i64) -> Option<u32>
+    requires chain { IsChain heap.now fifos.now }
+    requires node { 0 < node }
+    ensures { (numbers : Numbers) (files : Files) → ArePiped numbers heap.now files.pipes
+        → result ≡ (if fifo_waits (fifo_pipe files node) flags then Some (opens_of (fifo_pipe files node) (not (may_write (access_of flags)))) else None) }
+{
+    let other = !is_to_write(flags);
+    if has_flag(flags, O_NONBLOCK) || fifos.ends(heap, node, other) != 0 {
+        return None;
+    }
+    Some(fifos.begun(heap, node, other))
 }
 
 // Whether flags open for writing, or for both.
-fn is_to_write(flags: i64) -> bool {
+fn is_to_write(flags: i64) -> bool
+    ensures { result ≡ may_write (access_of flags) }
+{
     match mode_of(flags) {
         Access::Read => false,
         Access::Write | Access::Both => true,
@@ -219,7 +322,8 @@ fn asked_by(flags: i64) -> Opening
     Opening::of(asked)
 }
 
-// A number of a process that isn't open names a new description of a target from now on, at its beginning and as the flags ask.
+// A number of a process that isn't open names a new description of a target from now on, at its beginning and as the flags ask: of a
+// node that is held for it, or of a FIFO that has an end more than descriptions are open on.
 fn open_new(
     heap: &mut KHeap,
     purse: &mut Purse,
@@ -230,7 +334,7 @@ fn open_new(
     flags: i64,
 )
     requires listed { AreListed heap.old procs.now }
-    requires owners { HasItsOwners heap.old [] }
+    requires wants { WantsDesc heap.old target flags }
     requires there { IsPlaced procs.now place }
     requires number { fd < most_descriptors }
     requires free { named_at heap.old procs.now place.pid fd ≡ None }
@@ -238,8 +342,8 @@ fn open_new(
     requires fills { HasFills heap.old purse.old }
     requires left { 0 < purse.old.left.desc }
     requires left_leaf { 0 < purse.old.left.leaf }
-    ensures opened { (numbers : Numbers) (files : Files) → HaveOpen numbers heap.old procs.now files
-        → HaveAnew numbers heap.old heap.new procs.now (opened_as files place.pid fd (has_flag flags o_cloexec) (description_for node flags)) }
+    ensures opened { (numbers : Numbers) (files : Files) → HaveWanting numbers heap.old procs.now files target flags
+        → HaveAnew numbers heap.old heap.new procs.now (opened_as files place.pid fd (has_flag flags o_cloexec) (description_on (target_in numbers target) flags)) }
     ensures listed { AreListed heap.new procs.now }
     ensures owners { HasItsOwners heap.new [] }
     ensures changes { ChangesNumbers heap.old heap.new procs.now place.pid }
@@ -271,7 +375,7 @@ pub(crate) fn directory_of(heap: &KHeap, procs: &ProcTable, place: Place) -> u32
 fn describe(heap: &mut KHeap, purse: &mut Purse, target: Target, flags: i64) -> u32
     requires pays { CanPay heap.old purse.old }
     requires left { 0 < purse.old.left.desc }
-    ensures makes { MakesDesc heap.old heap.new result node flags }
+    ensures makes { MakesDesc heap.old heap.new result target flags }
     ensures paid { IsPaid heap.old purse.old heap.new purse.new }
     ensures spent { purse.new
         ≡ record purse.old { left = with_count purse.old.left class.Desc (purse.old.left.desc - 1) } }
@@ -282,7 +386,7 @@ fn describe(heap: &mut KHeap, purse: &mut Purse, target: Target, flags: i64) -> 
 
 // A description of a target at its beginning, as the flags ask.
 fn desc_on(target: Target, flags: i64) -> Desc
-    ensures { result ≡ desc_on node flags }
+    ensures { result ≡ desc_on target flags }
 {
     Desc {
         target,

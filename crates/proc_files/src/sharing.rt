@@ -1,6 +1,7 @@
 //! `dup2`.
 
 ghost use Rattle.std.specs.Prelude.{◌≡◌, ◌<◌, ◌≤◌, ℕ, [], None, OnErr, length};
+ghost use Rattle.fifo_nodes.specs.Chain.{IsChain};
 ghost use Rattle.kabi_types.specs.declared.scripts.Script.{Script};
 ghost use Rattle.kheap_slabs.specs.Paid.{CanPay};
 ghost use Rattle.desc_table.specs.Copying.{spends_leaves};
@@ -49,6 +50,7 @@ pub fn dup_number(
 ) -> Result<u32, Errno>
     requires listed { AreListed heap.old procs.now }
     requires owners { HasItsOwners heap.old [] }
+    requires chain { IsChain heap.old fifos.old }
     requires there { IsPlaced procs.now place }
     requires opened { IsOpened heap.old procs.now place.pid on.now }
     requires hold { HoldSomeNames heap.old procs.now tree.old names.old }
@@ -60,6 +62,7 @@ pub fn dup_number(
         → AnswersNaming numbers others heap.new procs.now tree.new names.new script plain place.pid (dup2 script plain place.pid on.now.fd to) (value_of result) }
     ensures listed { AreListed heap.new procs.now }
     ensures owners { HasItsOwners heap.new [] }
+    ensures chain { IsChain heap.new fifos.new }
     ensures hold { HoldSomeNames heap.new procs.now tree.new names.new }
     ensures changes { ChangesHolding heap.old heap.new procs.now place.pid }
     ensures places { length names.new ≡ length names.old }

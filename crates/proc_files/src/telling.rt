@@ -2,11 +2,15 @@
 
 ghost use Rattle.std.specs.Prelude.{◌≡◌, ℕ, [], None};
 ghost use Rattle.kabi_types.specs.declared.scripts.Script.{Script};
+ghost use Rattle.kheap_slabs.specs.declared.objects.Target.TheVariants as target;
 ghost use Rattle.memfs_ops.specs.FileTree.{IsUsed, Stands};
 ghost use Rattle.open_laws.specs.Described.{node_in, target_in};
 ghost use Rattle.open_laws.specs.Owned.{HasItsOwners};
+ghost use Rattle.open_laws.specs.Piped.{ArePiped};
 ghost use Rattle.open_laws.specs.Placed.{Numbers};
-ghost use Rattle.posix_defs.specs.Calls.OnFiles.{fstat, info_of, without_node};
+ghost use Rattle.posix_defs.specs.Calls.OnFiles.{end_info, fstat, info_of, without_node};
+ghost use Rattle.posix_defs.specs.Files.Descriptions.{OnPipe};
+ghost use Rattle.posix_defs.specs.Files.State.{Files, node_of};
 ghost use Rattle.posix_defs.specs.Plain.{Plain};
 ghost use Rattle.posix_defs.specs.Tree.{Tree};
 ghost use Rattle.proc_table.specs.Table.{IsPlaced};
@@ -56,11 +60,11 @@ pub fn stat_number(
 // What is told of a target.
 fn info_of(heap: &KHeap, tree: &mut FileTree, target: Target) -> StatInfo
     requires held { IsHeldIn heap.now tree.old target }
-    ensures value { (numbers : Numbers) (plain : Tree) (pins : ℕ → ℕ) → Stands heap.now tree.old plain pins
-        → info_of plain (target_in numbers target) ≡ result }
+    ensures value { (numbers : Numbers) (files : Files) (pins : ℕ → ℕ) → ArePiped numbers heap.now files.pipes → Stands heap.now tree.old files.tree pins
+        → info_of files (target_in numbers target) ≡ result }
     ensures stands { (plain : Tree) (pins : ℕ → ℕ) → Stands heap.now tree.old plain pins → Stands heap.now tree.new plain pins }
     ensures used { IsUsed tree.old tree.new }
-    ensures stays { node_in target ≡ None → tree.new ≡ tree.old }
+    ensures stays { node_in heap.now.pipes target ≡ None → tree.new ≡ tree.old }
 {
     match target {
         Target::Inode(node) => tree.stat_node(heap, node),
@@ -70,7 +74,14 @@ fn info_of(heap: &KHeap, tree: &mut FileTree, target: Target) -> StatInfo
 }
 
 // What is told of an end of a pipe: all of the FIFO's node, and of a pipe that `pipe` made only that it is one.
-fn end_info(heap: &KHeap, tree: &mut FileTree, key: u32) -> StatInfo {
+fn end_info(heap: &KHeap, tree: &mut FileTree, key: u32) -> StatInfo
+    requires held { IsHeldIn heap.now tree.old (target.Pipe key) }
+    ensures value { (numbers : Numbers) (files : Files) (pins : ℕ → ℕ) → ArePiped numbers heap.now files.pipes → Stands heap.now tree.old files.tree pins
+        → end_info files.tree (node_of files (OnPipe (numbers.pipes key))) ≡ result }
+    ensures stands { (plain : Tree) (pins : ℕ → ℕ) → Stands heap.now tree.old plain pins → Stands heap.now tree.new plain pins }
+    ensures used { IsUsed tree.old tree.new }
+    ensures stays { node_in heap.now.pipes (target.Pipe key) ≡ None → tree.new ≡ tree.old }
+{
     match pipe_fifo(heap, key) {
         Some(node) => tree.stat_node(heap, node),
         None => without_node(NodeKind::Pipe),

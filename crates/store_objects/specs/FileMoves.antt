@@ -1,5 +1,6 @@
 -- What a call on files changes of a store, and what it leaves of it.
 use Rattle.std.specs.Prelude.{◌+◌, ◌≡◌, ◌≤◌, [], length}
+use Rattle.fifo_nodes.specs.Chain.{IsChain}
 use Rattle.kabi_types.specs.declared.calls.Call.{Call}
 use Rattle.kheap_slabs.specs.Leaves.{HoldLeaves}
 use Rattle.kheap_slabs.specs.Objects.{count}
@@ -28,6 +29,7 @@ pub record FileMoves (old new : Objects) : Type 0 where
   pub owners : HasItsOwners new.heap []
   pub bound : AreBound (name_of new.heap.socks) new.names
   pub places : length new.names ≡ length old.names
+  pub chain : IsChain new.heap new.fifos
   pub keeps : KeepsTree new.heap new.tree
   pub size : new.heap.heap ≡ old.heap.heap
 

@@ -1,13 +1,15 @@
 -- The worlds that a store stands for once a call on files has changed it.
-use Rattle.std.specs.Prelude.{ℕ, ◌≡◌, true, false}
+use Rattle.std.specs.Prelude.{ℕ, ◌≡◌, true, false, Some}
 use Rattle.kabi_types.specs.declared.calls.Call.{Call}
 use Rattle.kabi_types.specs.declared.scripts.Script.{Script}
 use Rattle.kabi_types.specs.declared.replies.Reply.{Reply}
 use Rattle.memfs_ops.specs.FileTree.{Stands}
 use Rattle.posix_defs.specs.Account.{Account}
 use Rattle.posix_defs.specs.Answer.{Answer, Blocked, Done, Ended, Part, replied}
+use Rattle.posix_defs.specs.Calls.Writing.{did_part}
 use Rattle.posix_defs.specs.Family.{IsFamily}
-use Rattle.posix_defs.specs.Plain.{Plain}
+use Rattle.posix_defs.specs.Files.State.{HalfOpen, with_opening}
+use Rattle.posix_defs.specs.Plain.{Plain, with_files}
 use Rattle.posix_defs.specs.Reaching.{IsLeft, is_reply, knows_way, name_to_leave, reaches_node}
 use Rattle.posix_defs.specs.Turn.{account_after}
 use Rattle.posix_defs.specs.World.{World, directories_of}
@@ -53,6 +55,16 @@ LeavesKin plain (Ended status next) = Unit {0}
 pub record LeavesCached (old new : Objects) (world : World) (pid : ℕ) (call : Call) (said : Reply) (next : Plain) : Type 0 where
   pub untouched : reaches_node world.plain pid call next ≡ false → (kept_by new.tree ≡ kept_by old.tree) × (new.tree.disk.reads ≡ old.tree.disk.reads)
   pub left : is_reply said ≡ true → IsLeft next.files.tree (kept_by new.tree) (name_to_leave world.plain pid call)
+  pub known : knows_way world.plain world.kept pid call ≡ true → new.tree.disk.reads ≡ old.tree.disk.reads
+
+-- In a world an open of a process has made its end of a FIFO, and waits for the other side: its machine leads to another one, which the
+-- objects have with the account that follows from the answer, but that the process doesn't sleep in this open yet. Of the caches it
+-- leaves what `LeavesCached` says.
+pub record HasBegun (old new : Objects) (world : World) (pid : ℕ) (call : Call) (answer : Answer) (opening : HalfOpen) : Type 0 where
+  pub next : Plain
+  pub begins : answer ≡ did_part (with_files next (with_opening next.files pid (Some opening))) pid 1
+  pub turned : HasTurned new world (turned_in new next (account_after world.account world.plain pid call answer))
+  pub untouched : reaches_node world.plain pid call next ≡ false → (kept_by new.tree ≡ kept_by old.tree) × (new.tree.disk.reads ≡ old.tree.disk.reads)
   pub known : knows_way world.plain world.kept pid call ≡ true → new.tree.disk.reads ≡ old.tree.disk.reads
 
 -- In a world a call of a process was answered with a reply: its machine leads to another one, which the objects have with the account that

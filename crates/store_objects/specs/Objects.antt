@@ -1,9 +1,11 @@
 -- The objects of a store: which processes stand in its heap, and what else.
-use Rattle.std.specs.Prelude.{ℕ, ◌≡◌, ◌==◌, ◌<◌, Bool, false, not, if◌then◌else◌, List, [], ◌∷◌, None, Some, is_some, length}
+use Rattle.std.specs.Prelude.{ℕ, ◌≡◌, ◌==◌, ◌<◌, Bool, false, not, if◌then◌else◌, List, [], ◌∷◌, Option, None, Some, is_some, length}
 use Rattle.std.specs.List.{AllByRecursion}
+use Rattle.fifo_nodes.specs.Chain.{IsChain}
 use Rattle.kabi_types.specs.declared.scripts.Control.{Control}
 use Rattle.kabi_types.specs.declared.scripts.Script.{Script}
 use Rattle.kheap_slabs.specs.Leaves.{HoldLeaves}
+use Rattle.kheap_slabs.specs.declared.objects.HalfOpen.{HalfOpen}
 use Rattle.kheap_slabs.specs.declared.objects.Proc.{Proc}
 use Rattle.kheap_slabs.specs.Keys.{AreKeysOf}
 use Rattle.kheap_slabs.specs.Owners.{Owners}
@@ -43,11 +45,16 @@ pub record OneChanges (old : Objects) (pid : ℕ) (change : Proc → Proc) (new 
   pub same : new.procs ≡ old.procs
   pub tree : new.tree ≡ old.tree
   pub names : new.names ≡ old.names
+  pub fifos : new.fifos ≡ old.fifos
   pub takes : TakesNothing old.heap new.heap
 
 -- it has gone on at another control
 abbrev pub MovesOn : Objects → ℕ → Control → Objects → Type 0
 MovesOn old pid control new = OneChanges old pid (λ proc. record proc { control = control }) new
+
+-- it sleeps in this open of a FIFO, or in none
+abbrev pub WaitsIn : Objects → ℕ → Option HalfOpen → Objects → Type 0
+WaitsIn old pid opening new = OneChanges old pid (λ proc. record proc { opening = opening }) new
 
 -- it works in another directory
 abbrev pub WorksElsewhere : Objects → ℕ → ℕ → Objects → Type 0
@@ -82,7 +89,7 @@ most_nodes = 4096
 
 -- What the objects of a store keep, whatever they stand for: the table has every process that is in the heap, all nodes,
 -- descriptions, pipes, sockets and chunks have their owners, and the rest is what the tree of files keeps in its caches. The table
--- of names has for each node the socket that is bound to it. Who runs stands at its next call.
+-- of names has for each node the socket that is bound to it, and the pipes of all FIFOs are a chain. Who runs stands at its next call.
 pub record AreKept (script : Script) (objects : Objects) : Type 0 where
   pub holds : Holds objects.heap objects.procs
   pub all : AreKeysOf objects.heap.procs (keys_of objects.procs.listed)
@@ -92,5 +99,6 @@ pub record AreKept (script : Script) (objects : Objects) : Type 0 where
   pub calls : AreAtCalls script (procs_of objects)
   pub bound : AreBound (name_of objects.heap.socks) objects.names
   pub places : most_nodes < length objects.names
+  pub chain : IsChain objects.heap objects.fifos
   pub caches : KeepsTree objects.heap objects.tree
   pub size : objects.heap.heap ≡ script.heap

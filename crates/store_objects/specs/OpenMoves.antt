@@ -1,6 +1,7 @@
 -- What a call on what is open changes of a store, and what it leaves of it.
 use Rattle.std.specs.Prelude.{ℕ, ◌≡◌, []}
 use Rattle.std.specs.Option.{option_map}
+use Rattle.fifo_nodes.specs.Chain.{IsChain}
 use Rattle.kheap_slabs.specs.Leaves.{HoldLeaves}
 use Rattle.kheap_slabs.specs.declared.objects.Proc.{Proc}
 use Rattle.kheap_slabs.specs.Keys.{AreKeysOf}
@@ -30,4 +31,5 @@ pub record OpenMoves (old new : Objects) : Type 0 where
   pub leaves : HoldLeaves new.heap.leaves (procs_of new)
   pub owners : HasItsOwners new.heap []
   pub names : (key : ℕ) → name_of new.heap.socks key ≡ name_of old.heap.socks key
+  pub chain : IsChain new.heap new.fifos
   pub tree : TreeStays old new

@@ -1,5 +1,5 @@
 -- Which worlds the objects of a store stand for, family by family, and what a turn of a call does to them.
-use Rattle.std.specs.Prelude.{ℕ, Bool, ◌≡◌, true, None, Some}
+use Rattle.std.specs.Prelude.{ℕ, Bool, ◌≡◌, true, Option, None, Some}
 use Rattle.kabi_types.specs.declared.calls.Call.{Call}
 use Rattle.kabi_types.specs.declared.replies.Reply.{Reply}
 use Rattle.kabi_types.specs.declared.scripts.Script.{Script}
@@ -12,7 +12,8 @@ use Rattle.posix_defs.specs.Ending.{die}
 use Rattle.posix_defs.specs.Family.{IsFamily}
 use Rattle.posix_defs.specs.Memory.{Frames, Memory}
 use Rattle.posix_defs.specs.MemoryCalls.{remembered}
-use Rattle.posix_defs.specs.Plain.{Plain, answered, control_of, last_pid, with_table}
+use Rattle.posix_defs.specs.Files.State.{HalfOpen, with_opening}
+use Rattle.posix_defs.specs.Plain.{Plain, answered, control_of, last_pid, with_files, with_table}
 use Rattle.posix_defs.specs.Process.{ignores_of, is_alive, with_directory, with_ignores}
 use Rattle.posix_defs.specs.Signals.{with_disposition}
 use Rattle.posix_defs.specs.Tree.{is_directory}
@@ -92,6 +93,10 @@ ended_in world pid status =
 -- a process works in another directory
 abbrev pub working_in : World → ℕ → ℕ → World
 working_in world pid directory = record world { plain = with_table world.plain (with_directory world.plain.table pid directory) }
+
+-- a process sleeps in this open of a FIFO, or in none
+abbrev pub waiting_in : World → ℕ → Option HalfOpen → World
+waiting_in world pid opening = record world { plain = with_files world.plain (with_opening world.plain.files pid opening) }
 
 -- a process ignores a signal, or doesn't
 abbrev pub disposed_in : World → ℕ → ℕ → Bool → World

@@ -6,16 +6,18 @@ ghost use Rattle.kabi_types.specs.declared.scripts.Control.{Control};
 ghost use Rattle.kabi_types.specs.declared.scripts.Script.{Script};
 ghost use Rattle.kabi_types.specs.declared.replies.Reply.{Reply};
 ghost use Rattle.store_objects.specs.FileMoves.{CachesWithin, FileMoves};
-ghost use Rattle.store_objects.specs.FileWorlds.{HasAnswered, HasTurned};
+ghost use Rattle.store_objects.specs.FileWorlds.{HasAnswered, HasBegun, HasTurned};
 ghost use Rattle.posix_defs.specs.Answer.{Answer};
+ghost use Rattle.posix_defs.specs.Files.State.{HalfOpen};
 ghost use Rattle.posix_defs.specs.Plain.{Plain};
 ghost use Rattle.posix_defs.specs.Process.{is_alive};
 ghost use Rattle.posix_defs.specs.World.{World};
 ghost use Rattle.posix_defs.specs.declared.turner.Turned.{Turned};
 ghost use Rattle.posix_defs.specs.declared.turner.Turned.TheVariants as turned;
-ghost use Rattle.std.specs.Prelude.{◌≡◌, ℕ, true};
+ghost use Rattle.std.specs.Prelude.{◌≡◌, ℕ, Some, true};
 ghost use Rattle.store_objects.specs.Objects.{AreKept, Runs};
-ghost use Rattle.store_objects.specs.Standing.{IsSound, StandsFor, answered_in};
+ghost use Rattle.store_objects.specs.Standing.{IsSound, StandsFor, answered_in, waiting_in};
+ghost use Rattle.store_objects.specs.Told.{partly_in};
 ghost use Rattle.store_objects.specs.Walking.{Serves};
 ghost use Rattle.store_objects.specs.declared.objects.Objects.{Objects};
 
@@ -37,5 +39,17 @@ pub fn a_call_on_files_serves()
         → ((world : World) → StandsFor script mid world → StandsFor script new (answered_in script world pid said))
         → ((world : World) → StandsFor script old world → IsSound world.plain → is_alive world.plain.table pid ≡ true
         → HasAnswered script old mid world pid call (answer world.plain) said)
+        → Serves script old pid call answer told new }
+{}
+
+/// Where an open of a FIFO has changed a store so, has cached no more than its need has, and has made its end in each sound world, and its
+/// caller then sleeps in it, the store stands for the worlds that its answers reach.
+pub fn an_open_that_waits_serves()
+    ensures { (script : Script) (old : Objects) (mid : Objects) (new : Objects) (pid : ℕ) (call : Call) (opening : HalfOpen) (told : Turned)
+        (answer : Plain → Answer)
+        → FileMoves old mid → CachesWithin old mid call → told ≡ turned.Part 1
+        → ((world : World) → StandsFor script mid world → StandsFor script new (partly_in (waiting_in world pid (Some opening)) pid 1))
+        → ((world : World) → StandsFor script old world → IsSound world.plain → is_alive world.plain.table pid ≡ true
+        → HasBegun old mid world pid call (answer world.plain) opening)
         → Serves script old pid call answer told new }
 {}

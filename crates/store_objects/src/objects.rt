@@ -5,7 +5,7 @@ ghost use Rattle.std.specs.Option.{option_copied};
 ghost use Rattle.kheap_slabs.specs.Heap.{IsWellFormed};
 ghost use Rattle.proc_table.specs.Procs.{proc_of};
 ghost use Rattle.proc_table.specs.Table.{AreStored, IsPlaced, key_of};
-ghost use Rattle.store_objects.specs.Objects.{IsCaller, MovesOn, WorksElsewhere, is_running, procs_of};
+ghost use Rattle.store_objects.specs.Objects.{IsCaller, MovesOn, WaitsIn, WorksElsewhere, is_running, procs_of};
 
 use bound_table::BoundTable;
 use fifo_nodes::FifoTable;
@@ -118,7 +118,11 @@ impl Objects {
     }
 
     /// Has a process sleep in an open of a FIFO, or in none any more.
-    pub fn wait_in(&mut self, place: Place, opening: Option<HalfOpen>) {
+    pub fn wait_in(&mut self, place: Place, opening: Option<HalfOpen>)
+        requires stored { AreStored self.old.heap.procs self.old.procs.listed }
+        requires there { IsPlaced self.old.procs place }
+        ensures { WaitsIn self.old place.pid opening self.new }
+    {
         self.heap.set_proc_opening(place.key, opening);
     }
 
