@@ -1,18 +1,24 @@
 -- A call has changed what a process has open, with the tree of files and the names of sockets, and its caller goes on.
-use Rattle.std.proofs.Common.{◌≡◌, ℕ, List, [], Option, length, le_refl, refl, subst, sym}
+use Rattle.std.proofs.Common.{◌≡◌, ℕ, pos, List, [], Option, Some, Result, Ok, Err, length, le_refl, refl, ap, subst, sym, ◌∙◌}
 use Rattle.std.specs.Prelude.{IsSome}
 use Rattle.fifo_nodes.specs.Chain.{IsChain}
 use Rattle.kabi_types.specs.declared.calls.Call.{Call}
 use Rattle.kabi_types.specs.declared.scripts.Control.{Control}
 use Rattle.kabi_types.specs.declared.scripts.Script.{Script}
+use Rattle.kabi_types.specs.declared.errnos.Errno.{Errno}
 use Rattle.kabi_types.specs.declared.replies.Reply.{Reply}
+use Rattle.kabi_types.specs.declared.replies.Reply.TheVariants.{Fail, Val}
 use Rattle.kheap_slabs.specs.declared.objects.Sock.{Sock}
 use Rattle.kheap_slabs.specs.Heap.{Heap, IsWellFormed}
 use Rattle.kheap_slabs.specs.Paid.{TakesNothing}
 use Rattle.memfs_ops.specs.FileTree.{TreeView}
 use Rattle.open_laws.specs.Owned.{HasItsOwners}
 use Rattle.open_laws.specs.Placed.{Numbers}
-use Rattle.posix_defs.specs.Answer.{Answer}
+use Rattle.posix_defs.specs.Account.{Account}
+use Rattle.posix_defs.specs.Answer.{Answer, replied}
+use Rattle.posix_defs.specs.Calls.Writing.{did_part}
+use Rattle.posix_defs.specs.Files.State.{Files, HalfOpen, with_opening}
+use Rattle.posix_defs.specs.Turn.{account_after}
 use Rattle.posix_defs.specs.Memory.{Frames}
 use Rattle.posix_defs.specs.MemoryCalls.{frames_after}
 use Rattle.posix_defs.specs.Plain.{Plain, with_files}
@@ -20,12 +26,16 @@ use Rattle.posix_defs.specs.World.{World}
 use Rattle.posix_defs.specs.declared.turner.Turned.{Turned}
 use Rattle.posix_defs.specs.declared.turner.Turned.TheVariants as turned
 use Rattle.proc_numbers.specs.Having.{AreListed}
-use Rattle.proc_numbers.specs.Queues.{QueuesStand}
 use Rattle.proc_files.specs.Answering.{AnswersHolding}
 use Rattle.proc_files.specs.Closing.{ChangesHolding}
 use Rattle.proc_files.specs.Holding.{HoldFiles, HoldSome}
 use Rattle.proc_files.specs.Holders.{holders}
-use Rattle.proc_files.specs.Opening.{AnswersAnew}
+use Rattle.proc_files.specs.Opening.{AnswersOpening}
+use Rattle.proc_files.specs.declared.opening.Opened.{Opened}
+use Rattle.proc_files.specs.declared.opening.Opened.TheVariants as opened
+use Rattle.proc_table.specs.Opening.{half_in}
+use Rattle.proc_numbers.specs.Queues.{QueuesStand, fronts_on}
+use Rattle.file_calls.specs.Opening.{LeavesOpening, came_in, told_of}
 use Rattle.proc_files.proofs.Changing.{holding_of}
 use Rattle.proc_numbers.proofs.Changes.{changes_nothing}
 use Rattle.proc_files.specs.NameAnswering.{AnswersNaming}
@@ -44,10 +54,11 @@ use Rattle.store_objects.proofs.Keeping.{listed_in}
 use Rattle.store_objects.proofs.Replies.{GoesOn}
 use Rattle.store_objects.proofs.RunningProcs.{has_key}
 use Rattle.store_objects.specs.FileMoves.{CachesWithin, FileMoves}
-use Rattle.store_objects.specs.FileWorlds.{LeavesCached}
-use Rattle.store_objects.proofs.Answered.{answered_holding}
+use Rattle.store_objects.specs.FileWorlds.{HasTurned, LeavesCached, turned_in}
+use Rattle.store_objects.proofs.Answered.{answered_holding, turned_files}
+use Rattle.store_objects.proofs.Forgetting.{forgotten}
 use Rattle.store_objects.proofs.FileMoving.{kept_turned, runs_turned}
-use Rattle.store_objects.proofs.Serving.{serves}
+use Rattle.store_objects.proofs.Serving.{serves, serves_begun}
 use Rattle.store_objects.proofs.Staying.{memory_holding, moves_holding}
 
 -- ---- what calls ask
@@ -137,15 +148,57 @@ module _ (script : Script) (old : Objects) (heap : Heap) (fs : TreeView) (table 
         answered_holding script old mid world stands pid which said (answer world.plain) stands.files.numbers (memory_holding old mid pid refl changes kept.holds)
         queues (λ key used. refl) (λ key used. refl) (none world.account.frames) it (cached world (with_files world.plain it.files) stands))
 
-    -- where what is new has numbers
-    pub serves_anew : ((numbers : Numbers) (others : ℕ → ℕ) (plain : Plain) → IsTable old.heap old.procs plain.table → HoldFiles numbers others old.heap old.procs old.tree plain.files
-        → AnswersAnew numbers others old.heap heap old.procs fs script plain pid (answer plain) said)
-        → ((world : World) (now : Numbers) → StandsFor script old world → (it : AnswersHolding now (others_in world.plain) heap old.procs fs script world.plain pid (answer world.plain) said)
-        → LeavesCached old mid world pid which said (with_files world.plain it.files))
+  -- ---- an open
+
+  module _ (which : Call) (told : Turned) (new : Objects) (answer : Plain → Answer) (well : IsWellFormed old.heap) (within : CachesWithin old mid which)
+      (queues : QueuesStand old.heap heap) (none : (frames : Frames) (said : Reply) → frames_after frames pid which said ≡ frames) where
+    -- what it came to, by the store's numbers
+    abbrev Answers : Result Opened Errno → World → Numbers → Type 0
+    Answers came world numbers = AnswersOpening numbers (others_in world.plain) old.heap heap old.procs fs script world.plain pid (answer world.plain) came
+
+    -- a number or a fault is told
+    over : (came : Result Opened Errno) (said : Reply) → told ≡ turned.Done said → GoesOn script mid pid said new
+        → ((world : World) (it : (numbers : Numbers) × Answers came world numbers) → answer world.plain ≡ replied script (with_files world.plain it.1.files) pid said)
+        → ((world : World) (stands : StandsFor script old world) → IsSound world.plain → Answers came world stands.files.numbers)
+        → ((world : World) (stands : StandsFor script old world) (it : Answers came world stands.files.numbers) → LeavesCached old mid world pid which said (with_files world.plain it.files))
         → Serves script old pid which answer told new
-    serves_anew answers cached =
+    over came said tells goes replies answers cached =
         serves script old mid new pid which said told within tells answer moves goes
         (λ world stands sound alive.
-        let anew = answers stands.files.numbers (others_in world.plain) world.plain stands.processes.table (holds_files script old world stands well sound) in
-        answered_holding script old mid world stands pid which said (answer world.plain) anew.now (memory_holding old mid pid refl changes kept.holds)
-        queues anew.keeps.pipes anew.keeps.socks (none world.account.frames) anew.answers (cached world anew.now stands anew.answers))
+        let it = answers world stands sound in
+        answered_holding script old mid world stands pid which said (answer world.plain) it.now (memory_holding old mid pid refl changes kept.holds)
+        queues it.keeps.pipes it.keeps.socks (none world.account.frames said)
+        (record { files = it.files; replies = replies world (stands.files.numbers, it); holds = it.holds }) (cached world stands it))
+
+    -- its account goes on with its files, also where its caller sleeps in it then
+    begun_account : (world : World) → StandsFor script old world → (files : Files) (opening : Option HalfOpen)
+        → fronts_on world.plain.files files world.account ≡ account_after world.account world.plain pid which (did_part (with_files world.plain (with_opening files pid opening)) pid 1)
+    begun_account world stands files opening =
+        ap (λ (frames : Frames). record (fronts_on world.plain.files files world.account) { frames = frames })
+        (sym (forgotten script old world.plain world.account.frames stands.kept stands.processes stands.memory))
+
+    pub serves_opening : (came : Result Opened Errno) → told ≡ told_of came → ((world : World) → StandsFor script mid world → StandsFor script new (came_in script world pid came))
+        → ((numbers : Numbers) (others : ℕ → ℕ) (plain : Plain) → IsTable old.heap old.procs plain.table → HoldFiles numbers others old.heap old.procs old.tree plain.files
+        → AnswersOpening numbers others old.heap heap old.procs fs script plain pid (answer plain) came)
+        → ((world : World) (stands : StandsFor script old world) (it : Answers came world stands.files.numbers) → LeavesOpening old mid world pid which came (with_files world.plain it.files))
+        → Serves script old pid which answer told new
+    serves_opening (Ok (opened.Over fd)) tells goes answers cached =
+        over (Ok (opened.Over fd)) (Val (pos fd)) tells goes (λ world it. it.1.answers)
+        (λ world stands sound. answers stands.files.numbers (others_in world.plain) world.plain stands.processes.table (holds_files script old world stands well sound)) cached
+    serves_opening (Err errno) tells goes answers cached =
+        over (Err errno) (Fail errno) tells goes (λ world it. it.1.answers)
+        (λ world stands sound. answers stands.files.numbers (others_in world.plain) world.plain stands.processes.table (holds_files script old world stands well sound)) cached
+    serves_opening (Ok (opened.Waits opening)) tells goes answers cached =
+        serves_begun script old mid new pid which (half_in opening) told within tells answer moves goes
+        (λ world stands sound alive.
+        let it = answers stands.files.numbers (others_in world.plain) world.plain stands.processes.table (holds_files script old world stands well sound) in
+        let leaves = cached world stands it in
+        record {
+          next = with_files world.plain it.files;
+          begins = it.answers;
+          turned = subst (λ (account : Account). HasTurned mid world (turned_in mid (with_files world.plain it.files) account))
+              (begun_account world stands it.files (Some (half_in opening)) ∙ ap (account_after world.account world.plain pid which) (sym it.answers))
+              (turned_files script old mid world stands pid which (Val (pos 0)) it.files it.now (memory_holding old mid pid refl changes kept.holds) queues it.keeps.pipes it.keeps.socks it.holds);
+          untouched = leaves.0;
+          known = leaves.1;
+        })

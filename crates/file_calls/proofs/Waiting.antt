@@ -129,3 +129,13 @@ module _ (script : Script) (old : Objects) (pid : ℕ) (path : List ℕ) (flags 
         account = sym (settled_account script old world stands);
         keeps = keeps world (answered_in script next pid (Val (pos opening.fd))) told stands refl refl;
       })
+
+-- ---- either
+
+-- a call serves as an open where the store has its caller wait so
+pub serves_by : (script : Script) (old : Objects) (pid : ℕ) (path : List ℕ) (flags : ℤ) (o : Option HalfOpen) (told : Turned) (new : Objects)
+    → ((world : World) → StandsFor script old world → o ≡ opening_at world.plain.files pid)
+    → Serves script old pid (call.OpenFile path flags) (λ plain. open_by script plain pid path flags o) told new
+    → Serves script old pid (call.OpenFile path flags) (λ plain. open_file script plain pid path flags) told new
+serves_by script old pid path flags o told new is does = λ world stands sound alive.
+    subst (λ a. WorldReached script new world pid (call.OpenFile path flags) a told) (opens_by script world.plain pid path flags o (is world stands)) (does world stands sound alive)

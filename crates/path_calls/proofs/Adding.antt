@@ -80,3 +80,12 @@ held_added old mid own one two new h proc three works row first second last = λ
         ∙ list_any-append (opens_at h n) proc.descriptors (leaf_row 0 ++ (leaf_row 1 ++ leaf_row 2))
         ∙ ap (λ b. some_opens h proc.descriptors n || b)
         (list_any-append (opens_at h n) (leaf_row 0) (leaf_row 1 ++ leaf_row 2) ∙ ap (λ b. leaf_opens 0 n || b) (list_any-append (opens_at h n) (leaf_row 1) (leaf_row 2)))
+
+-- nothing comes in where there is no node
+pub added_none : (set : NodeSet) → Adds set set (λ number. false)
+added_none set = λ number. sym (either (has_node set number) (nat_lt number most_nodes))
+  where
+    either : (was may : Bool) → (was || (may && false)) ≡ was
+    either true may = refl
+    either false true = refl
+    either false false = refl

@@ -1,5 +1,5 @@
 -- Which nodes the processes of a heap have open are those that the machine's descriptions open.
-use Rattle.std.proofs.Common.{◌≡◌, ℕ, zero, suc, ◌+◌, ◌<◌, ◌≤◌, ◌==◌, ◌||◌, Bool, true, false, cond, List, [], ◌∷◌, get_or, length, Option, None, Some, refl, ap, sym, ◌∙◌, inl, inr, arith}
+use Rattle.std.proofs.Common.{◌≡◌, ℕ, zero, suc, ◌+◌, ◌<◌, ◌≤◌, ◌==◌, ◌||◌, Bool, true, false, cond, List, [], ◌∷◌, get_or, length, Option, None, Some, refl, ap, sym, subst, ◌∙◌, inl, inr, arith}
 use Rattle.std.specs.Prelude.{count_by}
 use Rattle.std.specs.List.{list_any}
 use Rattle.std.specs.Option.{option_map}
@@ -24,6 +24,7 @@ use Rattle.open_laws.proofs.GoingLemmas.{named_there}
 use Rattle.open_laws.proofs.RelinkedLemmas.{node_placed}
 use Rattle.open_laws.specs.Piped.{ArePiped}
 use Rattle.open_laws.specs.Placed.{Numbers}
+use Rattle.open_laws.specs.Polled.{IsTargetIn}
 use Rattle.posix_defs.specs.Files.Descriptions.{Description, Descriptions, OnPipe, Target, description_at}
 use Rattle.posix_defs.specs.Files.State.{Files, is_number, opens}
 use Rattle.proc_numbers.specs.Having.{AreListed, HaveOpen}
@@ -54,6 +55,16 @@ desc_named h key proc row fd held owners there part is =
     let some = names_some row fd held is in
     let it = named_there h [] held.desc owners (named_part held.desc h key proc there (omega (arith, some, part))) in
     let used : InUse h.descs held.desc = rw it.1 refl in used
+
+-- what it is open on is there
+pub target_held : (h : Heap) (key : ℕ) (desc : Desc) → HasItsOwners h [] → object h.descs key ≡ Some desc → IsTargetIn h desc.target
+target_held h key desc owners is =
+    let used : InUse h.descs key = rw is refl in
+    let it = named_there h [] key owners (more (desc_count_at h.descs key) (all_namings h key) (owners.named.counts key) (owners.named.named key used)) in
+    subst (λ (d : Desc). IsTargetIn h d.target) (some_same (object h.descs key) it.0 desc it.1 is) it.2
+  where
+    more : (count names : ℕ) → count ≡ names + 0 → 0 < count → 0 < names
+    more count names same some = omega (arith, same, some)
 
 -- the parts are the row of the Proc and those of its Leaves
 module _ (h : Heap) (proc : Proc) (key : ℕ) where

@@ -1,93 +1,51 @@
-use Rattle.std.proofs.Common.{◌≡◌, ◌∙◌, ℕ, false, Some, ap, refl, subst, sym, w64}
+use Rattle.std.proofs.Common.{◌≡◌, Option, None, Some, ap, refl, sym, subst, ◌∙◌, w64}
+use Rattle.std.specs.Option.{option_map}
 use Rattle.std.proofs.lemmas.Int.{to_z-of_z}
 use Rattle.kabi_types.specs.Arguments.{argument_fault}
 use Rattle.kabi_types.specs.declared.calls.Call.TheVariants as call
-use Rattle.kabi_types.specs.declared.classes.Need.{Need}
-use Rattle.kheap_slabs.specs.declared.objects.Proc.{Proc}
-use Rattle.kheap_laws.proofs.PaidLemmas.{IsPaid-nothing, IsPaid-trans}
-use Rattle.memfs_ops.specs.FileTree.{KnowsWay, Stands, in_call}
-use Rattle.posix_defs.specs.Calls.OnFiles.{open_file}
-use Rattle.posix_defs.specs.Files.Descriptions.{has_flag, o_trunc}
-use Rattle.posix_defs.specs.Tree.{Tree}
-use Rattle.posix_defs.specs.declared.turner.Turned.TheVariants as turned
-use Rattle.proc_files.specs.Opening.{AnswersAnew}
-use Rattle.proc_numbers.specs.Answering.{value_of}
-use Rattle.store_objects.proofs.Replying.{no_frames}
-use Rattle.proc_table.specs.Procs.{proc_of}
-use Rattle.store_objects.specs.Objects.{procs_of}
-use Rattle.store_objects.proofs.StoreFiles.{works_somewhere}
-use Rattle.store_objects.proofs.Keeping.{listed_in}
-use Rattle.store_objects.proofs.Replies.{GoesOn}
-use Rattle.store_objects.proofs.Within.{within_paid}
-use Rattle.file_calls.proofs.CallingOpens.{alive_who_runs, bound_still, kept_mid, mid, runs_mid, serves_anew}
-use Rattle.file_calls.proofs.Opens.{leaf_left, leaves_open, one_left}
+use Rattle.kheap_laws.proofs.PaidLemmas.{IsPaid-nothing}
+use Rattle.posix_defs.specs.Calls.OnFiles.{open_by}
+use Rattle.posix_defs.specs.Needs.{need_of}
+use Rattle.proc_table.specs.Opening.{half_in}
+use Rattle.store_objects.specs.Walking.{Serves}
+use Rattle.file_calls.proofs.Waiting.{serves_by}
 use Rattle.file_calls.proofs.opening.open.Goals as goal
 
-pub open_path-opened-requires-clause-listed : goal.open_path-opened-requires-clause-listed
-open_path-opened-requires-clause-listed c = listed_in c.args.script.now c.args.objects.now c.requires.stands.1.kept
+pub opening_of-requires-clause-stands : goal.opening_of-requires-clause-stands
+opening_of-requires-clause-stands c = (c.args.script.now, c.requires.stands.0, c.requires.stands.1)
 
-pub open_path-opened-requires-clause-owners : goal.open_path-opened-requires-clause-owners
-open_path-opened-requires-clause-owners c = c.requires.stands.1.kept.owners
+-- ---- it waits
 
-pub open_path-opened-requires-clause-works : goal.open_path-opened-requires-clause-works
-open_path-opened-requires-clause-works c =
-    let some = c.requires.stands in
-    works_somewhere c.args.script.now c.args.objects.now some.0 some.1 c.heap_is_well_formed.ensures some.2 c.args.caller.now.place.pid (alive_who_runs c.args.objects.now c.args.caller.now.place.pid c.args.caller.now.control c.requires.runs)
+pub open_again-requires-clause-stands : goal.open_again-requires-clause-stands
+open_again-requires-clause-stands c = (c.requires.stands.0, c.requires.stands.1)
 
-pub open_path-opened-requires-clause-right : goal.open_path-opened-requires-clause-right
-open_path-opened-requires-clause-right c =
-    subst (λ z. argument_fault (call.OpenFile c.args.path.now z) ≡ _) (sym (to_z-of_z w64 c.args.flags c.ranges.flags)) c.requires.right
+pub open_again-requires-clause-sleeps : goal.open_again-requires-clause-sleeps
+open_again-requires-clause-sleeps c = λ world stands. sym (c.opening_of.ensures c.args.script.now world stands) ∙ ap (option_map half_in) c.in-Some.is
 
-pub open_path-opened-requires-clause-left : goal.open_path-opened-requires-clause-left
-open_path-opened-requires-clause-left c = one_left c.args.path.now c.args.flags c.args.purse.now c.requires.right c.requires.needed
+pub returns-in-Some-clause-paid : goal.returns-in-Some-clause-paid
+returns-in-Some-clause-paid c = IsPaid-nothing c.args.objects.now.heap c.open_again.new.objects.heap c.args.purse.now c.args.purse.now c.open_again.ensures.takes refl refl
 
-pub open_path-opened-requires-clause-left_leaf : goal.open_path-opened-requires-clause-left_leaf
-open_path-opened-requires-clause-left_leaf c = leaf_left c.args.path.now c.args.flags c.args.purse.now c.requires.right c.requires.needed
+pub returns-in-Some-clause-does : goal.returns-in-Some-clause-does
+returns-in-Some-clause-does c =
+    serves_by c.args.script.now c.args.objects.now c.args.caller.now.place.pid c.args.path.now c.args.flags (Some (half_in c.in-Some.opening)) c.open_again.result c.open_again.new.objects
+    (λ world stands. sym (ap (option_map half_in) c.in-Some.is) ∙ c.opening_of.ensures c.args.script.now world stands) (c.open_again.ensures.does c.args.path.now c.args.flags)
 
-pub go_on-requires-clause-kept : goal.go_on-requires-clause-kept
-go_on-requires-clause-kept c =
-    let n = c.open_path-opened in
-    let kept = c.requires.stands.1.kept in
-    kept_mid c.args.script.now c.args.objects.now n.new.heap n.new.tree c.args.objects.now.names c.args.caller.now.place.pid c.args.caller.now.control kept c.requires.runs n.ensures.changes n.ensures.listed n.ensures.owners
-    (bound_still c.args.script.now c.args.objects.now n.new.heap kept n.ensures.socks) refl n.ensures.hold
+-- ---- it begins
 
-pub go_on-requires-clause-runs : goal.go_on-requires-clause-runs
-go_on-requires-clause-runs c =
-    let n = c.open_path-opened in
-    let kept = c.requires.stands.1.kept in
-    runs_mid c.args.script.now c.args.objects.now n.new.heap n.new.tree c.args.objects.now.names c.args.caller.now.place.pid c.args.caller.now.control kept c.requires.runs n.ensures.changes n.ensures.listed n.ensures.owners
-    (bound_still c.args.script.now c.args.objects.now n.new.heap kept n.ensures.socks) refl n.ensures.hold
+pub open_anew-requires-clause-right : goal.open_anew-requires-clause-right
+open_anew-requires-clause-right c = subst (λ z. argument_fault (call.OpenFile c.args.path.now z) ≡ None) (sym (to_z-of_z w64 c.args.flags c.ranges.flags)) c.requires.right
 
-pub returns-clause-paid : goal.returns-clause-paid
-returns-clause-paid c =
-    let n = c.open_path-opened in
-    IsPaid-trans c.args.objects.now.heap c.args.purse.now n.new.heap n.new.purse c.go_on.new.objects.heap n.new.purse n.ensures.paid
-    (IsPaid-nothing n.new.heap c.go_on.new.objects.heap n.new.purse n.new.purse c.go_on.ensures.takes refl refl)
+pub open_anew-requires-clause-needed : goal.open_anew-requires-clause-needed
+open_anew-requires-clause-needed c = subst (λ z. c.args.purse.now.left ≡ need_of (call.OpenFile c.args.path.now z)) (sym (to_z-of_z w64 c.args.flags c.ranges.flags)) c.requires.needed
 
-pub returns-clause-does : goal.returns-clause-does
-returns-clause-does c =
-    let script = c.args.script.now in
-    let old = c.args.objects.now in
-    let pid = c.args.caller.now.place.pid in
-    let path = c.args.path.now in
-    let n = c.open_path-opened in
-    let kept = c.requires.stands.1.kept in
-    let which = call.OpenFile path c.args.flags in
-    let said = value_of n.result in
-    let flags = to_z-of_z w64 c.args.flags c.ranges.flags in
-    let bound = bound_still script old n.new.heap kept n.ensures.socks in
-    let then = mid script old n.new.heap n.new.tree old.names pid c.args.caller.now.control kept c.requires.runs n.ensures.changes n.ensures.listed n.ensures.owners bound refl n.ensures.hold in
-    serves_anew script old n.new.heap n.new.tree old.names pid c.args.caller.now.control kept c.requires.runs n.ensures.changes n.ensures.listed n.ensures.owners bound refl n.ensures.hold
-    which said c.go_on.result c.go_on.new.objects (λ plain. open_file script plain pid path c.args.flags) c.heap_is_well_formed.ensures
-    (within_paid old then c.args.purse.now n.new.purse which n.ensures.paid
-    (ap (λ (need : Need). need.name) c.requires.needed) (ap (λ (need : Need). need.block) c.requires.needed) (ap (λ (need : Need). need.vnode) c.requires.needed) n.ensures.reads)
-    n.ensures.queues (c.go_on.ensures.told ∙ ap (λ r. turned.Done r) c.value.ensures) (subst (λ reply. GoesOn script then pid reply c.go_on.new.objects) c.value.ensures c.go_on.ensures.goes)
-    (no_frames which (λ frames pid value. refl) pid said)
-    (λ numbers others plain table hold.
-    subst (λ z. AnswersAnew numbers others old.heap n.new.heap old.procs n.new.tree script plain pid (open_file script plain pid path z) said) flags
-    (n.ensures.answers numbers others script plain table hold))
-    (λ world now stands it.
-    leaves_open script old then c.args.purse.now pid path c.args.flags c.requires.runs.proc c.requires.runs.found c.requires.runs.up c.requires.right n.result
-    (subst (λ z. (proc : Proc) (plain : Tree) (pins : ℕ → ℕ) → proc_of (procs_of old) pid ≡ Some proc → Stands old.heap old.tree plain pins
-    → KnowsWay (in_call old.heap c.args.purse.now old.tree) plain proc.cwd path → has_flag z o_trunc ≡ false → n.new.tree.disk ≡ old.tree.disk) flags n.ensures.saved)
-    n.ensures.kept world stands now it)
+pub open_anew-requires-clause-begins : goal.open_anew-requires-clause-begins
+open_anew-requires-clause-begins c =
+    let some = c.requires.begins in
+    some.2 (sym (c.opening_of.ensures c.args.script.now some.0 some.1) ∙ ap (option_map half_in) c.in-None.is)
+
+pub returns-in-None-clause-does : goal.returns-in-None-clause-does
+returns-in-None-clause-does c =
+    serves_by c.args.script.now c.args.objects.now c.args.caller.now.place.pid c.args.path.now c.args.flags None c.open_anew.result c.open_anew.new.objects
+    (λ world stands. sym (ap (option_map half_in) c.in-None.is) ∙ c.opening_of.ensures c.args.script.now world stands)
+    (subst (λ z. Serves c.args.script.now c.args.objects.now c.args.caller.now.place.pid (call.OpenFile c.args.path.now z)
+    (λ plain. open_by c.args.script.now plain c.args.caller.now.place.pid c.args.path.now z None) c.open_anew.result c.open_anew.new.objects) (to_z-of_z w64 c.args.flags c.ranges.flags) c.open_anew.ensures.does)
