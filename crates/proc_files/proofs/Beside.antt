@@ -1,5 +1,5 @@
 -- What heap and table stand for goes on where the heap has other objects of the three caches alone.
-use Rattle.std.proofs.Common.{◌≡◌, ℕ, List, [], Option, ap, sym, ◌∙◌}
+use Rattle.std.proofs.Common.{◌≡◌, ℕ, List, [], length, Option, None, unwrap_or, ap, sym, ◌∙◌}
 use Rattle.kheap_laws.proofs.OwnerLemmas.{IsOwned-same}
 use Rattle.kheap_laws.proofs.TableLemmas.{OwnsItsObjects-along}
 use Rattle.kheap_slabs.specs.Objects.{object}
@@ -12,12 +12,16 @@ use Rattle.open_laws.specs.Owned.{HasItsOwners, all_namings}
 use Rattle.open_laws.proofs.GoingLemmas.{held_open_on, named_on, open_on}
 use Rattle.open_laws.specs.Placed.{Numbers}
 use Rattle.posix_defs.specs.Account.{Account}
-use Rattle.posix_defs.specs.Files.State.{Files}
+use Rattle.posix_defs.specs.ByPid.{at_pid}
+use Rattle.posix_defs.specs.Files.Descriptors.{Descriptors, none_open}
+use Rattle.posix_defs.specs.Files.State.{Files, HalfOpen}
 use Rattle.posix_defs.specs.Memory.{Frames}
 use Rattle.posix_defs.specs.Process.{Table}
 use Rattle.proc_numbers.specs.Having.{AreListed, HaveOpen, places_in}
 use Rattle.proc_numbers.proofs.NumberCloses.{listed_on}
 use Rattle.proc_table.specs.Accounting.{HasAccount}
+use Rattle.kheap_slabs.specs.declared.objects.Proc.{Proc}
+use Rattle.proc_table.specs.Opening.{opening_of}
 use Rattle.proc_table.specs.Procs.{numbers_in, proc_of}
 use Rattle.proc_table.specs.Standing.{IsTable}
 use Rattle.proc_table.specs.Table.{TableView, procs_at, processes, with_procs}
@@ -73,15 +77,23 @@ module _ (old new : Heap) (e : CachesChange old new) where
   }
 
   -- what is open is open, where the machine has the same of it
-  pub have_beside : (numbers : Numbers) (kept : TableView) (files now : Files) → now.descriptors ≡ files.descriptors → now.descriptions ≡ files.descriptions → now.pipes ≡ files.pipes → now.sockets ≡ files.sockets
+  pub have_beside : (numbers : Numbers) (kept : TableView) (files now : Files) → now.descriptors ≡ files.descriptors → now.openings ≡ files.openings → now.descriptions ≡ files.descriptions → now.pipes ≡ files.pipes → now.sockets ≡ files.sockets
       → HaveOpen numbers old kept files → HaveOpen numbers new kept now
-  have_beside numbers kept files now descriptors descriptions pipes sockets have = record {
+  have_beside numbers kept files now descriptors openings descriptions pipes sockets have = record {
     list = have.list;
     opened = open_on numbers old new have.list files now same_descs same_pipes same_socks same_chunks descriptions pipes sockets have.opened;
-    descriptors = rw descriptors (record {
-      each = λ q. have.descriptors.each q ∙ ap (λ (h : Heap). descriptors_by numbers.descs (places_in (numbers_in h) (proc_of (procs_at h.procs kept.listed) q))) (sym e);
-      made = have.descriptors.made;
-    });
+    descriptors = record {
+      each = λ q.
+          ap (λ (d : List Descriptors). unwrap_or (at_pid d q) none_open) descriptors ∙ have.descriptors.each q
+          ∙ ap (λ (h : Heap). descriptors_by numbers.descs (places_in (numbers_in h) (proc_of (procs_at h.procs kept.listed) q))) (sym e);
+      made = ap length descriptors ∙ have.descriptors.made;
+      openings = record {
+        each = λ q.
+            ap (λ (o : List (Option HalfOpen)). unwrap_or (at_pid o q) None) openings ∙ have.descriptors.openings.each q
+            ∙ ap (λ (p : List (Option Proc)). opening_of (proc_of (procs_at p kept.listed) q)) (sym same_procs);
+        made = ap length openings ∙ have.descriptors.openings.made;
+      };
+    };
   }
 
   pub table_beside : (kept : TableView) (table : Table) → IsTable old kept table → IsTable new kept table

@@ -8,7 +8,6 @@ use Rattle.proc_table.specs.Table.{TableView, key_of}
 use Rattle.proc_table.proofs.PlaceLemmas.{some_same}
 use Rattle.proc_numbers.specs.Naming.{ChangesNumbers}
 use Rattle.proc_numbers.proofs.Listing.{put_same}
-use Rattle.proc_numbers.proofs.Changes.{changes_closed}
 use Rattle.proc_files.specs.Closing.{CachesChange, ChangesHolding, ClosesHolding}
 
 -- the heap with what is open and what is cached in another
@@ -96,4 +95,14 @@ holding_then old mid new kept pid first second =
 -- a number is closed
 pub holding_closed : (old new : Heap) (kept : TableView) (pid fd : ℕ) → ClosesHolding old new kept pid fd → ChangesHolding old new kept pid
 holding_closed old new kept pid fd closes =
-    caches_after old closes.mid new kept pid (holding_of old closes.mid kept pid (changes_closed old closes.mid kept pid fd closes.closes)) closes.caches
+    let one = closes.closes in
+    record {
+      key = one.key;
+      proc = one.proc;
+      now = one.now;
+      named = one.turns.found;
+      there = one.turns.there;
+      same = one.turns.same;
+      procs = ap (λ (h : Heap). h.procs) closes.caches ∙ one.turns.procs;
+      beside = ap (λ (h : Heap). holding h new) closes.caches ∙ ap (λ (h : Heap). holding h new) one.beside;
+    }

@@ -12,7 +12,7 @@ use Rattle.kheap_slabs.specs.Paid.{AreFills, HasFills, TakesNothing}
 use Rattle.memfs_ops.specs.Closing.{HeldToClose, left_tree, one_less}
 use Rattle.memfs_ops.specs.FileTree.{Pays, Stands, TreeView}
 use Rattle.open_laws.specs.Placed.{Numbers}
-use Rattle.posix_defs.specs.Files.Descriptions.{Description, OnNode}
+use Rattle.posix_defs.specs.Files.Descriptions.{Description}
 use Rattle.posix_defs.specs.Files.Closing.{after_close}
 use Rattle.posix_defs.specs.Files.State.{Files, opens}
 use Rattle.posix_defs.specs.IsTree.{IsTree}
@@ -59,7 +59,7 @@ module _ (numbers : Numbers) (others : ℕ → ℕ) (new : Heap) (kept : TableVi
         subst (λ t. Stands new now t (holders others next)) (sym goes.tree)
         (same_pins new now files.tree (holders others files) (holders others next)
         (λ n. (let same = goes.opened n in let none : times n [] ≡ 0 = refl in omega (arith, same, none))) stands);
-    nodes = λ place number d there on. subst (λ t. IsOpenNode t d number) (sym goes.tree) (nodes place number d (goes.left place d there) on);
+    nodes = λ place number d there on. subst (λ t. IsOpenNode t d number) (sym goes.tree) (nodes place number d (goes.left place d there) (sym (goes.nodes place d there) ∙ on));
     beside = subst (HoldDirectories others) (sym goes.tree) directories;
   }
 
@@ -111,14 +111,14 @@ module _ (numbers : Numbers) (others : ℕ → ℕ) (new : Heap) (kept : TableVi
     nodes_now : AreOpenNodes next
     nodes_now place m d there on = elim (cases_eq m number) [
       | inl same ↦ by_opens (opens_so next number next.descriptions) same
-      | inr apart ↦ open_as files.tree next.tree d m (unopened m apart) (nodes place m d (goes.left place d there) on)
+      | inr apart ↦ open_as files.tree next.tree d m (unopened m apart) (nodes place m d (goes.left place d there) (sym (goes.nodes place d there) ∙ on))
     ]
       where
         by_opens : ((opens next number ≡ true) × (0 < openings next number)) ⊎ ((opens next number ≡ false) × (openings next number ≡ 0)) → m ≡ number → IsOpenNode next.tree d m
         by_opens (inl some) same =
-            subst (λ t. IsOpenNode t d m) (sym (goes.tree ∙ ap (λ b. cond b files.tree (closed files.tree number)) some.0)) (nodes place m d (goes.left place d there) on)
+            subst (λ t. IsOpenNode t d m) (sym (goes.tree ∙ ap (λ b. cond b files.tree (closed files.tree number)) some.0)) (nodes place m d (goes.left place d there) (sym (goes.nodes place d there) ∙ on))
         by_opens (inr none) same = absurd (
-            let one = opens_once next next.descriptions place number d there (on ∙ ap OnNode same) in
+            let one = opens_once next next.descriptions place number d there (on ∙ ap (λ n. Some n) same) in
             let zero = none.1 in omega (arith, one, zero))
 
     directories_now : HoldDirectories others next.tree
@@ -224,4 +224,4 @@ module _ (numbers : Numbers) (others : ℕ → ℕ) (old mid : Heap) (kept : Tab
       → Stands new now (left_tree files.tree (holders others files) node) (one_less (holders others files) node) → HoldFiles numbers others new kept now (after_close files pid fd)
   closed_gone node goes new now caches stands =
       hold_gone numbers others new kept now files (after_close files pid fd) hold.tree.is_tree hold.nodes hold.beside
-      (have_beside mid new caches numbers kept (after_close files pid fd) (after_close files pid fd) refl refl refl refl then) node goes stands
+      (have_beside mid new caches numbers kept (after_close files pid fd) (after_close files pid fd) refl refl refl refl refl then) node goes stands

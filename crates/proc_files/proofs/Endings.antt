@@ -13,7 +13,7 @@ use Rattle.kheap_slabs.specs.Leaves.{group_of, no_row, place_of, row_at}
 use Rattle.kheap_laws.proofs.LeafLemmas.{numbers_by-leaf, numbers_by-length}
 use Rattle.open_laws.specs.Open.{descriptor_by}
 use Rattle.open_laws.specs.Placed.{Numbers}
-use Rattle.posix_defs.specs.Files.Closing.{after_close, after_closes, after_end_of, after_exec_of}
+use Rattle.posix_defs.specs.Files.Closing.{after_close, after_closes, after_exec_of}
 use Rattle.posix_defs.specs.Files.Descriptors.{has_cloexec, is_cloexec}
 use Rattle.posix_defs.specs.Files.State.{Files, descriptors_of}
 use Rattle.kabi_types.specs.Arguments.{most_descriptors}
@@ -30,9 +30,9 @@ use Rattle.proc_numbers.proofs.NumberCloses.{unopened}
 use Rattle.proc_numbers.proofs.NumberNames.{descriptor_at_is}
 use Rattle.proc_numbers.proofs.PlacedLeaves.{none_opens}
 use Rattle.proc_files.specs.Closing.{ChangesHolding, ClosesHolding}
-use Rattle.proc_files.proofs.Changing.{holding, holding_then}
+use Rattle.proc_files.proofs.Changing.{holding_closed, holding_then}
 use Rattle.proc_files.proofs.Finding.{IsAt}
-use Rattle.proc_files.specs.Ending.{ClosesEach, ClosesIf, ClosesMarked, closed_where, goes_at_exec, has_mark}
+use Rattle.proc_files.specs.Ending.{ClosesEach, ClosesIf, ClosesMarked, closed_each, closed_where, goes_at_exec, has_mark}
 
 -- ---- in the machine
 
@@ -74,8 +74,8 @@ all_picked [] = refl
 all_picked (x ∷ xs) = ap (λ rest. x ∷ rest) (all_picked xs)
 
 -- all numbers
-pub end_is : (test : ℕ → Bool) (files : Files) (pid : ℕ) → ((fd : ℕ) → fd < most_descriptors → test fd ≡ true) → closed_where test files pid most_descriptors ≡ after_end_of files pid
-unfolding after_end_of
+pub end_is : (test : ℕ → Bool) (files : Files) (pid : ℕ) → ((fd : ℕ) → fd < most_descriptors → test fd ≡ true) → closed_where test files pid most_descriptors ≡ closed_each files pid
+unfolding closed_each
 end_is test files pid all =
     where_same test (λ fd. true) files pid most_descriptors all ∙ sym (where_is (λ fd. true) files pid most_descriptors) ∙ ap (after_closes files pid) (all_picked (range_with_len 0 most_descriptors))
 
@@ -114,19 +114,7 @@ not_marked h kept pid fd it = record { changes = unchanged h kept pid it; become
 pub marked_closes : (old new : Heap) (kept : TableView) (pid fd : ℕ) → ClosesHolding old new kept pid fd → ClosesIf old new kept pid fd true
 marked_closes old new kept pid fd closes =
     let one = closes.closes in
-    record {
-      changes = record {
-        key = one.key;
-        proc = one.proc;
-        now = one.now;
-        named = one.turns.found;
-        there = one.turns.there;
-        same = one.turns.same;
-        procs = ap (λ (h : Heap). h.procs) closes.caches ∙ one.turns.procs;
-        beside = ap (λ (h : Heap). holding h new) closes.caches ∙ ap (λ (h : Heap). holding h new) one.beside;
-      };
-      becomes = ap (λ (h : Heap). numbers_in h one.now) closes.caches ∙ one.numbers;
-    }
+    record { changes = holding_closed old new kept pid fd closes; becomes = ap (λ (h : Heap). numbers_in h one.now) closes.caches ∙ one.numbers }
 
 pub marked_begins : (h : Heap) (kept : TableView) (pid : ℕ) (test : ℕ → Bool) → IsAt h kept pid → ClosesMarked h h kept pid test 0
 unfolding unchanged
@@ -221,7 +209,7 @@ where_rest test files pid below within same =
 
 pub end_rest : (numbers : Numbers) (old new : Heap) (kept : TableView) (files : Files) (pid below : ℕ) (test : ℕ → Bool) → ((fd : ℕ) → fd < most_descriptors → test fd ≡ true) → below ≤ most_descriptors
     → AreListed old kept → AreListed new kept → ((fd : ℕ) → below ≤ fd → named_at old kept pid fd ≡ None) → ClosesMarked old new kept pid test below → HaveOpen numbers new kept (closed_where test files pid below)
-    → closed_where test files pid below ≡ after_end_of files pid
+    → closed_where test files pid below ≡ closed_each files pid
 end_rest numbers old new kept files pid below test all within listed then rest it have =
     where_rest test files pid below within
     (λ fd least. either (test fd) (after_close (closed_where test files pid below) pid fd) (closed_where test files pid below)
@@ -251,7 +239,8 @@ nothing_in zero i = refl
 nothing_in (suc n) zero = refl
 nothing_in (suc n) (suc i) = nothing_in n i
 
-pub ends_same : (numbers : Numbers) (h : Heap) (kept : TableView) (files : Files) (pid : ℕ) (it : IsAt h kept pid) → OpensNone it.proc → HaveOpen numbers h kept files → after_end_of files pid ≡ files
+pub ends_same : (numbers : Numbers) (h : Heap) (kept : TableView) (files : Files) (pid : ℕ) (it : IsAt h kept pid) → OpensNone it.proc → HaveOpen numbers h kept files → closed_each files pid ≡ files
+unfolding closed_each
 ends_same numbers h kept files pid it none have =
     end_of_none numbers h kept files pid (λ fd. ap (λ places. slice_index_or places fd None) (it.places ∙ none_numbers h it.proc none) ∙ nothing_in most_descriptors fd) have
 

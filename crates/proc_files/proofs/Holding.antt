@@ -16,8 +16,9 @@ use Rattle.name_cache.specs.Names.{KeepsNames, TrueNames}
 use Rattle.vnode_cache.specs.Nodes.{KeepsNodes, TrueNodes}
 use Rattle.cached_disk.specs.TreeLent.{HasPins}
 use Rattle.memfs_ops.specs.FileTree.{HasRoom, HeldSome, Stands, TreeView}
-use Rattle.open_laws.specs.Described.{counted_in, node_in, target_in}
-use Rattle.open_laws.specs.Owned.{HasItsOwners}
+use Rattle.open_laws.specs.Described.{counted_in, inode_in, node_in, target_in}
+use Rattle.open_laws.specs.Owned.{HasItsOwners, IsThereFor}
+use Rattle.open_laws.specs.Piped.{ArePiped}
 use Rattle.open_laws.specs.Placed.{Numbers}
 use Rattle.posix_defs.specs.Calls.Opened.{Opened, opened_at}
 use Rattle.posix_defs.specs.Files.Descriptions.{Description, OnNode, at_offset, description_at}
@@ -39,7 +40,8 @@ use Rattle.proc_numbers.proofs.OpenedBy.{opened_is}
 use Rattle.proc_files.specs.Holding.{CachesStay, HoldFiles, HoldSome, IsHeldIn}
 use Rattle.proc_files.specs.Holders.{AreOpenNodes, holders, IsOpenNode, times}
 use Rattle.proc_files.proofs.Moved.{have_moved, with_it}
-use Rattle.proc_files.proofs.Openings.{nodes_set, opens_once}
+use Rattle.proc_files.proofs.FifoTargets.{node_placed, node_same}
+use Rattle.proc_files.proofs.Openings.{all_same, nodes_set, opens_once, same_node}
 
 -- ---- the tree
 
@@ -91,13 +93,16 @@ module _ (numbers : Numbers) (others : ℕ → ℕ) (h : Heap) (kept : TableView
   pub on_there : (counted_in numbers desc).is.target ≡ OnNode number
   on_there = ap (target_in numbers) on
 
+  its_node : node_of files (counted_in numbers desc).is.target ≡ Some number
+  its_node = ap (node_of files) on_there
+
   -- is as it should be
   pub open_node : IsOpenNode files.tree (counted_in numbers desc).is number
-  open_node = hold.nodes (numbers.descs key) number (counted_in numbers desc).is described_there on_there
+  open_node = hold.nodes (numbers.descs key) number (counted_in numbers desc).is described_there its_node
 
   -- and is held
   pub open_held : 0 < holders others files number
-  open_held = let some = opens_once files files.descriptions (numbers.descs key) number (counted_in numbers desc).is described_there on_there in omega (arith, some)
+  open_held = let some = opens_once files files.descriptions (numbers.descs key) number (counted_in numbers desc).is described_there its_node in omega (arith, some)
 
 -- the node of what is open is held
 pub held_some : (h : Heap) (kept : TableView) (fs : TreeView) → HoldSome h kept fs → (key number : ℕ) (desc : Desc) → object h.descs key ≡ Some desc → desc.target ≡ target.Inode number
@@ -105,13 +110,22 @@ pub held_some : (h : Heap) (kept : TableView) (fs : TreeView) → HoldSome h kep
 held_some h kept fs some key number desc is on =
     (some.files.tree, holders some.others some.files, some.hold.tree, open_held some.numbers some.others h kept fs some.files some.hold key number desc is on)
 
-pub held_in : (h : Heap) (kept : TableView) (fs : TreeView) → HoldSome h kept fs → (key : ℕ) (desc : Desc) → object h.descs key ≡ Some desc → IsHeldIn h fs desc.target
-held_in h kept fs some key desc is = by_target desc.target refl
+pub held_in : (h : Heap) (kept : TableView) (fs : TreeView) → HasItsOwners h [] → HoldSome h kept fs → (key : ℕ) (desc : Desc) → object h.descs key ≡ Some desc → IsHeldIn h fs desc.target
+held_in h kept fs owners some key desc is = by_target desc.target refl (owners.held.targets key desc is)
   where
-    by_target : (what : Target) → desc.target ≡ what → IsHeldIn h fs what
-    by_target (target.Inode number) on = held_some h kept fs some key number desc is on
-    by_target (target.Pipe pipe) on = tt
-    by_target (target.Sock sock) on = tt
+    described : description_at some.files.descriptions (some.numbers.descs key) ≡ Some (counted_in some.numbers desc).is
+    described = described_so some.numbers h some.hold.opened.list some.files key desc some.hold.opened.opened is
+
+    held_once : (node : ℕ) → node_of some.files (counted_in some.numbers desc).is.target ≡ Some node → 0 < holders some.others some.files node
+    held_once node on =
+        let once = opens_once some.files some.files.descriptions (some.numbers.descs key) node (counted_in some.numbers desc).is described on in omega (arith, once)
+
+    by_target : (what : Target) → desc.target ≡ what → IsThereFor h desc.access what → IsHeldIn h fs what
+    by_target (target.Inode number) on there = held_some h kept fs some key number desc is on
+    by_target (target.Pipe pipe) on there = (owners.held.stand pipe there.0, λ node has.
+        (some.files.tree, holders some.others some.files, some.hold.tree,
+        held_once node (ap (λ w. node_of some.files (target_in some.numbers w)) on ∙ node_placed some.numbers h some.files some.hold.opened.opened.piped pipe there.0 ∙ has)))
+    by_target (target.Sock sock) on there = tt
 
 -- what a call's number names in the machine is what was found, or nothing
 pub as_found : (h : Heap) (kept : TableView) (pid : ℕ) (on : Named) → IsOpened h kept pid on → (numbers : Numbers) (files : Files) → HaveOpen numbers h kept files → (o : Option Found) → on.found ≡ o
@@ -119,22 +133,23 @@ pub as_found : (h : Heap) (kept : TableView) (pid : ℕ) (on : Named) → IsOpen
 as_found h kept pid on opened numbers files have o is = opened_is h kept pid on opened numbers files have ∙ ap (option_map (opened_in numbers)) is
 
 -- what isn't open on a node has none
-pub off_node : (numbers : Numbers) (files : Files) (pid : ℕ) (fd : ℤ) (it : Found) → opened_at files pid fd ≡ Some (opened_in numbers it) → is_on_node files (opened_at files pid fd) ≡ false
-    → node_in it.desc.target ≡ None
-off_node numbers files pid fd it found off = by_target it.desc.target (sym (ap (is_on_node files) found) ∙ off)
+pub off_node : (numbers : Numbers) (h : Heap) (files : Files) (pid : ℕ) (fd : ℤ) (it : Found) → ArePiped numbers h files.pipes → IsThereFor h it.desc.access it.desc.target
+    → opened_at files pid fd ≡ Some (opened_in numbers it) → is_on_node files (opened_at files pid fd) ≡ false → node_in h.pipes it.desc.target ≡ None
+off_node numbers h files pid fd it are there found off =
+    sym (node_same numbers h files are it.desc.access it.desc.target there)
+    ∙ none_so (node_of files (target_in numbers it.desc.target)) (sym (ap (is_on_node files) found) ∙ off)
   where
-    by_target : (what : Target) → is_some (node_of files (target_in numbers what)) ≡ false → node_in what ≡ None
-    by_target (target.Inode number) is = absurd (let both : true ≡ false = is in cc)
-    by_target (target.Pipe key) is = refl
-    by_target (target.Sock key) is = refl
+    none_so : (o : Option ℕ) → is_some o ≡ false → o ≡ None
+    none_so None is = refl
+    none_so (Some n) is = absurd (let both : true ≡ false = is in cc)
 
 pub on_node : (numbers : Numbers) (files : Files) (pid : ℕ) (fd : ℤ) (it : Found) (node : ℕ) → opened_at files pid fd ≡ Some (opened_in numbers it) → it.desc.target ≡ target.Inode node
     → is_on_node files (opened_at files pid fd) ≡ false → ⊥
 on_node numbers files pid fd it node found on off =
-    let none : Some node ≡ None = sym (ap node_in on) ∙ off_node numbers files pid fd it found off in cc
+    let both : true ≡ false = sym (ap (is_on_node files) found ∙ ap (λ w. is_some (node_of files (target_in numbers w))) on) ∙ off in cc
 
--- a target that has no node
-pub no_node : (what : Target) → ((number : ℕ) → what ≡ target.Inode number → ⊥) → node_in what ≡ None
+-- a target that is no node by its number
+pub no_node : (what : Target) → ((number : ℕ) → what ≡ target.Inode number → ⊥) → inode_in what ≡ None
 no_node (target.Inode number) never = absurd (never number refl)
 no_node (target.Pipe key) never = refl
 no_node (target.Sock key) never = refl
@@ -162,7 +177,7 @@ only_node h kept pid fd it listed owners in_table some on there found never = by
         ap (λ (o : Opened). o.place) (some_same (opened_at some.files pid fd) (record { place = some.numbers.descs held.desc; is = (counted_in some.numbers desc.0).is }) (opened_in some.numbers it) so now) in
         let keys : held.desc ≡ it.key = some.hold.opened.opened.described.once held.desc it.key (ap is_some desc.1) (ap is_some there) places in
         let same : desc.0 ≡ it.desc = some_same (object h.descs it.key) desc.0 it.desc (ap (object h.descs) (sym keys) ∙ desc.1) there in
-        none_some (node_in it.desc.target) (no_node it.desc.target never) (subst (λ (d : Desc). IsSome (node_in d.target)) same (on held desc.0 name desc.1))
+        none_some (inode_in it.desc.target) (no_node it.desc.target never) (subst (λ (d : Desc). IsSome (inode_in d.target)) same (on held desc.0 name desc.1))
 
 -- ---- a step
 
@@ -184,7 +199,7 @@ module _ (old : Heap) (kept : TableView) (fs : TreeView) (key number : ℕ) (des
     opened = have_moved old key desc offset is numbers kept files hold.opened;
     tree =
         same_pins new fs files.tree (holders others files) (holders others after)
-        (λ n. ap (λ nodes. others n + times n nodes) (sym (nodes_set after files files.descriptions place was now there refl)))
+        (λ n. ap (λ nodes. others n + times n nodes) (sym (nodes_set after files files.descriptions place was now (all_same after files files.descriptions refl) there refl)))
         (stands_on old new fs files.tree (holders others files) (record { vnodes = refl; names = refl; blocks = refl; size = refl }) hold.tree);
     nodes = nodes_now;
     beside = hold.beside;
@@ -214,7 +229,7 @@ module _ (old : Heap) (kept : TableView) (fs : TreeView) (key number : ℕ) (des
       opened_now : (other : ℕ) → other ≡ number → IsOpenNode files.tree now other
       opened_now other same = subst (IsOpenNode files.tree now) (sym same) (record { used = it.used; unnamed = it.unnamed; reads = it.reads; between = between })
 
-      node_so : (one other : ℕ) → OnNode one ≡ OnNode other → other ≡ one
+      node_so : (one other : ℕ) → Some one ≡ Some other → other ≡ one
       node_so one other e = cc
 
       nodes_now : AreOpenNodes after
@@ -223,6 +238,6 @@ module _ (old : Heap) (kept : TableView) (fs : TreeView) (key number : ℕ) (des
             let here : d ≡ now = some_same (description_at after.descriptions place) d now (ap (description_at after.descriptions) (sym same) ∙ is_there)
             (get_or-set_same files.descriptions place (Some now) None (InUse-within files.descriptions place (ap is_some there))) in
             subst (λ (x : Description). IsOpenNode files.tree x other) (sym here)
-            (opened_now other (node_so number other (sym (on_there numbers others old kept fs files hold key number desc is on) ∙ ap (λ (x : Description). x.target) (sym here) ∙ target_is)))
-        | inr apart ↦ hold.nodes at other d (sym (get_or-set_other files.descriptions place at (Some now) None apart) ∙ is_there) target_is
+            (opened_now other (node_so number other (sym (ap (node_of after) (on_there numbers others old kept fs files hold key number desc is on)) ∙ ap (λ (x : Description). node_of after x.target) (sym here) ∙ target_is)))
+        | inr apart ↦ hold.nodes at other d (sym (get_or-set_other files.descriptions place at (Some now) None apart) ∙ is_there) (same_node files after refl d.target ∙ target_is)
       ]

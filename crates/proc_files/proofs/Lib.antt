@@ -1,4 +1,5 @@
 pub mod Openings
+pub mod FifoTargets
 pub mod Bindings
 pub mod Moved
 pub mod Holding

@@ -81,7 +81,7 @@ module _ (old : Heap) (key : ℕ) (desc : Desc) (offset : ℕ) (is : object old.
   have_moved numbers kept files have = record {
     list = set have.list (numbers.descs key) (Some (counted_in numbers now));
     opened = open_moved numbers have.list files have.opened;
-    descriptors = record { each = have.descriptors.each; made = have.descriptors.made };
+    descriptors = record { each = have.descriptors.each; made = have.descriptors.made; openings = have.descriptors.openings };
   }
 
 module _ (old new : Heap) (key : ℕ) (desc : Desc) (offset : ℕ) (is : object old.descs key ≡ Some desc) (e : MovesDesc old new key desc offset) where

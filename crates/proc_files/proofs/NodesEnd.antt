@@ -15,33 +15,34 @@ use Rattle.proc_numbers.specs.Having.{AreListed, HaveOpen, node_closed}
 use Rattle.proc_numbers.specs.Naming.{named_at}
 use Rattle.proc_files.specs.Closing.{CachesChange, ClosesHolding}
 use Rattle.proc_files.specs.Holders.{openings, times}
-use Rattle.proc_files.proofs.Beside.{have_beside, listed_beside}
+use Rattle.proc_files.proofs.Beside.{have_beside, listed_beside, owners_beside}
 use Rattle.proc_files.proofs.Closings.{Goes, goes_with}
-use Rattle.proc_files.proofs.Openings.{same_node, times_here}
+use Rattle.proc_files.proofs.Openings.{times_here}
 use Rattle.proc_files.specs.Ending.{OnlyGoes}
 
 -- ---- steps
 
 pub goes_still : (files : Files) → OnlyGoes files files
-goes_still files = record { fewer = λ n. omega arith; left = λ place d there. there }
+goes_still files = record { fewer = λ n. omega arith; left = λ place d there. there; nodes = λ place d there. refl }
 
 pub goes_then : (files mid next : Files) → OnlyGoes files mid → OnlyGoes mid next → OnlyGoes files next
 goes_then files mid next first second = record {
   fewer = λ n. (let one = first.fewer n in let two = second.fewer n in omega (arith, one, two));
   left = λ place d there. first.left place d (second.left place d there);
+  nodes = λ place d there. second.nodes place d there ∙ first.nodes place d (second.left place d there);
 }
 
 pub only_goes : (files next : Files) (went : Option ℕ) → Goes files next went → OnlyGoes files next
-only_goes files next went goes = record { fewer = λ n. (let same = goes.opened n in omega (arith, same)); left = goes.left }
+only_goes files next went goes = record { fewer = λ n. (let same = goes.opened n in omega (arith, same)); left = goes.left; nodes = goes.nodes }
 
 -- what goes with a number, also where the caches change with it
-pub closing_goes : (old new : Heap) (kept : TableView) (pid fd : ℕ) (numbers : Numbers) (files : Files) → AreListed old kept → HasItsOwners old [] → AreListed new kept → ClosesHolding old new kept pid fd
-    → HaveOpen numbers old kept files → HaveOpen numbers new kept (after_close files pid fd) → Goes files (after_close files pid fd) (node_closed old.descs (named_at old kept pid fd))
-closing_goes old new kept pid fd numbers files listed owners listed_new closes have then =
+pub closing_goes : (old new : Heap) (kept : TableView) (pid fd : ℕ) (numbers : Numbers) (files : Files) → AreListed old kept → HasItsOwners old [] → AreListed new kept → HasItsOwners new [] → ClosesHolding old new kept pid fd
+    → HaveOpen numbers old kept files → HaveOpen numbers new kept (after_close files pid fd) → Goes files (after_close files pid fd) (node_closed old (named_at old kept pid fd))
+closing_goes old new kept pid fd numbers files listed owners listed_new owners_new closes have then =
     let back : CachesChange new closes.mid =
     sym (ap (λ (h : Heap). record h { vnodes = closes.mid.vnodes; names = closes.mid.names; blocks = closes.mid.blocks; high = closes.mid.high }) closes.caches) in
-    goes_with old closes.mid kept pid fd listed owners closes.closes (listed_beside new closes.mid back kept listed_new) numbers files have
-    (have_beside new closes.mid back numbers kept (after_close files pid fd) (after_close files pid fd) refl refl refl refl then) (node_closed old.descs (named_at old kept pid fd)) refl
+    goes_with old closes.mid kept pid fd listed owners closes.closes (listed_beside new closes.mid back kept listed_new) (owners_beside new closes.mid back [] owners_new) numbers files have
+    (have_beside new closes.mid back numbers kept (after_close files pid fd) (after_close files pid fd) refl refl refl refl refl then) (node_closed old (named_at old kept pid fd)) refl
 
 -- where each node is opened as often as before none went with it
 pub none_goes : (files next : Files) (went : Option ℕ) → Goes files next went → ((n : ℕ) → openings next n ≡ openings files n) → went ≡ None
@@ -98,7 +99,7 @@ ends_none files next none goes n = ap (times n) (same_openings next files next.d
         (sym (ap (λ (a : Option Description). is_some (opened_node files a) && is_none (description_at next.descriptions place)) there ∙ ap (λ (b : Option Description). is_some (node_of files d.target) && is_none b) is)
         ∙ ends_so place d there)
     some_left place d (Some still) there is =
-        same_node next files still.target ∙ ap (λ (e : Description). node_of files e.target) (some_same (description_at files.descriptions place) still d (goes.left place still is) there)
+        goes.nodes place still is ∙ ap (λ (e : Description). node_of files e.target) (some_same (description_at files.descriptions place) still d (goes.left place still is) there)
 
     each_of : (place : ℕ) (o : Option Description) → description_at files.descriptions place ≡ o → opened_node next (description_at next.descriptions place) ≡ opened_node files o
     each_of place None gone = none_left place (description_at next.descriptions place) gone refl

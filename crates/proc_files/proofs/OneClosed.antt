@@ -20,11 +20,11 @@ use Rattle.proc_files.proofs.Closed.{closed_gone, closed_none, held_to_close, st
 use Rattle.proc_files.proofs.Closings.{Goes, goes_with}
 
 module _ (old mid : Heap) (kept : TableView) (pid fd : ℕ) (purse : Purse) (fs : TreeView) (listed : AreListed old kept) (owners : HasItsOwners old []) (closes : ClosesNumber old mid kept pid fd)
-    (listed_then : AreListed mid kept) (takes : TakesNothing old mid) (may : MayClose old purse)
+    (listed_then : AreListed mid kept) (owners_then : HasItsOwners mid []) (takes : TakesNothing old mid) (may : MayClose old purse)
     (closed : (numbers : Numbers) (files : Files) → HaveOpen numbers old kept files → HaveOpen numbers mid kept (after_close files pid fd)) (gone : Option ℕ)
-    (is : gone ≡ node_closed old.descs (named_at old kept pid fd)) where
+    (is : gone ≡ node_closed old (named_at old kept pid fd)) where
   goes_so : (numbers : Numbers) (others : ℕ → ℕ) (files : Files) → HoldFiles numbers others old kept fs files → Goes files (after_close files pid fd) gone
-  goes_so numbers others files hold = goes_with old mid kept pid fd listed owners closes listed_then numbers files hold.opened (closed numbers files hold.opened) gone is
+  goes_so numbers others files hold = goes_with old mid kept pid fd listed owners closes listed_then owners_then numbers files hold.opened (closed numbers files hold.opened) gone is
 
   -- what they stand for where no node goes
   pub holds_still : gone ≡ None → (numbers : Numbers) (others : ℕ → ℕ) (files : Files) → HoldFiles numbers others old kept fs files → HoldFiles numbers others mid kept fs (after_close files pid fd)

@@ -102,7 +102,7 @@ module _ (numbers : Numbers) (others : ℕ → ℕ) (old mid : Heap) (kept : Tab
     leads = open_leads files.tree flags (resolve files.tree cwd path) node led_to.next hold.tree.is_tree (path_led_in files.tree cwd path fs.disk.blocks one hold.tree.behind stands hold.tree.is_tree dir) led_to.is
 
     anew : HaveAnew numbers mid new kept (opened_as (with_tree files led_to.next) pid fd (has_flag flags o_cloexec) (description_for node flags))
-    anew = opened numbers (with_tree files led_to.next) (have_beside old mid caches numbers kept files (with_tree files led_to.next) refl refl refl refl hold.opened)
+    anew = opened numbers (with_tree files led_to.next) (have_beside old mid caches numbers kept files (with_tree files led_to.next) refl refl refl refl refl hold.opened)
 
     pub opened_by : Opened numbers others old new kept is files (open_path files.tree cwd path (opening_of flags)) flags pid fd node
     opened_by = record {

@@ -103,7 +103,7 @@ module _ (old : Heap) (before : Purse) (new : Heap) (after : Purse) (was now : T
       pub read_hold : HoldFiles numbers others new kept now plain.files
       read_hold = record {
         opened = open_put mid reads.spent new after kept pid space start bytes mid_kept mid_space reads.puts numbers plain.files
-            (have_beside old mid fetched numbers kept plain.files plain.files refl refl refl refl hold.opened);
+            (have_beside old mid fetched numbers kept plain.files plain.files refl refl refl refl refl hold.opened);
         tree = stands_on mid new now plain.files.tree (holders others plain.files) caches_put (reads.fetches.stands plain.files.tree (holders others plain.files) hold.tree);
         nodes = hold.nodes;
         beside = hold.beside;

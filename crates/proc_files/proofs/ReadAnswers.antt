@@ -7,7 +7,7 @@ use Rattle.kabi_types.specs.declared.replies.Reply.TheVariants.{Val}
 use Rattle.kabi_types.specs.declared.scripts.Script.{Script}
 use Rattle.kheap_slabs.specs.declared.objects.Target.{Target}
 use Rattle.kheap_slabs.specs.declared.objects.Target.TheVariants as target
-use Rattle.open_laws.specs.Described.{access_in, node_in, target_in}
+use Rattle.open_laws.specs.Described.{access_in, inode_in, target_in}
 use Rattle.open_laws.specs.Placed.{Numbers}
 use Rattle.posix_defs.specs.Answer.{Answer, failed, replied}
 use Rattle.posix_defs.specs.Calls.Opened.{Opened, answer_on, if_readable, opened_at}
@@ -70,10 +70,10 @@ module _ (script : Script) (numbers : Numbers) (plain : Plain) (pid : ℕ) (fd a
     unfolding pread
     pread_is at may = may_be_read script numbers plain pid fd (of_pread at) it found true may
 
-    pub pread_refused : (at : ℤ) → may_read (access_in it.desc.access) ≡ true → node_in it.desc.target ≡ None → pread script plain pid fd addr n at ≡ failed script plain pid ESPIPE
+    pub pread_refused : (at : ℤ) → may_read (access_in it.desc.access) ≡ true → inode_in it.desc.target ≡ None → pread script plain pid fd addr n at ≡ failed script plain pid ESPIPE
     pread_refused at may none = pread_is at may ∙ by_target it.desc.target none
       where
-        by_target : (what : Target) → node_in what ≡ None → pread_target script plain pid addr n (count_of at) (target_in numbers what) ≡ failed script plain pid ESPIPE
+        by_target : (what : Target) → inode_in what ≡ None → pread_target script plain pid addr n (count_of at) (target_in numbers what) ≡ failed script plain pid ESPIPE
         by_target (target.Inode number) none = cc
         by_target (target.Pipe key) none = refl
         by_target (target.Sock key) none = refl
@@ -82,10 +82,10 @@ module _ (script : Script) (numbers : Numbers) (plain : Plain) (pid : ℕ) (fd a
     unfolding readdir
     readdir_is = ap (answer_on script plain pid (λ opened. list_target script plain pid opened addr n opened.is.target)) found
 
-    pub readdir_refused : node_in it.desc.target ≡ None → readdir script plain pid fd addr n ≡ failed script plain pid ENOTDIR
+    pub readdir_refused : inode_in it.desc.target ≡ None → readdir script plain pid fd addr n ≡ failed script plain pid ENOTDIR
     readdir_refused none = readdir_is ∙ by_target it.desc.target none
       where
-        by_target : (what : Target) → node_in what ≡ None → list_target script plain pid (opened_in numbers it) addr n (target_in numbers what) ≡ failed script plain pid ENOTDIR
+        by_target : (what : Target) → inode_in what ≡ None → list_target script plain pid (opened_in numbers it) addr n (target_in numbers what) ≡ failed script plain pid ENOTDIR
         by_target (target.Inode number) none = cc
         by_target (target.Pipe key) none = refl
         by_target (target.Sock key) none = refl

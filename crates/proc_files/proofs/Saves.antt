@@ -10,7 +10,7 @@ use Rattle.kheap_slabs.specs.Heap.{Heap}
 use Rattle.memfs_file.specs.Ranges.{asked_to_read}
 use Rattle.cached_disk.specs.Lent.{IsCached}
 use Rattle.memfs_ops.specs.FileTree.{IsUsed, TreeView}
-use Rattle.open_laws.specs.Described.{node_in}
+use Rattle.open_laws.specs.Described.{inode_in}
 use Rattle.posix_defs.specs.DiskContents.{data_block}
 use Rattle.posix_defs.specs.DiskFormat.{block_size}
 use Rattle.posix_defs.specs.SoundDisk.{HasNode}
@@ -34,7 +34,7 @@ module _ (h : Heap) (kept : TableView) (pid : ℕ) (fd : ℤ) (was mid : TreeVie
       let same_held : named.held ≡ held = some_same (named_by h kept pid fd) named.held held named.is named_too in
       let key : held.desc ≡ it.key = sym (ap (λ (d : HeldDescriptor). d.desc) same_held) ∙ named.same in
       let same : desc ≡ it.desc = some_same (object h.descs it.key) desc it.desc (ap (object h.descs) (sym key) ∙ there_too) there in
-      let node_same : number ≡ node = some_same (Some number) number node refl (ap node_in (sym on_too ∙ ap (λ (d : Desc). d.target) same ∙ on)) in
+      let node_same : number ≡ node = some_same (Some number) number node refl (ap inode_in (sym on_too ∙ ap (λ (d : Desc). d.target) same ∙ on)) in
       let has_mid = subst (λ n. HasNode mid.disk.blocks n inode) node_same (subst (λ (fs : TreeView). HasNode fs.disk.blocks number inode) (sym used.same) has) in
       let cached_mid =
       subst (λ n. AllByRecursion (IsCached mid.blocks) (asked_to_read mid.disk.blocks inode n count)) (ap at same ∙ sym begins)
@@ -49,7 +49,7 @@ module _ (h : Heap) (kept : TableView) (pid : ℕ) (fd : ℤ) (was mid : TreeVie
       let same_held : named.held ≡ held = some_same (named_by h kept pid fd) named.held held named.is named_too in
       let key : held.desc ≡ it.key = sym (ap (λ (d : HeldDescriptor). d.desc) same_held) ∙ named.same in
       let same : desc ≡ it.desc = some_same (object h.descs it.key) desc it.desc (ap (object h.descs) (sym key) ∙ there_too) there in
-      let node_same : number ≡ node = some_same (Some number) number node refl (ap node_in (sym on_too ∙ ap (λ (d : Desc). d.target) same ∙ on)) in
+      let node_same : number ≡ node = some_same (Some number) number node refl (ap inode_in (sym on_too ∙ ap (λ (d : Desc). d.target) same ∙ on)) in
       let has_mid = subst (λ n. HasNode mid.disk.blocks n inode) node_same (subst (λ (fs : TreeView). HasNode fs.disk.blocks number inode) (sym used.same) has) in
       subst (λ (d : Desc). IsCached is.blocks (data_block was.disk.blocks inode ((at d + count - 1) / block_size))) (sym same)
       (subst (λ n. IsCached is.blocks (data_block was.disk.blocks inode ((n + count - 1) / block_size))) begins

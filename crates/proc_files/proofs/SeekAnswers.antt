@@ -13,7 +13,7 @@ use Rattle.kheap_slabs.specs.declared.objects.Target.{Target}
 use Rattle.kheap_slabs.specs.declared.objects.Target.TheVariants as target
 use Rattle.kheap_slabs.specs.Heap.{Heap}
 use Rattle.memfs_ops.specs.FileTree.{Stands, TreeView}
-use Rattle.open_laws.specs.Described.{counted_in, node_in, target_in}
+use Rattle.open_laws.specs.Described.{counted_in, inode_in, target_in}
 use Rattle.open_laws.specs.Owned.{HasItsOwners}
 use Rattle.open_laws.specs.Placed.{Numbers}
 use Rattle.posix_defs.specs.Answer.{Answer, failed, replied}
@@ -98,10 +98,10 @@ module _ (script : Script) (numbers : Numbers) (plain : Plain) (pid : ℕ) (fd :
         ap (answer_on script plain pid (λ opened. seek_target script plain pid opened offset (count_of whence) opened.is.target)) found
 
     -- on what has no node
-    pub lseek_refused : (offset whence : ℤ) → node_in it.desc.target ≡ None → lseek script plain pid fd offset whence ≡ failed script plain pid ESPIPE
+    pub lseek_refused : (offset whence : ℤ) → inode_in it.desc.target ≡ None → lseek script plain pid fd offset whence ≡ failed script plain pid ESPIPE
     lseek_refused offset whence none = lseek_is offset whence ∙ by_target it.desc.target none
       where
-        by_target : (what : Target) → node_in what ≡ None → seek_target script plain pid (opened_in numbers it) offset (count_of whence) (target_in numbers what) ≡ failed script plain pid ESPIPE
+        by_target : (what : Target) → inode_in what ≡ None → seek_target script plain pid (opened_in numbers it) offset (count_of whence) (target_in numbers what) ≡ failed script plain pid ESPIPE
         by_target (target.Inode number) none = cc
         by_target (target.Pipe key) none = refl
         by_target (target.Sock key) none = refl

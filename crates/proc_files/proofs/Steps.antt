@@ -15,14 +15,14 @@ use Rattle.proc_files.specs.Holding.{CachesStay, HoldFiles}
 use Rattle.proc_files.specs.Holders.{holders, times}
 use Rattle.proc_files.proofs.Beside.{have_beside}
 use Rattle.proc_files.proofs.Holding.{same_pins, stands_on}
-use Rattle.proc_files.proofs.Openings.{same_nodes}
+use Rattle.proc_files.proofs.Openings.{all_same, same_node, same_nodes}
 use Rattle.proc_files.proofs.Made.{MakesName, used_apart}
 
 module _ (numbers : Numbers) (others : ℕ → ℕ) (old mid : Heap) (kept : TableView) (fs now : TreeView) (files : Files) (caches : CachesChange old mid) (hold : HoldFiles numbers others old kept fs files) where
   -- a path was walked
   pub files_walked : Stands mid now files.tree (holders others files) → HoldFiles numbers others mid kept now files
   files_walked stands = record {
-    opened = have_beside old mid caches numbers kept files files refl refl refl refl hold.opened;
+    opened = have_beside old mid caches numbers kept files files refl refl refl refl refl hold.opened;
     tree = stands;
     nodes = hold.nodes;
     beside = hold.beside;
@@ -31,11 +31,11 @@ module _ (numbers : Numbers) (others : ℕ → ℕ) (old mid : Heap) (kept : Tab
   -- a socket's name was made
   pub files_named : (next : Tree) (made : ℕ) → MakesName files.tree next made → Stands mid now next (holders others files) → HoldFiles numbers others mid kept now (with_tree files next)
   files_named next made makes stands = record {
-    opened = have_beside old mid caches numbers kept files (with_tree files next) refl refl refl refl hold.opened;
+    opened = have_beside old mid caches numbers kept files (with_tree files next) refl refl refl refl refl hold.opened;
     tree = same_pins mid now next (holders others files) (holders others (with_tree files next))
-        (λ n. ap (λ nodes. others n + times n nodes) (same_nodes files (with_tree files next) files.descriptions)) stands;
+        (λ n. ap (λ nodes. others n + times n nodes) (same_nodes files (with_tree files next) files.descriptions (all_same files (with_tree files next) files.descriptions refl))) stands;
     nodes = λ place number description there on.
-        let it = hold.nodes place number description there on in
+        let it = hold.nodes place number description there (same_node files (with_tree files next) refl description.target ∙ on) in
         let apart : number ≢ made = used_apart files.tree next made makes number it.used in
         record {
           used = makes.used number it.used;
@@ -68,8 +68,8 @@ files_resocketed numbers now others mid new kept fs files sockets leaves have ho
   opened = have;
   tree =
       same_pins new fs files.tree (holders others files) (holders others (with_sockets files sockets))
-      (λ n. ap (λ nodes. others n + times n nodes) (same_nodes files (with_sockets files sockets) files.descriptions))
+      (λ n. ap (λ nodes. others n + times n nodes) (same_nodes files (with_sockets files sockets) files.descriptions (all_same files (with_sockets files sockets) files.descriptions refl)))
       (stands_on mid new fs files.tree (holders others files) (caches_stay mid new leaves) hold.tree);
-  nodes = hold.nodes;
+  nodes = λ place number description there on. hold.nodes place number description there (same_node files (with_sockets files sockets) refl description.target ∙ on);
   beside = hold.beside;
 }

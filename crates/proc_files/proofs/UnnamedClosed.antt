@@ -19,10 +19,11 @@ use Rattle.open_laws.specs.Socketed.{AreRenamed}
 use Rattle.open_laws.proofs.SocketLemmas.{closed_renamed}
 use Rattle.open_laws.specs.Placed.{Numbers}
 use Rattle.posix_defs.specs.DiskFormat.{table_nodes}
-use Rattle.posix_defs.specs.Files.Closing.{after_close, close_in, description_gone, gone_in, released, target_closed}
-use Rattle.posix_defs.specs.Files.Descriptions.{Description, OnNode, OnPipe, OnSocket, Target, description_at, with_description}
+use Rattle.posix_defs.specs.Files.Closing.{after_close, close_in, description_gone, gone_in, left_fifo, released, target_closed}
+use Rattle.posix_defs.specs.Files.Descriptions.{Description, OnNode, OnPipe, OnSocket, Target, description_at, may_write, with_description}
 use Rattle.posix_defs.specs.Files.Descriptors.{is_named}
-use Rattle.posix_defs.specs.Files.State.{Files, opens, with_descriptions, with_open, with_sockets, with_tree}
+use Rattle.posix_defs.specs.Files.State.{Files, node_of as file_node, opens, pipe_at, with_descriptions, with_open, with_pipe, with_sockets, with_tree}
+use Rattle.posix_defs.specs.Pipe.{after_close as pipe_after_close}
 use Rattle.posix_defs.specs.IsTree.{IsTree}
 use Rattle.posix_defs.specs.PathCalls.{is_socket, is_socket_kind, kind_in}
 use Rattle.posix_defs.specs.SocketLinks.{WaitsFor, WaitsNowhere}
@@ -41,7 +42,7 @@ use Rattle.proc_numbers.proofs.NumberNames.{descriptor_at_is}
 use Rattle.proc_numbers.proofs.NamedOpen.{described_so}
 use Rattle.proc_files.specs.Closing.{CachesChange, ClosesHolding}
 use Rattle.proc_files.specs.Holding.{HoldFiles}
-use Rattle.proc_files.proofs.Beside.{have_beside, listed_beside}
+use Rattle.proc_files.proofs.Beside.{have_beside, listed_beside, owners_beside}
 use Rattle.proc_files.proofs.Closings.{Goes, closes_so, goes_with, none_names, still_named, tree_left}
 use Rattle.proc_numbers.proofs.Told.{keyed_there, on_named, socket_there}
 use Rattle.proc_files.specs.Names.{name_of}
@@ -119,9 +120,17 @@ gone_elsewhere files place description is off = ap (λ (f : Files). f.sockets) (
     by_opens number true = refl
     by_opens number false = refl
 
+    left_or : (from : Files) (number : ℕ) (b : Bool) → (cond b from (with_tree from (closed from.tree number))).sockets ≡ from.sockets
+    left_or from number true = refl
+    left_or from number false = refl
+
+    by_fifo : (from : Files) (o : Option ℕ) → from.sockets ≡ files.sockets → (left_fifo from o).sockets ≡ files.sockets
+    by_fifo from None same = same
+    by_fifo from (Some number) same = left_or from number (opens from number) ∙ same
+
     by_target : (what : Target) → ((socket : ℕ) → what ≡ OnSocket socket → ⊥) → (target_closed (rest files place) description.access what).sockets ≡ files.sockets
     by_target (OnNode number) never = by_opens number (opens (rest files place) number)
-    by_target (OnPipe pipe) never = refl
+    by_target (OnPipe pipe) never = by_fifo (with_pipe (rest files place) pipe (pipe_after_close (pipe_at files pipe) (may_write description.access))) (file_node files (OnPipe pipe)) refl
     by_target (OnSocket socket) never = absurd (never socket refl)
 
 -- the socket that goes with one descriptor less of a Desc is the one that it is open on, which is named
@@ -156,7 +165,7 @@ module _ (numbers : Numbers) (others : ℕ → ℕ) (old mid new : Heap) (kept :
     (listed : AreListed old kept) (owners : HasItsOwners old []) (before : HoldNames numbers others old kept fs names files)
     (procs : mid.procs ≡ old.procs) (leaves : mid.leaves ≡ old.leaves) (descs : mid.descs ≡ old.descs) (listed_mid : AreListed mid kept) (owners_mid : HasItsOwners mid [])
     (hold : HoldNames numbers others mid kept fs after (unnamed numbers files (socket_going desc)))
-    (closes : ClosesHolding mid new kept pid fd) (listed_new : AreListed new kept)
+    (closes : ClosesHolding mid new kept pid fd) (listed_new : AreListed new kept) (owners_new : HasItsOwners new [])
     (leads : (n : Numbers) (o : ℕ → ℕ) (f : Files) → HoldFiles n o mid kept fs f → HoldFiles n o new kept now (after_close f pid fd)) where
   abbrev going : Option ℕ
   going = socket_going desc
@@ -175,8 +184,11 @@ module _ (numbers : Numbers) (others : ℕ → ℕ) (old mid new : Heap) (kept :
   listed_then : AreListed closes.mid kept
   listed_then = listed_beside new closes.mid back kept listed_new
 
+  owners_then : HasItsOwners closes.mid []
+  owners_then = owners_beside new closes.mid back [] owners_new
+
   have_then : HaveOpen numbers closes.mid kept (after_close first pid fd)
-  have_then = have_beside new closes.mid back numbers kept (after_close first pid fd) (after_close first pid fd) refl refl refl refl held_new.opened
+  have_then = have_beside new closes.mid back numbers kept (after_close first pid fd) (after_close first pid fd) refl refl refl refl refl held_new.opened
 
   -- what is named is as before
   named_mid : named_at mid kept pid fd ≡ named_at old kept pid fd
@@ -184,9 +196,9 @@ module _ (numbers : Numbers) (others : ℕ → ℕ) (old mid new : Heap) (kept :
       ap (λ (l : List (Option Leaf)). named_at (record old { procs = mid.procs; leaves = l }) kept pid fd) leaves
       ∙ ap (λ (p : List (Option Proc)). named_at (record old { procs = p }) kept pid fd) procs
 
-  goes : Goes first (after_close first pid fd) (node_closed mid.descs (named_at mid kept pid fd))
+  goes : Goes first (after_close first pid fd) (node_closed mid (named_at mid kept pid fd))
   goes =
-      goes_with mid closes.mid kept pid fd listed_mid owners_mid closes.closes listed_then numbers first hold.held.opened have_then (node_closed mid.descs (named_at mid kept pid fd)) refl
+      goes_with mid closes.mid kept pid fd listed_mid owners_mid closes.closes listed_then owners_then numbers first hold.held.opened have_then (node_closed mid (named_at mid kept pid fd)) refl
 
   -- ---- what goes
 
@@ -200,21 +212,21 @@ module _ (numbers : Numbers) (others : ℕ → ℕ) (old mid new : Heap) (kept :
   there_mid = ap (λ (d : List (Option Desc)). object d held.desc) descs ∙ there
 
   released_so : after_close first pid fd ≡ released (with_open first pid fd None) place
-  released_so = closes_so mid closes.mid kept pid fd listed_mid owners_mid closes.closes listed_then numbers first hold.held.opened have_then held desc is_mid there_mid
+  released_so = closes_so mid closes.mid kept pid fd listed_mid owners_mid closes.closes listed_then owners_then numbers first hold.held.opened have_then held desc is_mid there_mid
 
   -- another descriptor names the description
   other_names : desc.count ≢ 1 → (after_close first pid fd).sockets ≡ first.sockets
   other_names more =
       ap (λ (f : Files). f.sockets) (released_so
       ∙ ap (λ b. cond b (with_open first pid fd None) (description_gone (with_open first pid fd None) place))
-      (still_named mid closes.mid kept pid fd listed_mid owners_mid closes.closes listed_then numbers first hold.held.opened have_then held desc is_mid there_mid more))
+      (still_named mid closes.mid kept pid fd listed_mid owners_mid closes.closes listed_then owners_then numbers first hold.held.opened have_then held desc is_mid there_mid more))
 
   -- or it was the last
   last_gone : desc.count ≡ 1 → after_close first pid fd ≡ description_gone (with_open first pid fd None) place
   last_gone last =
       released_so
       ∙ ap (λ b. cond b (with_open first pid fd None) (description_gone (with_open first pid fd None) place))
-      (none_names mid closes.mid kept pid fd listed_mid owners_mid closes.closes listed_then numbers first hold.held.opened have_then held desc is_mid there_mid last)
+      (none_names mid closes.mid kept pid fd listed_mid owners_mid closes.closes listed_then owners_then numbers first hold.held.opened have_then held desc is_mid there_mid last)
 
   described : description_at first.descriptions place ≡ Some (counted_in numbers desc).is
   described = described_so numbers mid hold.held.opened.list first held.desc desc hold.held.opened.opened there_mid
@@ -278,7 +290,7 @@ module _ (numbers : Numbers) (others : ℕ → ℕ) (old mid new : Heap) (kept :
         none : is_named (with_open files pid fd None).descriptors place ≡ false
         none =
             ap (λ (f : Files). is_named (with_open f pid fd None).descriptors place) (sym first_is)
-            ∙ none_names mid closes.mid kept pid fd listed_mid owners_mid closes.closes listed_then numbers first hold.held.opened have_then held desc is_mid there_mid last
+            ∙ none_names mid closes.mid kept pid fd listed_mid owners_mid closes.closes listed_then owners_then numbers first hold.held.opened have_then held desc is_mid there_mid last
 
     same : after_close first pid fd ≡ after_close files pid fd
     same =
@@ -344,10 +356,10 @@ module _ (numbers : Numbers) (others : ℕ → ℕ) (old mid new : Heap) (kept :
     named = record {
       bound = λ place number is none.
           subst (λ t. is_socket t number ≡ true) (sym goes.tree)
-          (left_names first.tree (node_closed mid.descs (named_at mid kept pid fd)) (opens (after_close first pid fd)) hold.held.tree.is_tree number (hold.named.bound place number (sym (so.nodes place) ∙ is) none));
+          (left_names first.tree (node_closed mid (named_at mid kept pid fd)) (opens (after_close first pid fd)) hold.held.tree.is_tree number (hold.named.bound place number (sym (so.nodes place) ∙ is) none));
       waiting = λ listener place waits. so.nodes place ∙ hold.named.waiting listener place (so.waits listener place waits);
     };
     places =
         subst (λ n. table_nodes n < length after)
-        (sym (ap (λ t. t.blocks) goes.tree ∙ left_blocks first.tree (node_closed mid.descs (named_at mid kept pid fd)) (opens (after_close first pid fd)))) hold.places;
+        (sym (ap (λ t. t.blocks) goes.tree ∙ left_blocks first.tree (node_closed mid (named_at mid kept pid fd)) (opens (after_close first pid fd)))) hold.places;
   })

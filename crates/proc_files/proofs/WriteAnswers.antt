@@ -6,7 +6,7 @@ use Rattle.kabi_types.specs.declared.replies.Reply.TheVariants.{Val}
 use Rattle.kabi_types.specs.declared.scripts.Script.{Script}
 use Rattle.kheap_slabs.specs.declared.objects.Target.{Target}
 use Rattle.kheap_slabs.specs.declared.objects.Target.TheVariants as target
-use Rattle.open_laws.specs.Described.{access_in, node_in, target_in}
+use Rattle.open_laws.specs.Described.{access_in, inode_in, target_in}
 use Rattle.open_laws.specs.Placed.{Numbers}
 use Rattle.posix_defs.specs.Answer.{Answer, failed, replied}
 use Rattle.posix_defs.specs.Calls.OnFiles.{ftruncate, resized_to, truncate_target}
@@ -58,10 +58,10 @@ module _ (script : Script) (numbers : Numbers) (plain : Plain) (pid : ℕ) (fd a
     unfolding pwrite
     pwrite_is at may = may_be_written script numbers plain pid fd (of_pwrite at) it found true may
 
-    pub pwrite_refused : (at : ℤ) → may_write (access_in it.desc.access) ≡ true → node_in it.desc.target ≡ None → pwrite script plain pid fd addr n at ≡ failed script plain pid ESPIPE
+    pub pwrite_refused : (at : ℤ) → may_write (access_in it.desc.access) ≡ true → inode_in it.desc.target ≡ None → pwrite script plain pid fd addr n at ≡ failed script plain pid ESPIPE
     pwrite_refused at may none = pwrite_is at may ∙ by_target it.desc.target none
       where
-        by_target : (what : Target) → node_in what ≡ None → pwrite_target script plain pid addr n (count_of at) (target_in numbers what) ≡ failed script plain pid ESPIPE
+        by_target : (what : Target) → inode_in what ≡ None → pwrite_target script plain pid addr n (count_of at) (target_in numbers what) ≡ failed script plain pid ESPIPE
         by_target (target.Inode number) none = cc
         by_target (target.Pipe key) none = refl
         by_target (target.Sock key) none = refl
@@ -122,10 +122,10 @@ module _ (script : Script) (numbers : Numbers) (plain : Plain) (pid : ℕ) (fd s
     unfolding ftruncate
     ftruncate_is = ap (answer_on script plain pid (λ opened. truncate_target script plain pid opened (count_of size) opened.is.target)) found
 
-    pub ftruncate_refused : node_in it.desc.target ≡ None → ftruncate script plain pid fd size ≡ failed script plain pid EINVAL
+    pub ftruncate_refused : inode_in it.desc.target ≡ None → ftruncate script plain pid fd size ≡ failed script plain pid EINVAL
     ftruncate_refused none = ftruncate_is ∙ by_target it.desc.target none
       where
-        by_target : (what : Target) → node_in what ≡ None → truncate_target script plain pid (opened_in numbers it) (count_of size) (target_in numbers what) ≡ failed script plain pid EINVAL
+        by_target : (what : Target) → inode_in what ≡ None → truncate_target script plain pid (opened_in numbers it) (count_of size) (target_in numbers what) ≡ failed script plain pid EINVAL
         by_target (target.Inode number) none = cc
         by_target (target.Pipe key) none = refl
         by_target (target.Sock key) none = refl

@@ -21,7 +21,7 @@ use Rattle.proc_files.specs.Holding.{HasSameKinds, HoldFiles}
 use Rattle.proc_files.specs.Holders.{holders, times}
 use Rattle.proc_files.proofs.Beside.{have_beside}
 use Rattle.proc_files.proofs.Holding.{same_pins}
-use Rattle.proc_files.proofs.Openings.{same_nodes}
+use Rattle.proc_files.proofs.Openings.{all_same, same_node, same_nodes}
 
 -- ---- a tree in which a file has other bytes
 
@@ -85,11 +85,11 @@ resize_kinds tree number size after is = by_size (nat_lt greatest_size size) (na
 pub hold_written : (numbers : Numbers) (others : ℕ → ℕ) (old new : Heap) (kept : TableView) (fs now : TreeView) (files : Files) (tree : Tree) → HoldFiles numbers others old kept fs files
     → CachesChange old new → HasSameKinds files.tree tree → Stands new now tree (holders others files) → HoldFiles numbers others new kept now (with_tree files tree)
 hold_written numbers others old new kept fs now files tree hold caches kinds stands = record {
-  opened = have_beside old new caches numbers kept files (with_tree files tree) refl refl refl refl hold.opened;
+  opened = have_beside old new caches numbers kept files (with_tree files tree) refl refl refl refl refl hold.opened;
   tree = same_pins new now tree (holders others files) (holders others (with_tree files tree))
-      (λ n. ap (λ nodes. others n + times n nodes) (same_nodes files (with_tree files tree) files.descriptions)) stands;
+      (λ n. ap (λ nodes. others n + times n nodes) (same_nodes files (with_tree files tree) files.descriptions (all_same files (with_tree files tree) files.descriptions refl))) stands;
   nodes = λ place number d there on.
-      let it = hold.nodes place number d there on in
+      let it = hold.nodes place number d there (same_node files (with_tree files tree) refl d.target ∙ on) in
       record {
         used = kinds.used number ∙ it.used;
         unnamed = kinds.sockets number ∙ it.unnamed;

@@ -2,18 +2,20 @@
 use Rattle.std.specs.Prelude.{ℕ, zero, suc, ◌≡◌, ◌<◌, ◌≤◌, Bool, true, false, if◌then◌else◌, List, Option, None, Some, slice_index_or, slice_set}
 use Rattle.kheap_slabs.specs.declared.objects.Descriptor.{Descriptor as HeldDescriptor}
 use Rattle.kheap_slabs.specs.Heap.{Heap}
-use Rattle.posix_defs.specs.Files.Closing.{after_close}
+use Rattle.posix_defs.specs.Files.Closing.{after_close, after_closes, all_numbers}
 use Rattle.posix_defs.specs.Files.Descriptions.{Description, description_at}
-use Rattle.posix_defs.specs.Files.State.{Files}
+use Rattle.posix_defs.specs.Files.State.{Files, node_of}
 use Rattle.proc_table.specs.Procs.{OpensNone, numbers_in}
 use Rattle.proc_table.specs.Table.{TableView}
 use Rattle.proc_files.specs.Closing.{ChangesHolding}
 use Rattle.proc_files.specs.Holders.{openings}
 
--- Descriptions go, and nothing of another is other: nobody opens a node more often, and what is there is what was there.
+-- Descriptions go, and nothing of another is other: nobody opens a node more often, and what is there is what was there, on the node that
+-- it was on.
 pub record OnlyGoes (files next : Files) : Type 0 where
   pub fewer : (number : ℕ) → openings next number ≤ openings files number
   pub left : (place : ℕ) (description : Description) → description_at next.descriptions place ≡ Some description → description_at files.descriptions place ≡ Some description
+  pub nodes : (place : ℕ) (description : Description) → description_at next.descriptions place ≡ Some description → node_of next description.target ≡ node_of files description.target
 
 -- ---- which are closed
 
@@ -34,6 +36,10 @@ goes_at_exec places fd = has_mark (slice_index_or places fd None)
 abbrev pub closed_where : (ℕ → Bool) → Files → ℕ → ℕ → Files
 closed_where test files pid zero = files
 closed_where test files pid (suc fd) = if test fd then after_close (closed_where test files pid fd) pid fd else closed_where test files pid fd
+
+-- the machine's files once a process has closed all that it has open, as one that ends
+unfoldable pub closed_each : Files → ℕ → Files
+closed_each files pid = after_closes files pid all_numbers
 
 -- ---- in the heap
 

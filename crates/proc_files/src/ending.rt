@@ -8,7 +8,7 @@ ghost use Rattle.kheap_slabs.specs.declared.objects.Proc.{Proc as HeldProc};
 ghost use Rattle.memfs_ops.specs.Closing.{KeepsCached};
 ghost use Rattle.open_laws.specs.Owned.{HasItsOwners};
 ghost use Rattle.open_laws.specs.Placed.{Numbers};
-ghost use Rattle.posix_defs.specs.Files.Closing.{after_close, after_closes, after_exec_of, all_numbers};
+ghost use Rattle.posix_defs.specs.Files.Closing.{after_close, after_exec_of};
 ghost use Rattle.posix_defs.specs.Files.State.{Files};
 ghost use Rattle.posix_defs.specs.Reaching.{ends_node};
 ghost use Rattle.kabi_types.specs.Arguments.{most_descriptors};
@@ -19,7 +19,7 @@ ghost use Rattle.proc_numbers.specs.Naming.{named_at, places_of};
 ghost use Rattle.proc_numbers.specs.Queues.{QueuesStand};
 ghost use Rattle.proc_files.specs.Closing.{ChangesHolding, MayClose};
 ghost use Rattle.proc_files.specs.Holders.{openings};
-ghost use Rattle.proc_files.specs.Ending.{ClosesEach, ClosesIf, ClosesMarked, OnlyGoes, closed_where, goes_at_exec, has_mark, is_marked};
+ghost use Rattle.proc_files.specs.Ending.{ClosesEach, ClosesIf, ClosesMarked, OnlyGoes, closed_each, closed_where, goes_at_exec, has_mark, is_marked};
 ghost use Rattle.proc_files.specs.NameHolding.{HoldNames, HoldSomeNames};
 
 use crate::closing::close_at;
@@ -55,7 +55,7 @@ pub fn close_each(
     requires may { MayClose heap.old purse.old }
     ensures closed { (numbers : Numbers) (others : ℕ → ℕ) (files : Files)
         → HoldNames numbers others heap.old procs.now tree.old names.old files
-        → HoldNames numbers others heap.new procs.now tree.new names.new (after_closes files place.pid all_numbers) }
+        → HoldNames numbers others heap.new procs.now tree.new names.new (closed_each files place.pid) }
     ensures listed { AreListed heap.new procs.now }
     ensures owners { HasItsOwners heap.new [] }
     ensures chain { IsChain heap.new fifos.new }
@@ -68,7 +68,7 @@ pub fn close_each(
     ensures paid { IsPaid heap.old purse.old heap.new purse.new }
     ensures reads { tree.old.disk.reads ≤ tree.new.disk.reads }
     ensures stays { (numbers : Numbers) (others : ℕ → ℕ) (files : Files)
-        → HoldNames numbers others heap.old procs.now tree.old names.old files → ends_node files (after_closes files place.pid all_numbers) ≡ false
+        → HoldNames numbers others heap.old procs.now tree.old names.old files → ends_node files (closed_each files place.pid) ≡ false
         → tree.new ≡ tree.old }
 {
     // Most processes that end have nothing open.

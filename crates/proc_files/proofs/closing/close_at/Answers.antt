@@ -63,4 +63,4 @@ pub returns-clause-stays : goal.returns-clause-stays
 returns-clause-stays c = λ none.
     let number : c.opened-on.result.fd ≡ pos c.args.fd = c.opened-on.ensures.number ∙ to_z-of_z w64 c.from.result (record { sfits = c.from.type_inv }) ∙ c.from.ensures in
     let same : c.in-Some.found.number ≡ c.args.fd = is_counted c.args.heap.now c.args.procs.now c.args.place.pid c.opened-on.result c.opened-on.ensures.opened c.in-Some.found c.in-Some.is ∙ ap count_of number in
-    c.close_open.ensures.stays (ap (λ n. node_closed c.args.heap.now.descs (named_at c.args.heap.now c.args.procs.now c.args.place.pid n)) same ∙ none)
+    c.close_open.ensures.stays (ap (λ n. node_closed c.args.heap.now (named_at c.args.heap.now c.args.procs.now c.args.place.pid n)) same ∙ none)

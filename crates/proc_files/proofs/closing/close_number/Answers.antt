@@ -46,6 +46,6 @@ returns-clause-changes c = holding_closed c.args.heap.now c.close_open.new.heap 
 pub returns-clause-stays : goal.returns-clause-stays
 returns-clause-stays c = λ none.
     c.close_open.ensures.stays
-    (ap (node_closed c.args.heap.now.descs)
+    (ap (node_closed c.args.heap.now)
     (is_held_at c.args.heap.now c.args.procs.now c.args.place.pid c.args.on.now c.requires.opened c.in-Some.found c.in-Some.is ∙ sym (is_held c.args.heap.now c.args.procs.now c.args.place.pid c.args.on.now c.requires.opened c.in-Some.found c.in-Some.is))
     ∙ none)

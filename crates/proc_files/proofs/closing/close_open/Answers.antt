@@ -1,7 +1,9 @@
 use Rattle.std.proofs.Common.{◌≡◌, ◌∙◌, [], None, Some, ap, is_some, refl, sym}
+use Rattle.fifo_nodes.proofs.ChainLemmas.{chain_kept}
 use Rattle.kheap_laws.proofs.PaidLemmas.{IsPaid-nothing, IsPaid-trans}
 use Rattle.kheap_slabs.specs.Heap.{Heap}
 use Rattle.memfs_ops.proofs.CachedLemmas.{cached_still}
+use Rattle.pipe_ends.proofs.LinkLemmas.{links_same}
 use Rattle.posix_defs.specs.Files.Closing.{after_close}
 use Rattle.proc_numbers.proofs.Changes.{node_of_number}
 use Rattle.proc_numbers.proofs.Fronts.{queues_same, queues_then}
@@ -33,6 +35,10 @@ pub close_one-requires-clause-is_open : goal.close_one-requires-clause-is_open
 close_one-requires-clause-is_open c =
     ap is_some (ap (λ (h : Heap). named_at h c.args.procs.now c.args.place.pid c.args.found.now.number) c.unname_going.ensures.beside ∙ c.requires.opened.names)
 
+pub close_one-requires-clause-chain : goal.close_one-requires-clause-chain
+close_one-requires-clause-chain c =
+    chain_kept c.args.heap.now c.unname_going.new.heap c.args.fifos.now (links_same c.args.heap.now c.unname_going.new.heap (ap (λ (h : Heap). h.pipes) c.unname_going.ensures.beside)) c.requires.chain
+
 -- ---- no node goes
 
 pub returns-in_default-clause-closed : goal.returns-in_default-clause-closed
@@ -47,8 +53,8 @@ returns-in_default-clause-closed c = λ numbers others files hold.
     c.unname_going.ensures.takes c.requires.may) in
     closed_names_hold numbers others c.args.heap.now c.unname_going.new.heap c.close_one.new.heap c.args.procs.now c.args.tree.now c.args.tree.now c.args.names.now c.unname_going.new.names files c.args.place.pid c.args.found.now.number
     (held_in c.args.found.now) c.args.found.now.desc c.requires.opened.names c.requires.opened.there c.requires.listed c.requires.owners hold (ap (λ (h : Heap). h.procs) c.unname_going.ensures.beside) (ap (λ (h : Heap). h.leaves) c.unname_going.ensures.beside) (ap (λ (h : Heap). h.descs) c.unname_going.ensures.beside)
-    listed c.unname_going.ensures.owners (c.unname_going.ensures.hold numbers others c.args.procs.now c.args.tree.now files hold) (record { mid = c.close_one.new.heap; closes = c.close_one.ensures.closes; caches = refl }) c.close_one.ensures.listed
-    (holds_still c.unname_going.new.heap c.close_one.new.heap c.args.procs.now c.args.place.pid c.args.found.now.number c.args.purse.now c.args.tree.now listed c.unname_going.ensures.owners c.close_one.ensures.closes c.close_one.ensures.listed c.close_one.ensures.takes may
+    listed c.unname_going.ensures.owners (c.unname_going.ensures.hold numbers others c.args.procs.now c.args.tree.now files hold) (record { mid = c.close_one.new.heap; closes = c.close_one.ensures.closes; caches = refl }) c.close_one.ensures.listed c.close_one.ensures.owners
+    (holds_still c.unname_going.new.heap c.close_one.new.heap c.args.procs.now c.args.place.pid c.args.found.now.number c.args.purse.now c.args.tree.now listed c.unname_going.ensures.owners c.close_one.ensures.closes c.close_one.ensures.listed c.close_one.ensures.owners c.close_one.ensures.takes may
     c.close_one.ensures.closed c.close_one.result (node_of_number c.unname_going.new.heap c.close_one.new.heap c.args.procs.now c.args.place.pid c.args.found.now.number c.close_one.result listed c.close_one.ensures.closes c.close_one.ensures.node) c.in_default.is)
 
 pub returns-in_default-clause-hold : goal.returns-in_default-clause-hold
@@ -68,8 +74,8 @@ returns-in_default-clause-hold c =
       files = after_close some.files c.args.place.pid c.args.found.now.number;
       hold = closed_names_hold some.numbers some.others c.args.heap.now c.unname_going.new.heap c.close_one.new.heap c.args.procs.now c.args.tree.now c.args.tree.now c.args.names.now c.unname_going.new.names some.files c.args.place.pid c.args.found.now.number
           (held_in c.args.found.now) c.args.found.now.desc c.requires.opened.names c.requires.opened.there c.requires.listed c.requires.owners some.hold (ap (λ (h : Heap). h.procs) c.unname_going.ensures.beside) (ap (λ (h : Heap). h.leaves) c.unname_going.ensures.beside) (ap (λ (h : Heap). h.descs) c.unname_going.ensures.beside)
-          listed c.unname_going.ensures.owners (c.unname_going.ensures.hold some.numbers some.others c.args.procs.now c.args.tree.now some.files some.hold) (record { mid = c.close_one.new.heap; closes = c.close_one.ensures.closes; caches = refl }) c.close_one.ensures.listed
-          (holds_still c.unname_going.new.heap c.close_one.new.heap c.args.procs.now c.args.place.pid c.args.found.now.number c.args.purse.now c.args.tree.now listed c.unname_going.ensures.owners c.close_one.ensures.closes c.close_one.ensures.listed c.close_one.ensures.takes may
+          listed c.unname_going.ensures.owners (c.unname_going.ensures.hold some.numbers some.others c.args.procs.now c.args.tree.now some.files some.hold) (record { mid = c.close_one.new.heap; closes = c.close_one.ensures.closes; caches = refl }) c.close_one.ensures.listed c.close_one.ensures.owners
+          (holds_still c.unname_going.new.heap c.close_one.new.heap c.args.procs.now c.args.place.pid c.args.found.now.number c.args.purse.now c.args.tree.now listed c.unname_going.ensures.owners c.close_one.ensures.closes c.close_one.ensures.listed c.close_one.ensures.owners c.close_one.ensures.takes may
           c.close_one.ensures.closed c.close_one.result (node_of_number c.unname_going.new.heap c.close_one.new.heap c.args.procs.now c.args.place.pid c.args.found.now.number c.close_one.result listed c.close_one.ensures.closes c.close_one.ensures.node) c.in_default.is);
     }
 
@@ -117,7 +123,7 @@ close_node-requires-clause-stands c =
     })
     c.unname_going.ensures.takes c.requires.may) in
     let some = c.requires.hold in
-    lets_go c.unname_going.new.heap c.close_one.new.heap c.args.procs.now c.args.place.pid c.args.found.now.number c.args.purse.now c.args.tree.now listed c.unname_going.ensures.owners c.close_one.ensures.closes c.close_one.ensures.listed c.close_one.ensures.takes may
+    lets_go c.unname_going.new.heap c.close_one.new.heap c.args.procs.now c.args.place.pid c.args.found.now.number c.args.purse.now c.args.tree.now listed c.unname_going.ensures.owners c.close_one.ensures.closes c.close_one.ensures.listed c.close_one.ensures.owners c.close_one.ensures.takes may
     c.close_one.ensures.closed c.close_one.result (node_of_number c.unname_going.new.heap c.close_one.new.heap c.args.procs.now c.args.place.pid c.args.found.now.number c.close_one.result listed c.close_one.ensures.closes c.close_one.ensures.node) c.in-Some.node c.in-Some.is some.numbers some.others
     (unnamed some.numbers some.files (socket_going c.args.found.now.desc))
     (c.unname_going.ensures.hold some.numbers some.others c.args.procs.now c.args.tree.now some.files some.hold).held
@@ -146,8 +152,8 @@ returns-clause-closed c = λ numbers others files hold.
     c.unname_going.ensures.takes c.requires.may) in
     closed_names_hold numbers others c.args.heap.now c.unname_going.new.heap c.close_node.new.heap c.args.procs.now c.args.tree.now c.close_node.new.self c.args.names.now c.unname_going.new.names files c.args.place.pid c.args.found.now.number
     (held_in c.args.found.now) c.args.found.now.desc c.requires.opened.names c.requires.opened.there c.requires.listed c.requires.owners hold (ap (λ (h : Heap). h.procs) c.unname_going.ensures.beside) (ap (λ (h : Heap). h.leaves) c.unname_going.ensures.beside) (ap (λ (h : Heap). h.descs) c.unname_going.ensures.beside)
-    listed c.unname_going.ensures.owners (c.unname_going.ensures.hold numbers others c.args.procs.now c.args.tree.now files hold) (record { mid = c.close_one.new.heap; closes = c.close_one.ensures.closes; caches = c.close_node.ensures.pays.only }) (listed_beside c.close_one.new.heap c.close_node.new.heap c.close_node.ensures.pays.only c.args.procs.now c.close_one.ensures.listed)
-    (holds_without c.unname_going.new.heap c.close_one.new.heap c.args.procs.now c.args.place.pid c.args.found.now.number c.args.purse.now c.args.tree.now listed c.unname_going.ensures.owners c.close_one.ensures.closes c.close_one.ensures.listed c.close_one.ensures.takes may
+    listed c.unname_going.ensures.owners (c.unname_going.ensures.hold numbers others c.args.procs.now c.args.tree.now files hold) (record { mid = c.close_one.new.heap; closes = c.close_one.ensures.closes; caches = c.close_node.ensures.pays.only }) (listed_beside c.close_one.new.heap c.close_node.new.heap c.close_node.ensures.pays.only c.args.procs.now c.close_one.ensures.listed) (owners_beside c.close_one.new.heap c.close_node.new.heap c.close_node.ensures.pays.only [] c.close_one.ensures.owners)
+    (holds_without c.unname_going.new.heap c.close_one.new.heap c.args.procs.now c.args.place.pid c.args.found.now.number c.args.purse.now c.args.tree.now listed c.unname_going.ensures.owners c.close_one.ensures.closes c.close_one.ensures.listed c.close_one.ensures.owners c.close_one.ensures.takes may
     c.close_one.ensures.closed c.close_one.result (node_of_number c.unname_going.new.heap c.close_one.new.heap c.args.procs.now c.args.place.pid c.args.found.now.number c.close_one.result listed c.close_one.ensures.closes c.close_one.ensures.node) c.in-Some.node c.in-Some.is c.close_node.new.heap c.close_node.new.self c.close_node.ensures.pays.only c.close_node.ensures.stands)
 
 pub returns-clause-hold : goal.returns-clause-hold
@@ -167,8 +173,8 @@ returns-clause-hold c =
       files = after_close some.files c.args.place.pid c.args.found.now.number;
       hold = closed_names_hold some.numbers some.others c.args.heap.now c.unname_going.new.heap c.close_node.new.heap c.args.procs.now c.args.tree.now c.close_node.new.self c.args.names.now c.unname_going.new.names some.files c.args.place.pid c.args.found.now.number
           (held_in c.args.found.now) c.args.found.now.desc c.requires.opened.names c.requires.opened.there c.requires.listed c.requires.owners some.hold (ap (λ (h : Heap). h.procs) c.unname_going.ensures.beside) (ap (λ (h : Heap). h.leaves) c.unname_going.ensures.beside) (ap (λ (h : Heap). h.descs) c.unname_going.ensures.beside)
-          listed c.unname_going.ensures.owners (c.unname_going.ensures.hold some.numbers some.others c.args.procs.now c.args.tree.now some.files some.hold) (record { mid = c.close_one.new.heap; closes = c.close_one.ensures.closes; caches = c.close_node.ensures.pays.only }) (listed_beside c.close_one.new.heap c.close_node.new.heap c.close_node.ensures.pays.only c.args.procs.now c.close_one.ensures.listed)
-          (holds_without c.unname_going.new.heap c.close_one.new.heap c.args.procs.now c.args.place.pid c.args.found.now.number c.args.purse.now c.args.tree.now listed c.unname_going.ensures.owners c.close_one.ensures.closes c.close_one.ensures.listed c.close_one.ensures.takes may
+          listed c.unname_going.ensures.owners (c.unname_going.ensures.hold some.numbers some.others c.args.procs.now c.args.tree.now some.files some.hold) (record { mid = c.close_one.new.heap; closes = c.close_one.ensures.closes; caches = c.close_node.ensures.pays.only }) (listed_beside c.close_one.new.heap c.close_node.new.heap c.close_node.ensures.pays.only c.args.procs.now c.close_one.ensures.listed) (owners_beside c.close_one.new.heap c.close_node.new.heap c.close_node.ensures.pays.only [] c.close_one.ensures.owners)
+          (holds_without c.unname_going.new.heap c.close_one.new.heap c.args.procs.now c.args.place.pid c.args.found.now.number c.args.purse.now c.args.tree.now listed c.unname_going.ensures.owners c.close_one.ensures.closes c.close_one.ensures.listed c.close_one.ensures.owners c.close_one.ensures.takes may
           c.close_one.ensures.closed c.close_one.result (node_of_number c.unname_going.new.heap c.close_one.new.heap c.args.procs.now c.args.place.pid c.args.found.now.number c.close_one.result listed c.close_one.ensures.closes c.close_one.ensures.node) c.in-Some.node c.in-Some.is c.close_node.new.heap c.close_node.new.self c.close_node.ensures.pays.only c.close_node.ensures.stands);
     }
 
@@ -232,4 +238,8 @@ pub returns-clause-stays : goal.returns-clause-stays
 returns-clause-stays c = λ none.
     let listed = (listed_on c.args.heap.now c.unname_going.new.heap c.args.procs.now (ap (λ (h : Heap). h.procs) c.unname_going.ensures.beside) (ap (λ (h : Heap). h.leaves) c.unname_going.ensures.beside) c.requires.listed) in
     let node = (node_of_number c.unname_going.new.heap c.close_one.new.heap c.args.procs.now c.args.place.pid c.args.found.now.number c.close_one.result listed c.close_one.ensures.closes c.close_one.ensures.node) in
-    absurd (let both : Some c.in-Some.node ≡ None = sym c.in-Some.is ∙ node ∙ (ap (λ (h : Heap). node_closed h.descs (named_at h c.args.procs.now c.args.place.pid c.args.found.now.number)) c.unname_going.ensures.beside ∙ none) in cc)
+    absurd (let both : Some c.in-Some.node ≡ None = sym c.in-Some.is ∙ node ∙ (ap (λ (h : Heap). node_closed h (named_at h c.args.procs.now c.args.place.pid c.args.found.now.number)) c.unname_going.ensures.beside ∙ none) in cc)
+
+pub returns-clause-chain : goal.returns-clause-chain
+returns-clause-chain c =
+    chain_kept c.close_one.new.heap c.close_node.new.heap c.close_one.new.fifos (links_same c.close_one.new.heap c.close_node.new.heap (same_pipes c.close_one.new.heap c.close_node.new.heap c.close_node.ensures.pays.only)) c.close_one.ensures.chain

@@ -1,8 +1,7 @@
 use Rattle.std.proofs.Common.{is_some, ap, ◌∙◌, refl, subst, sym}
-use Rattle.posix_defs.specs.Files.Closing.{after_end_of}
 use Rattle.posix_defs.specs.Files.State.{Files}
 use Rattle.proc_numbers.proofs.Fronts.{queues_same}
-use Rattle.proc_files.specs.Ending.{OnlyGoes, is_marked}
+use Rattle.proc_files.specs.Ending.{OnlyGoes, closed_each, is_marked}
 use Rattle.proc_files.specs.Holders.{openings}
 use Rattle.proc_files.specs.NameHolding.{HoldNames}
 use Rattle.proc_files.proofs.Finding.{is_at}
@@ -50,4 +49,4 @@ returns-clause-stays c =
     c.reach_of-below.ensures.rest c.close_marked.ensures.closes (c.close_marked.ensures.closed numbers others files hold).held.opened in
     c.close_marked.ensures.stays numbers others files hold
     (λ n. ap (λ (f : Files). openings f n) end
-    ∙ ends_none files (after_end_of files c.args.place.pid) none (subst (OnlyGoes files) end (c.close_marked.ensures.goes numbers others files hold)) n)
+    ∙ ends_none files (closed_each files c.args.place.pid) none (subst (OnlyGoes files) end (c.close_marked.ensures.goes numbers others files hold)) n)

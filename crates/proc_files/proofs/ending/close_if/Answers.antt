@@ -40,14 +40,14 @@ pub returns-clause-goes : goal.returns-clause-goes
 returns-clause-goes c = λ numbers others files hold.
     subst (λ b. OnlyGoes files (cond b (after_close files c.args.place.pid c.args.fd) files)) (sym c.if-not-marked.false)
     (only_goes files (after_close files c.args.place.pid c.args.fd) _
-    (closing_goes c.args.heap.now c.close_at.new.heap c.args.procs.now c.args.place.pid c.args.fd numbers files c.requires.listed c.requires.owners c.close_at.ensures.listed c.close_at.ensures.closes hold.held.opened
+    (closing_goes c.args.heap.now c.close_at.new.heap c.args.procs.now c.args.place.pid c.args.fd numbers files c.requires.listed c.requires.owners c.close_at.ensures.listed c.close_at.ensures.owners c.close_at.ensures.closes hold.held.opened
     (c.close_at.ensures.closed numbers others files hold).held.opened))
 
 pub returns-clause-stays : goal.returns-clause-stays
 returns-clause-stays c = λ numbers others files hold same.
     c.close_at.ensures.stays
     (none_goes files (after_close files c.args.place.pid c.args.fd) _
-    (closing_goes c.args.heap.now c.close_at.new.heap c.args.procs.now c.args.place.pid c.args.fd numbers files c.requires.listed c.requires.owners c.close_at.ensures.listed c.close_at.ensures.closes hold.held.opened
+    (closing_goes c.args.heap.now c.close_at.new.heap c.args.procs.now c.args.place.pid c.args.fd numbers files c.requires.listed c.requires.owners c.close_at.ensures.listed c.close_at.ensures.owners c.close_at.ensures.closes hold.held.opened
     (c.close_at.ensures.closed numbers others files hold).held.opened)
     (subst (λ b. (n : ℕ) → openings (cond b (after_close files c.args.place.pid c.args.fd) files) n ≡ openings files n) c.if-not-marked.false same))
 

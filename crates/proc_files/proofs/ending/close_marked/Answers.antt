@@ -16,6 +16,7 @@ loop-fd-init c = record {
   closed = λ numbers others files hold. hold;
   listed = c.requires.listed;
   owners = c.requires.owners;
+  chain = c.requires.chain;
   hold = c.requires.hold;
   closes = marked_begins c.args.heap.now c.args.procs.now c.args.place.pid (is_marked c.args.marks.now) (is_at c.args.heap.now c.args.procs.now c.args.place.pid c.requires.listed (ap is_some c.requires.there));
   queues = queues_same c.args.heap.now c.args.heap.now refl refl;
@@ -46,6 +47,7 @@ loop-fd-preserved c =
           (c.close_if.ensures.closed numbers others before (was.closed numbers others files hold)));
       listed = c.close_if.ensures.listed;
       owners = c.close_if.ensures.owners;
+      chain = c.close_if.ensures.chain;
       hold = c.close_if.ensures.hold;
       closes =
           subst (ClosesMarked c.args.heap.now new c.args.procs.now c.args.place.pid (is_marked c.args.marks.now)) (next_one fd)

@@ -1,4 +1,5 @@
 use Rattle.std.proofs.Common.{◌≡◌, ◌≤◌, ℕ, [], length}
+use Rattle.fifo_nodes.specs.Chain.{IsChain}
 use Rattle.memfs_ops.specs.Closing.{KeepsCached}
 use Rattle.kheap_slabs.specs.Paid.{IsPaid}
 use Rattle.open_laws.specs.Owned.{HasItsOwners}
@@ -19,6 +20,7 @@ invariant-loop-fd l = record {
       → HoldNames numbers others l.heap l.procs l.tree l.names (closed_where (is_marked l.marks) files l.place.pid l.fd);
   listed : AreListed l.heap l.procs;
   owners : HasItsOwners l.heap [];
+  chain : IsChain l.heap l.fifos;
   hold : HoldSomeNames l.heap l.procs l.tree l.names;
   closes : ClosesMarked l.fn.heap l.heap l.procs l.place.pid (is_marked l.marks) l.fd;
   queues : QueuesStand l.fn.heap l.heap;

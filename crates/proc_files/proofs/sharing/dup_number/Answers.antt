@@ -2,11 +2,13 @@ use Rattle.std.proofs.Common.{◌≡◌, ◌∙◌, [], None, Some, true, false,
 use Rattle.std.proofs.lemmas.Int.{to_z-of_z}
 use Rattle.kabi_types.specs.Arguments.{count_of, may_be_descriptor}
 use Rattle.kabi_types.specs.declared.replies.Reply.TheVariants.{Val}
+use Rattle.fifo_nodes.proofs.ChainLemmas.{chain_kept}
 use Rattle.kheap_laws.proofs.PaidLemmas.{IsPaid-refl}
 use Rattle.kheap_slabs.specs.Heap.{Heap}
 use Rattle.kheap_slabs.specs.Paid.{IsPaid}
 use Rattle.kheap_slabs.specs.Purse.{Purse}
 use Rattle.open_laws.specs.Described.{counted_in}
+use Rattle.pipe_ends.proofs.LinkLemmas.{links_same}
 use Rattle.posix_defs.specs.Answer.{replied}
 use Rattle.posix_defs.specs.Calls.OnDescriptors.{dup2, shared_at}
 use Rattle.posix_defs.specs.Files.Closing.{after_close}
@@ -205,10 +207,14 @@ returns-clause-stays c = λ none.
     let from_is = is_counted c.args.heap.now c.args.procs.now c.args.place.pid c.args.on.now c.requires.opened c.in-Some.found c.in-Some.is in
     let number_is : c.count_of-number.result ≡ count_of c.args.to = subst (λ z. c.count_of-number.result ≡ count_of z) to c.count_of-number.ensures in
     c.close_at.ensures.stays
-    (ap (λ n. node_closed c.args.heap.now.descs (named_at c.args.heap.now c.args.procs.now c.args.place.pid n)) number_is
-    ∙ sym (ap (λ b. cond b None (node_closed c.args.heap.now.descs (named_at c.args.heap.now c.args.procs.now c.args.place.pid (count_of c.args.to))))
+    (ap (λ n. node_closed c.args.heap.now (named_at c.args.heap.now c.args.procs.now c.args.place.pid n)) number_is
+    ∙ sym (ap (λ b. cond b None (node_closed c.args.heap.now (named_at c.args.heap.now c.args.procs.now c.args.place.pid (count_of c.args.to))))
     (ne_eqb (count_of c.args.on.now.fd) (count_of c.args.to) (λ same. c.if-found-number.false (from_is ∙ same ∙ sym number_is))))
     ∙ none)
 
 pub share_at-requires-clause-pays : goal.share_at-requires-clause-pays
 share_at-requires-clause-pays c = can_pay_beside c.args.heap.now c.close_at.new.heap c.args.back.now c.close_at.new.purse c.args.purse.now c.close_at.ensures.paid c.close_at.ensures.same c.requires.pays
+
+pub returns-clause-chain : goal.returns-clause-chain
+returns-clause-chain c =
+    chain_kept c.close_at.new.heap c.share_at.new.heap c.close_at.new.fifos (links_same c.close_at.new.heap c.share_at.new.heap (ap (λ (h : Heap). h.pipes) c.share_at.ensures.beside)) c.close_at.ensures.chain

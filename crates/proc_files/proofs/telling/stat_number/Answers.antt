@@ -18,7 +18,7 @@ returns-in_default-clause-answers c = λ numbers others script plain hold. recor
 
 pub info_of-requires : goal.info_of-requires
 info_of-requires c =
-    record { held = held_in c.args.heap.now c.args.procs.now c.args.tree.now c.requires.hold c.in-Some.found.key c.in-Some.found.desc (is_there c.args.heap.now c.args.procs.now c.args.place.pid c.args.on.now c.requires.opened c.in-Some.found c.in-Some.is) }
+    record { held = held_in c.args.heap.now c.args.procs.now c.args.tree.now c.requires.owners c.requires.hold c.in-Some.found.key c.in-Some.found.desc (is_there c.args.heap.now c.args.procs.now c.args.place.pid c.args.on.now c.requires.opened c.in-Some.found c.in-Some.is) }
 
 pub returns-clause-answers : goal.returns-clause-answers
 returns-clause-answers c = λ numbers others script plain hold. record {
@@ -26,7 +26,7 @@ returns-clause-answers c = λ numbers others script plain hold. record {
   replies =
       fstat_is script numbers plain c.args.place.pid c.args.on.now.fd c.in-Some.found
       (opened_is c.args.heap.now c.args.procs.now c.args.place.pid c.args.on.now c.requires.opened numbers plain.files hold.opened ∙ ap (option_map (opened_in numbers)) c.in-Some.is)
-      ∙ ap (λ info. replied script plain c.args.place.pid (Stat info)) (c.info_of.ensures.value numbers plain.files.tree _ hold.tree);
+      ∙ ap (λ info. replied script plain c.args.place.pid (Stat info)) (c.info_of.ensures.value numbers plain.files _ hold.opened.opened.piped hold.tree);
   holds = hold_on numbers others c.args.heap.now c.args.procs.now c.args.tree.now c.info_of.new.tree plain.files c.info_of.ensures.stands hold;
 }
 
@@ -36,5 +36,6 @@ returns-clause-hold c = some_on c.args.heap.now c.args.procs.now c.args.tree.now
 pub returns-clause-stays : goal.returns-clause-stays
 returns-clause-stays c = λ numbers files have off.
     c.info_of.ensures.stays
-    (off_node numbers files c.args.place.pid c.args.on.now.fd c.in-Some.found
+    (off_node numbers c.args.heap.now files c.args.place.pid c.args.on.now.fd c.in-Some.found have.opened.piped
+    (c.requires.owners.held.targets c.in-Some.found.key c.in-Some.found.desc (is_there c.args.heap.now c.args.procs.now c.args.place.pid c.args.on.now c.requires.opened c.in-Some.found c.in-Some.is))
     (opened_is c.args.heap.now c.args.procs.now c.args.place.pid c.args.on.now c.requires.opened numbers files have ∙ ap (option_map (opened_in numbers)) c.in-Some.is) off)
