@@ -239,8 +239,8 @@ module _ (plain : Plain) (pid who : ℕ) (call : Call) (next : Files) (apart : w
   step_spares (step.pipes two free is) = opened _ is (another _ two.second _ _ (one _ two.first _ _ refl refl refl))
   step_spares (step.takes fd addr n given place k which named on may moves is) = same _ is refl refl refl
   step_spares (step.puts fd addr n done given place k which named on may moves is) = same _ is refl refl refl
-  step_spares (step.joins path flags fd place found openings opens at waits is) = opened _ is (waited _ openings waits (one _ fd _ _ refl refl refl))
-  step_spares (step.begins path flags fd found openings opens at waits is) = opened _ is (waited _ openings waits (one _ fd _ _ refl refl refl))
+  step_spares (step.joins path flags fd place found openings opens at may is) = opened _ is (waited _ openings may (one _ fd _ _ refl refl refl))
+  step_spares (step.begins path flags fd found openings opens at may is) = opened _ is (waited _ openings may (one _ fd _ _ refl refl refl))
   step_spares (step.meets path flags opening which begun is) = by _ is (record {
     numbers = refl;
     each = λ place was there. inl there;
