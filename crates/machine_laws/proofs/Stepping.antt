@@ -15,7 +15,7 @@ use Rattle.posix_defs.specs.Machine.{answer_to, machine, unless_wrong}
 use Rattle.posix_defs.specs.Memory.{is_mapped_range, lowest_run}
 use Rattle.posix_defs.specs.MemoryCalls.{in_range, mapped_from, mmap}
 use Rattle.posix_defs.specs.Needs.{pages_in}
-use Rattle.posix_defs.specs.Pipe.{Moving, opens_of, pipe_read, pipe_write, with_end}
+use Rattle.posix_defs.specs.Pipe.{Moving, opens_of, pipe_read, with_end}
 use Rattle.posix_defs.specs.Pipe as pipes
 use Rattle.posix_defs.specs.Plain.{Plain, with_files}
 use Rattle.posix_defs.specs.Process.{Process, directory_of, memory_of, process_at}
