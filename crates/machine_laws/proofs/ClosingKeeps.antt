@@ -36,21 +36,26 @@ module _ (tree : Tree) (files : Files) (place : ℕ) (description : Description)
   ended = with_pipe (with_descriptions files (with_description files.descriptions place None)) p (after_close (pipe_at files p) (may_write description.access))
 
   bytes : HasPipeBytes ended.pipes
+  unfolding ended
   bytes = piped_bytes files.pipes p (after_close (pipe_at files p) (may_write description.access)) (closed_bytes (pipe_at files p) (may_write description.access) (pipe_bytes files.pipes p kept.pipes)) kept.pipes
 
   counts : ArePiped ended.descriptions ended.pipes
+  unfolding ended
   counts = end_gone_piped files.descriptions files.pipes kept.piped place description p is on
 
   joins : Joined ended.descriptions ended.sockets
+  unfolding ended
   joins = gone_joined files.descriptions files.sockets kept.joined place description is (λ socket e. no_pipe p socket (sym on ∙ e))
     where
       no_pipe : (number socket : ℕ) → OnPipe number ≡ OnSocket socket → ⊥
       no_pipe number socket e = cc
 
   ends : (at q : ℕ) (other : Description) → description_at (with_description files.descriptions place None) at ≡ Some other → other.target ≡ OnPipe q → is_some (slice_index_or ended.pipes q None) ≡ true
+  unfolding ended
   ends at q other here on_it = let end : IsEnd ended.pipes other.access (OnPipe q) = subst (IsEnd ended.pipes other.access) on_it (counts.ends at other here) in end.0
 
   stays : ((n : ℕ) → fifo_in files.pipes p ≡ Some n → Opener (with_description files.descriptions place None) ended.pipes n) → Kept tree ended
+  unfolding ended
   stays still = record {
     rooted = end_gone_rooted files.descriptions files.tree files.sockets files.pipes kept.rooted place description is p on ends still;
     pipes = bytes;
@@ -60,6 +65,7 @@ module _ (tree : Tree) (files : Files) (place : ℕ) (description : Description)
   }
 
   end_kept : (o : Option ℕ) → node_of files (OnPipe p) ≡ o → Kept tree (left_fifo ended o)
+  unfolding ended
   end_kept None of = stays (λ n is_one. absurd (not_some of is_one))
   end_kept (Some number) of = by_opens (opens ended number) refl
     where
@@ -75,6 +81,7 @@ module _ (tree : Tree) (files : Files) (place : ℕ) (description : Description)
       }
 
 pub kept_closed : (tree : Tree) → IsClosedUnder anybody (Kept tree)
+unfolding ended
 kept_closed tree = record {
   shut = λ files pid fd who kept. record { rooted = kept.rooted; pipes = kept.pipes; joined = kept.joined; piped = kept.piped; directories = kept.directories };
   wakes = λ files pid who kept. record { rooted = kept.rooted; pipes = kept.pipes; joined = kept.joined; piped = kept.piped; directories = kept.directories };

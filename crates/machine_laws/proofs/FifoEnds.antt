@@ -15,13 +15,14 @@ use Rattle.machine_laws.proofs.Openers.{Opener, node_in}
 -- where some pass a test, one is there that does
 count_there : {X : Type 0} (p : X → Bool) (xs : List X) (d : X) → 0 < count_by p xs → (i : ℕ) × (i < length xs) × (p (slice_index_or xs i d) ≡ true)
 count_there p [] d h = absurd (let none : 0 < 0 = h in omega arith)
-count_there p (x ∷ xs) d h = go (p x) refl
+count_there p (x ∷ xs) d h = go (p x) refl (λ some. count_there p xs d some)
   where
-    go : (b : Bool) → p x ≡ b → (i : ℕ) × (i < length (x ∷ xs)) × (p (slice_index_or (x ∷ xs) i d) ≡ true)
-    go true is = (0, omega arith, is)
-    go false is = let e : count_by p (x ∷ xs) ≡ cond (p x) 1 0 + count_by p xs = sum_by-cons (λ x. cond (p x) 1 0) x xs in
-        let none : cond (p x) 1 0 ≡ 0 = ap (λ b. cond b 1 0) is in
-        let rest = count_there p xs d (let f : 0 < count_by p xs = omega arith in f) in
+    go : (b : Bool) → p x ≡ b → (0 < count_by p xs → (i : ℕ) × (i < length xs) × (p (slice_index_or xs i d) ≡ true))
+        → (i : ℕ) × (i < length (x ∷ xs)) × (p (slice_index_or (x ∷ xs) i d) ≡ true)
+    go true is behind = (0, omega arith, is)
+    go false is behind = let e : count_by p (x ∷ xs) ≡ cond (p x) 1 0 + count_by p xs = sum_by-cons (λ x. cond (p x) 1 0) x xs in
+        let none : cond {A = ℕ} (p x) 1 0 ≡ 0 = ap (λ b. cond {A = ℕ} b 1 0) is in
+        let rest = behind (omega arith) in
         (suc rest.0, (let k : rest.0 < length xs = rest.1 in omega arith), rest.2)
 
 first_holds : (a b : Bool) → (a && b) ≡ true → a ≡ true

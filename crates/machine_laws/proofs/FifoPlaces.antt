@@ -1,5 +1,5 @@
 -- What is left where an end of a pipe is closed, which may be a FIFO's.
-use Rattle.std.proofs.Common.{◌≡◌, ◌≢◌, ℕ, zero, suc, ◌+◌, ◌-◌, ◌<◌, ◌≤◌, ◌==◌, ◌&&◌, ℤ, Bool, true, false, cond, List, [], ◌∷◌, ◌++◌, length, Option, None, Some, is_some, unwrap_or, slice_index_or, slice_set, refl, ap, sym, ◌∙◌, subst, ◌⊎◌, inl, inr, arith}
+use Rattle.std.proofs.Common.{◌≡◌, ◌≢◌, ℕ, zero, suc, ◌+◌, ◌-◌, ◌≤◌, ◌==◌, ◌&&◌, ℤ, Bool, true, false, cond, List, [], ◌∷◌, ◌++◌, length, Option, None, Some, is_some, unwrap_or, slice_index_or, slice_set, refl, ap, sym, ◌∙◌, subst, ◌⊎◌, inl, inr, arith}
 use Rattle.std.specs.List.{position_from}
 use Rattle.std.specs.Option.{option_and_then}
 use Rattle.std.proofs.lemmas.Bool.Decides.{eqb_tells}
@@ -184,15 +184,16 @@ pub record IsFifoAt (pipes : List (Option Pipe)) (number place : ℕ) : Type 0 w
 found_from : (number from : ℕ) (pipes : List (Option Pipe)) (place : ℕ) → position_from (is_of_fifo number) from pipes ≡ Some place
     → (k : ℕ) × (place ≡ from + k) × (is_of_fifo number (slice_index_or pipes k None) ≡ true)
 found_from number from [] place e = absurd (none_some place e)
-found_from number from (x ∷ xs) place e = go (is_of_fifo number x) refl e
+found_from number from (x ∷ xs) place e = go (is_of_fifo number x) refl e (λ f. found_from number (from + 1) xs place f)
   where
     go : (b : Bool) → is_of_fifo number x ≡ b → cond b (Some from) (position_from (is_of_fifo number) (from + 1) xs) ≡ Some place
+        → (position_from (is_of_fifo number) (from + 1) xs ≡ Some place → (k : ℕ) × (place ≡ from + 1 + k) × (is_of_fifo number (slice_index_or xs k None) ≡ true))
         → (k : ℕ) × (place ≡ from + k) × (is_of_fifo number (slice_index_or (x ∷ xs) k None) ≡ true)
-    go true is f = (0, (let same : from ≡ place = same_some from place f in omega arith), is)
-    go false is f = let found = found_from number (from + 1) xs place f in (suc found.0, (let same : place ≡ from + 1 + found.0 = found.1 in omega arith), found.2)
+    go true is f behind = (0, (let same : from ≡ place = same_some from place f in omega arith), is)
+    go false is f behind = let found = behind f in (suc found.0, (let same : place ≡ from + 1 + found.0 = found.1 in omega arith), found.2)
 
 pub fifo_at_is : (files : Files) (number place : ℕ) → fifo_at files number ≡ Some place → IsFifoAt files.pipes number place
-fifo_at_is files number place at = go (found_from number 0 files.pipes place at)
+fifo_at_is files number place stands = go (found_from number 0 files.pipes place stands)
   where
     by : (o : Option Pipe) → slice_index_or files.pipes place None ≡ o → is_of_fifo number o ≡ true → IsFifoAt files.pipes number place
     by None is e = absurd (no e)
@@ -210,17 +211,19 @@ fifo_at_is files number place at = go (found_from number 0 files.pipes place at)
 
 none_from : (number from : ℕ) (pipes : List (Option Pipe)) → position_from (is_of_fifo number) from pipes ≡ None → (k : ℕ) → is_of_fifo number (slice_index_or pipes k None) ≡ false
 none_from number from [] e k = refl
-none_from number from (x ∷ xs) e k = go (is_of_fifo number x) refl e k
+none_from number from (x ∷ xs) e k = go (is_of_fifo number x) refl e (λ f other. none_from number (from + 1) xs f other) k
   where
-    go : (b : Bool) → is_of_fifo number x ≡ b → cond b (Some from) (position_from (is_of_fifo number) (from + 1) xs) ≡ None → (k : ℕ) → is_of_fifo number (slice_index_or (x ∷ xs) k None) ≡ false
-    go true is f k = absurd (none_some from (sym f))
-    go false is f zero = is
-    go false is f (suc k) = none_from number (from + 1) xs f k
+    go : (b : Bool) → is_of_fifo number x ≡ b → cond b (Some from) (position_from (is_of_fifo number) (from + 1) xs) ≡ None
+        → (position_from (is_of_fifo number) (from + 1) xs ≡ None → (other : ℕ) → is_of_fifo number (slice_index_or xs other None) ≡ false)
+        → (k : ℕ) → is_of_fifo number (slice_index_or (x ∷ xs) k None) ≡ false
+    go true is f behind k = absurd (none_some from (sym f))
+    go false is f behind zero = is
+    go false is f behind (suc k) = behind f k
 
 -- where none is found, no pipe is that FIFO's
 pub fifo_at_none : (files : Files) (number : ℕ) → fifo_at files number ≡ None → (place : ℕ) (pipe : Pipe) → slice_index_or files.pipes place None ≡ Some pipe → pipe.node ≢ number
-fifo_at_none files number at place pipe is same = elim (eqb_tells pipe.node number) [
-  | inl alike ↦ no (sym (none_from number 0 files.pipes at place) ∙ ap (is_of_fifo number) is ∙ alike.0)
+fifo_at_none files number nowhere place pipe is same = elim (eqb_tells pipe.node number) [
+  | inl alike ↦ no (sym (none_from number 0 files.pipes nowhere place) ∙ ap (is_of_fifo number) is ∙ alike.0)
   | inr apart ↦ apart.1 same
 ]
   where
@@ -236,11 +239,11 @@ not_zero tree number fifo zero_is = no (sym (ap (is_fifo tree) zero_is) ∙ fifo
 
 -- who opens a FIFO reads or writes it
 pub one_side : (pipe : Pipe) (flags : ℤ) → fifo_fault pipe flags ≡ None → access_of flags ≢ ReadWrite
-one_side pipe flags fine both = no (sym (go (is_for_both (access_of flags)) fine) ∙ ap is_for_both both)
+one_side pipe flags fine both = no (sym (go (is_for_both (access_of flags)) _ fine) ∙ ap is_for_both both)
   where
     no : false ≡ true → ⊥
     no e = cc
 
-    go : (b : Bool) {rest : Option Errno} → cond b (Some EINVAL) rest ≡ None → b ≡ false
-    go true e = absurd (none_some EINVAL (sym e))
-    go false e = refl
+    go : (b : Bool) (rest : Option Errno) → cond b (Some EINVAL) rest ≡ None → b ≡ false
+    go true rest e = absurd (none_some EINVAL (sym e))
+    go false rest e = refl

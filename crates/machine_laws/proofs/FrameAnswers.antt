@@ -16,7 +16,7 @@ use Rattle.posix_defs.specs.Answer.{Answer, failed, replied}
 use Rattle.posix_defs.specs.Ending.{die, exit_status}
 use Rattle.posix_defs.specs.Forking.{is_full}
 use Rattle.posix_defs.specs.History as histories
-use Rattle.posix_defs.specs.History.{IsAnswered, IsRun, MayFollow, Past}
+use Rattle.posix_defs.specs.History.{IsRun, MayFollow, Past}
 use Rattle.posix_defs.specs.Killing.{is_asking, is_ended_by, kill, sent_to, sigkill, struck}
 use Rattle.posix_defs.specs.Machine.{answer_to, machine, unless_wrong}
 use Rattle.posix_defs.specs.Memory.{Frames, Unmapped, Zero, after_map, is_mapped_range, lowest_run, with_pages, zero_page}

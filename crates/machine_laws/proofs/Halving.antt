@@ -208,6 +208,7 @@ keeps_by old new who same stay = record { each = each }
           record { place = opened.place; is = now.0 },
           names_there new who fd naming_it.descriptor opened.place now.0 (ap (λ list. descriptor_of list fd) same ∙ naming_it.held) naming_it.place (ap (description_at new.descriptions) (sym naming_it.place) ∙ now.1),
           now.2,
+          now.3,
         )
 
 keeps_same : (old new : Files) (who : ℕ) → descriptors_of new who ≡ descriptors_of old who → new.descriptions ≡ old.descriptions → KeepsOpen old new who
@@ -386,6 +387,13 @@ module _ (plain : Plain) (pid : ℕ) (call : Call) (next : Files) (who : ℕ) (a
   pushed new after is at was there one two = subst (SameFifo was)
       (some_same (pipe_in (plain.files.pipes ++ Some new ∷ []) at) was there (pushed_front plain.files.pipes (Some new) at was one) (sym (ap (λ list. slice_index_or list at None) is) ∙ two)) (same_fifo was)
 
+  pushed_waits : (after : Files) → next ≡ after → (new : Pipe) → after.pipes ≡ plain.files.pipes ++ Some new ∷ [] → opening_at after who ≡ opening_at plain.files who → KeepsWaits plain.files next who
+  pushed_waits after is new pipes opening = waits_by after is (record { pipes = pushed new after pipes; opening = opening })
+
+  moved_waits : (after : Files) → next ≡ after → (place : ℕ) (now : Pipe) → SameFifo (pipe_at plain.files place) now → after.pipes ≡ slice_set plain.files.pipes place (Some now)
+      → opening_at after who ≡ opening_at plain.files who → KeepsWaits plain.files next who
+  moved_waits after is place now same pipes opening = waits_by after is (record { pipes = moved place now same after pipes; opening = opening })
+
   others_wait : {flags : ℤ} {fd number : ℕ} (openings : List (Option HalfOpen)) → MayWait plain.files pid flags fd number openings → unwrap_or (at_pid openings who) None ≡ opening_at plain.files who
   others_wait openings (step.goes over is) = ap (λ list. unwrap_or (at_pid list who) None) is
   others_wait openings (step.waits still is) = ap (λ list. unwrap_or (at_pid list who) None) is ∙ ap (λ o. unwrap_or o None) (at_other plain.files.openings pid who _ apart)
@@ -431,17 +439,13 @@ module _ (plain : Plain) (pid : ℕ) (call : Call) (next : Files) (who : ℕ) (a
   step_waits (step.links old new tree which led is) = unwaited _ is refl refl
   step_waits (step.unlinks path left which led is) = unwaited _ is refl refl
   step_waits (step.renames old new left which led is) = unwaited _ is refl refl
-  step_waits (step.pipes free_two free is) = waits_by _ is (record { pipes = pushed new_pipe _ refl; opening = refl })
-  step_waits (step.takes fd addr n opened place k which named on may moves is) = waits_by _ is (record { pipes = moved place (after_read (pipe_at plain.files place) k) (record { node = refl; opens = λ writing. omega arith }) _ refl; opening = refl })
-  step_waits (step.puts fd addr n done opened place k which named on may moves is) = waits_by _ is (record {
-    pipes = moved place (after_write (pipe_at plain.files place) (bytes_left plain pid addr (count_of n) done) k) (record { node = refl; opens = λ writing. omega arith }) _ refl;
-    opening = refl;
-  })
-  step_waits (step.joins path flags fd place found openings opens at waits is) = waits_by _ is (record {
-    pipes = moved place (with_end (pipe_at plain.files place) (may_write (access_of flags))) (end_opens (pipe_at plain.files place) (may_write (access_of flags))) _ refl;
-    opening = others_wait openings waits;
-  })
-  step_waits (step.begins path flags fd found openings opens at waits is) = waits_by _ is (record { pipes = pushed (with_end (unopened found.0) (may_write (access_of flags))) _ refl; opening = others_wait openings waits })
+  step_waits (step.pipes free_two free is) = pushed_waits _ is new_pipe refl refl
+  step_waits (step.takes fd addr n opened place k which named on may moves is) = moved_waits _ is place (after_read (pipe_at plain.files place) k) (record { node = refl; opens = λ writing. omega arith }) refl refl
+  step_waits (step.puts fd addr n done opened place k which named on may moves is) = moved_waits _ is place (after_write (pipe_at plain.files place) (bytes_left plain pid addr (count_of n) done) k)
+      (record { node = refl; opens = λ writing. omega arith }) refl refl
+  step_waits (step.joins path flags fd place found openings opens at may is) = moved_waits _ is place (with_end (pipe_at plain.files place) (may_write (access_of flags)))
+      (end_opens (pipe_at plain.files place) (may_write (access_of flags))) refl (others_wait openings may)
+  step_waits (step.begins path flags fd found openings opens at may is) = pushed_waits _ is (with_end (unopened found.0) (may_write (access_of flags))) refl (others_wait openings may)
   step_waits (step.meets path flags opening which begun is) = waits_by _ is (record {
     pipes = pipes_same plain.files (with_opening plain.files pid None) refl;
     opening = ap (λ o. unwrap_or o None) (at_other plain.files.openings pid who None apart);
@@ -513,8 +517,8 @@ module _ (plain : Plain) (pid : ℕ) (call : Call) (next : Files) (who : ℕ) (a
   step_keeps (step.pipes free_two free is) = by _ is (two _ free_two.first free_two.second _ _ refl refl)
   step_keeps (step.takes fd addr n opened place k which named on may moves is) = same _ is refl refl
   step_keeps (step.puts fd addr n done opened place k which named on may moves is) = same _ is refl refl
-  step_keeps (step.joins path flags fd place found openings opens at waits is) = by _ is (waited _ openings (one _ fd _ _ refl refl))
-  step_keeps (step.begins path flags fd found openings opens at waits is) = by _ is (waited _ openings (one _ fd _ _ refl refl))
+  step_keeps (step.joins path flags fd place found openings opens at may is) = by _ is (waited _ openings (one (with_pipe plain.files place (Some (with_end (pipe_at plain.files place) (may_write (access_of flags))))) fd _ _ refl refl))
+  step_keeps (step.begins path flags fd found openings opens at may is) = by _ is (waited _ openings (one (with_pipes plain.files (plain.files.pipes ++ Some (with_end (unopened found.0) (may_write (access_of flags))) ∷ [])) fd _ _ refl refl))
   step_keeps (step.meets path flags opening which begun is) = same _ is refl refl
   step_keeps (step.sockets fd free is) = by _ is (one _ fd _ _ refl refl)
   step_keeps (step.pairs free_two free is) = by _ is (two _ free_two.first free_two.second _ _ refl refl)

@@ -175,7 +175,7 @@ module _ (descriptions : Descriptions) (sockets : Sockets) (joined : Joined desc
       ]
 
   -- what isn't a socket is closed
-  gone_joined : (place : ℕ) (was : Description) → description_at descriptions place ≡ Some was → ((socket : ℕ) → was.target ≡ OnSocket socket → ⊥) → Joined (with_description descriptions place None) sockets
+  pub gone_joined : (place : ℕ) (was : Description) → description_at descriptions place ≡ Some was → ((socket : ℕ) → was.target ≡ OnSocket socket → ⊥) → Joined (with_description descriptions place None) sockets
   gone_joined place was there other = (
     linked,
     held_by sockets (named_sockets descriptions) (named_sockets (with_description descriptions place None))
@@ -434,8 +434,8 @@ module _ (plain : Plain) (pid : ℕ) (call : Call) (next : Files) (joined : Hold
   step_joined (step.pipes free_two free is) = by _ is (two _ _ (λ socket e. no_pipe _ socket e) (λ socket e. no_pipe _ socket e))
   step_joined (step.takes fd addr n opened place k which named_it on may moves is) = same _ is refl refl
   step_joined (step.puts fd addr n done opened place k which named_it on may moves is) = same _ is refl refl
-  step_joined (step.joins path flags fd place found openings opens at waits is) = by _ is (one _ (λ socket e. no_pipe _ socket e))
-  step_joined (step.begins path flags fd found openings opens at waits is) = by _ is (one _ (λ socket e. no_pipe _ socket e))
+  step_joined (step.joins path flags fd place found openings opens at may is) = by _ is (one _ (λ socket e. no_pipe _ socket e))
+  step_joined (step.begins path flags fd found openings opens at may is) = by _ is (one _ (λ socket e. no_pipe _ socket e))
   step_joined (step.meets path flags opening which begun is) = same _ is refl refl
   step_joined (step.sockets fd free is) = by _ is made
   step_joined (step.pairs free_two free is) = by _ is (pair_joined plain.files.descriptions plain.files.sockets joined)

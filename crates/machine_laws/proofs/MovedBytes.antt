@@ -11,7 +11,7 @@ use Rattle.posix_defs.specs.DiskFormat.{entry_bytes}
 use Rattle.posix_defs.specs.IsTree.{IsContent, IsEntryName, IsTree}
 use Rattle.posix_defs.specs.Memory.{Memory, byte_at, loaded, no_memory, page_at, stored, with_byte, with_pages, with_range, without_pages, zero_page}
 use Rattle.posix_defs.specs.PathCalls.{all_entries, bytes_in, bytes_of, list_node, read_node}
-use Rattle.posix_defs.specs.Tree.{Content, File, Directory, SocketName, Node, Tree, entries_at, entries_in, entries_of, node_at, parent_at}
+use Rattle.posix_defs.specs.Tree.{Content, File, Directory, Fifo, SocketName, Node, Tree, entries_at, entries_in, entries_of, node_at, parent_at}
 use Rattle.kern_laws.proofs.TablePlaces.{below_or_not}
 use Rattle.machine_laws.specs.Bytes.{AreBytes, HasMemoryBytes, HasPageBytes}
 
@@ -84,6 +84,7 @@ read_bytes tree number at n is = All-take IsByte n (drop at (bytes_in (node_at t
     of_content (File bytes) are = are
     of_content (Directory parent entries) are = All-nil IsByte
     of_content SocketName are = All-nil IsByte
+    of_content Fifo are = All-nil IsByte
 
     go : (o : Option Node) → node_at tree number ≡ o → AreBytes (bytes_in o)
     go None at_it = All-nil IsByte
@@ -138,6 +139,7 @@ listed_bytes tree number at n is = All-take IsByte (32 * (n / 32)) (drop at (fla
     of_content : (content : Content) → IsContent content → All Named (entries_of content)
     of_content (File bytes) are = All-nil Named
     of_content SocketName are = All-nil Named
+    of_content Fifo are = All-nil Named
     of_content (Directory up entries) are = λ k d h. one (slice_index_or entries k d) (are.names k d h)
 
     named : (o : Option Node) → node_at tree number ≡ o → All Named (entries_in o)

@@ -15,8 +15,9 @@ use Rattle.posix_defs.specs.Plain.{Plain, boot_plain, last_pid}
 use Rattle.posix_defs.specs.Machine.{machine}
 use Rattle.posix_defs.specs.Process.{is_alive}
 use Rattle.posix_defs.specs.Files.Descriptors.{Descriptor, Descriptors, Two, and_next, descriptor_at, is_cloexec, is_named, lowest_free, lowest_free_from, names_place, none_open, two_lowest_free, with_descriptor}
-use Rattle.posix_defs.specs.Files.Descriptions.{Target, OnNode, OnPipe, OnSocket, Access, Description, Descriptions, description_at, with_description}
-use Rattle.posix_defs.specs.Files.State.{Files, HalfOpen, boot_files, descriptors_of, described_as, node_of, opened_as, with_descriptions, with_heir, with_open, with_opening, with_openings, with_tree}
+use Rattle.posix_defs.specs.Pipe.{unopened, with_end}
+use Rattle.posix_defs.specs.Files.Descriptions.{Target, OnNode, OnPipe, OnSocket, Access, Description, Descriptions, access_of, description_at, may_write, with_description}
+use Rattle.posix_defs.specs.Files.State.{Files, HalfOpen, boot_files, descriptors_of, described_as, node_of, opened_as, pipe_at, with_descriptions, with_heir, with_open, with_opening, with_openings, with_pipe, with_pipes, with_tree}
 use Rattle.posix_defs.specs.Files.Closing.{after_close, after_closes, after_end_of, after_ends_of, after_exec_of, all_numbers, close_in, description_gone, gone_in, released, target_closed}
 use Rattle.posix_defs.specs.Calls.Opened.{Opened}
 use Rattle.posix_defs.specs.Calls.OnDescriptors.{cloexec_set, shared_at}
@@ -520,8 +521,8 @@ module _ (plain : Plain) (pid : ℕ) (call : Call) (next : Files) (told : Told p
   step_told (step.pipes two free is) = by _ is (two_told _ two _ _ refl refl free)
   step_told (step.takes fd addr n opened place k which named on may moves is) = same _ is refl refl
   step_told (step.puts fd addr n done opened place k which named on may moves is) = same _ is refl refl
-  step_told (step.joins path flags fd place found openings opens at waits is) = by _ is (waited _ openings (one _ fd _ _ refl refl opens.free))
-  step_told (step.begins path flags fd found openings opens at waits is) = by _ is (waited _ openings (one _ fd _ _ refl refl opens.free))
+  step_told (step.joins path flags fd place found openings opens at may is) = by _ is (waited _ openings (one (with_pipe plain.files place (Some (with_end (pipe_at plain.files place) (may_write (access_of flags))))) fd _ _ refl refl opens.free))
+  step_told (step.begins path flags fd found openings opens at may is) = by _ is (waited _ openings (one (with_pipes plain.files (plain.files.pipes ++ Some (with_end (unopened found.0) (may_write (access_of flags))) ∷ [])) fd _ _ refl refl opens.free))
   step_told (step.meets path flags opening which begun is) = same _ is refl refl
   step_told (step.sockets fd free is) = by _ is (one _ fd _ _ refl refl free)
   step_told (step.pairs two free is) = by _ is (two_told _ two _ _ refl refl free)

@@ -1,5 +1,5 @@
 -- What another one's call leaves of the numbers of a process and of the descriptions that they name.
-use Rattle.std.proofs.Common.{◌≡◌, ◌≢◌, ℕ, zero, suc, ◌<◌, ◌≤◌, ℤ, pos, negsuc, Bool, true, false, List, [], ◌∷◌, length, Option, None, Some, is_some, unwrap_or, refl, ap, sym, ◌∙◌, subst, ◌⊎◌, inl, inr, arith}
+use Rattle.std.proofs.Common.{◌≡◌, ◌≢◌, ℕ, zero, suc, ◌≤◌, ℤ, pos, negsuc, Bool, true, false, List, [], ◌∷◌, length, Option, None, Some, is_some, unwrap_or, refl, ap, sym, ◌∙◌, subst, ◌⊎◌, inl, inr, arith}
 use Rattle.std.specs.List.{filter}
 use Rattle.std.proofs.lemmas.Bool.Decides.{eqb_tells}
 use Rattle.std.proofs.lemmas.List.{get_or-set_same, get_or-set_other, get_or_append_left}
@@ -239,8 +239,8 @@ module _ (plain : Plain) (pid who : ℕ) (call : Call) (next : Files) (apart : w
   step_spares (step.pipes two free is) = opened _ is (another _ two.second _ _ (one _ two.first _ _ refl refl refl))
   step_spares (step.takes fd addr n given place k which named on may moves is) = same _ is refl refl refl
   step_spares (step.puts fd addr n done given place k which named on may moves is) = same _ is refl refl refl
-  step_spares (step.joins path flags fd place found openings opens at waits is) = opened _ is (waited _ openings waits (one _ fd _ _ refl refl refl))
-  step_spares (step.begins path flags fd found openings opens at waits is) = opened _ is (waited _ openings waits (one _ fd _ _ refl refl refl))
+  step_spares (step.joins path flags fd place found openings opens at may is) = opened _ is (waited _ openings may (one _ fd _ _ refl refl refl))
+  step_spares (step.begins path flags fd found openings opens at may is) = opened _ is (waited _ openings may (one _ fd _ _ refl refl refl))
   step_spares (step.meets path flags opening which begun is) = by _ is (record {
     numbers = refl;
     each = λ place was there. inl there;

@@ -235,9 +235,9 @@ module _ (plain : Plain) (pid : ℕ) (call : Call) (place : ℕ) (pipe : Pipe) (
       record { fd = fd; opened = opened; named = named; target = on ∙ ap OnPipe here; moves = inl (addr, n, which) })
   kept (step.puts fd addr n done opened other k which named on may moves is) = queued other _ is (λ here.
       record { fd = fd; opened = opened; named = named; target = on ∙ ap OnPipe here; moves = inr (addr, n, done, which) })
-  kept (step.joins path flags fd other found openings opens at waits is) = joined other (may_write (access_of flags)) (fifo_at_is plain.files found.0 other at) (not_zero found.1 found.0 opens.fifo)
+  kept (step.joins path flags fd other found openings opens at may is) = joined other (may_write (access_of flags)) (fifo_at_is plain.files found.0 other at) (not_zero found.1 found.0 opens.fifo)
       (ap (λ files. pipe_there files place) is)
-  kept (step.begins path flags fd found openings opens at waits is) = inl (unchanged_is (ap (λ files. pipe_there files place) is
+  kept (step.begins path flags fd found openings opens at may is) = inl (unchanged_is (ap (λ files. pipe_there files place) is
       ∙ get_or_append_left plain.files.pipes (Some _ ∷ []) None place (within plain.files place pipe there) ∙ there))
   kept (step.meets path flags opening which begun is) = same _ is refl
   kept (step.sockets fd free is) = same _ is refl

@@ -611,10 +611,10 @@ module _ (plain : Plain) (pid : ℕ) (call : Call) (next : Files) (piped : Holds
   step_piped (step.pipes two free is) = by _ is (made_piped plain.files.descriptions plain.files.pipes piped)
   step_piped (step.takes fd addr n opened place k which named on may moves is) = by _ is (taken fd opened place k named on)
   step_piped (step.puts fd addr n done opened place k which named on may moves is) = by _ is (put fd opened place (count_of n) done k _ named on moves)
-  step_piped (step.joins path flags fd place found openings opens at waits is) = let fifo = fifo_at_is plain.files found.0 place at in
+  step_piped (step.joins path flags fd place found openings opens at may is) = let fifo = fifo_at_is plain.files found.0 place at in
       by _ is (joined_piped plain.files.descriptions plain.files.pipes piped place (pipe_at plain.files place) (description_on (OnPipe place) flags)
       (fifo.is ∙ sym (ap (λ o. Some (unwrap_or o new_pipe)) fifo.is)) refl (one_side (fifo_pipe plain.files found.0) flags opens.right))
-  step_piped (step.begins path flags fd found openings opens at waits is) = by _ is (begun_piped plain.files.descriptions plain.files.pipes piped found.0
+  step_piped (step.begins path flags fd found openings opens at may is) = by _ is (begun_piped plain.files.descriptions plain.files.pipes piped found.0
       (description_on (OnPipe (length plain.files.pipes)) flags) refl (one_side (fifo_pipe plain.files found.0) flags opens.right))
   step_piped (step.meets path flags opening which begun is) = same _ is refl refl
   step_piped (step.sockets fd free is) = by _ is (one _ (λ q. refl) tt)

@@ -97,8 +97,8 @@ module _ (plain : Plain) (pid : ℕ) (call : Call) (next : Files) (no_fork : cal
   step_shuts (step.pipes two free is) = by _ is (opens_another _ two.second _ _ (opens_one _ two.first _ _ refl refl))
   step_shuts (step.takes fd addr n opened place k which named on may moves is) = same _ is refl refl
   step_shuts (step.puts fd addr n done opened place k which named on may moves is) = same _ is refl refl
-  step_shuts (step.joins path flags fd place found openings opens at waits is) = by _ is (waited _ openings (opens_one _ fd _ _ refl refl) (as_many openings waits))
-  step_shuts (step.begins path flags fd found openings opens at waits is) = by _ is (waited _ openings (opens_one _ fd _ _ refl refl) (as_many openings waits))
+  step_shuts (step.joins path flags fd place found openings opens at may is) = by _ is (waited _ openings (opens_one _ fd _ _ refl refl) (as_many openings may))
+  step_shuts (step.begins path flags fd found openings opens at may is) = by _ is (waited _ openings (opens_one _ fd _ _ refl refl) (as_many openings may))
   step_shuts (step.meets path flags opening which begun is) = same _ is refl (length_with plain.files.openings pid None)
   step_shuts (step.sockets fd free is) = by _ is (opens_one _ fd _ _ refl refl)
   step_shuts (step.pairs two free is) = by _ is (opens_another _ two.second _ _ (opens_one _ two.first _ _ refl refl))

@@ -17,11 +17,11 @@ use Rattle.posix_defs.specs.MemoryCalls.{in_range}
 use Rattle.posix_defs.specs.Pipe.{Moving}
 use Rattle.posix_defs.specs.Pipe as pipes
 use Rattle.posix_defs.specs.Plain.{Plain, with_files}
-use Rattle.posix_defs.specs.Process.{memory_of}
+use Rattle.posix_defs.specs.Process.{directory_of, memory_of}
 use Rattle.posix_defs.specs.Socket.{Accepting, is_connected}
 use Rattle.posix_defs.specs.Socket as socket
 use Rattle.posix_defs.specs.Sockets.{stage_at, is_refused}
-use Rattle.posix_defs.specs.PathCalls.{is_fifo}
+use Rattle.posix_defs.specs.PathCalls.{is_fifo, open_path}
 use Rattle.posix_defs.specs.Tree.{Tree, is_directory}
 use Rattle.posix_defs.specs.Files.Descriptors.{Two, lowest_free, lowest_free_from, two_lowest_free}
 use Rattle.posix_defs.specs.Files.Descriptions.{Target, OnNode, OnPipe, OnSocket, may_read, may_write}
@@ -30,7 +30,7 @@ use Rattle.posix_defs.specs.Calls.Opened.{Opened, answer_on, if_readable, if_wri
 use Rattle.posix_defs.specs.Calls.OnDescriptors.{close, controlled, dup, dup2, duplicated, duplicated_to, fcntl}
 use Rattle.posix_defs.specs.Calls.Reading.{of_bytes}
 use Rattle.posix_defs.specs.Calls.Writing.{bytes_left, did_part, place_of_write, put_in_socket, pwrite, pwrite_target, stopped, write_ignoring, write_queue, write_target, wrote, wrote_at}
-use Rattle.posix_defs.specs.Calls.OnFiles.{fifo_pipe, fifo_waits, fstat, ftruncate, greatest_offset, is_between_entries, is_met, lseek, open_at, open_by, open_end, open_file, opened_node_as, origin, resized_to, seek_target, seek_to, truncate_target}
+use Rattle.posix_defs.specs.Calls.OnFiles.{fifo_fault, fifo_pipe, fifo_waits, fstat, ftruncate, greatest_offset, is_between_entries, is_met, lseek, open_at, open_by, open_end, open_file, opened_node_as, opening_of, origin, resized_to, seek_target, seek_to, truncate_target}
 use Rattle.posix_defs.specs.Calls.OnNames.{freed_in, link, made_node, mkdir, mkfifo, rename, retreed, rmdir, stat, told_of, unlink}
 use Rattle.posix_defs.specs.Calls.OnPipes.{pipe, piped_under}
 use Rattle.posix_defs.specs.Calls.OnSockets.{accept, accepted_under, bind, bound_to, connect, connected_by, connected_under, listen, listener_under, on_socket, paired_under, shutdown, socket_target, socketed_under, socketpair, unless_fault}
@@ -181,12 +181,12 @@ module _ (script : Script) (plain : Plain) (pid : ℕ) where
       end fd number None = either (fifo_waits (fifo_pipe plain.files number) flags) _ _ (parts _ 1) (tells _ _)
 
       there : (fd : ℕ) (r : Result (ℕ × Tree) Errno) → Told script plain pid (opened_node_as script plain pid flags fd r)
-      there fd (Ok found) = either (is_fifo found.1 found.0) _ _ (end fd found.0 _) (tells _ _)
+      there fd (Ok found) = either (is_fifo found.1 found.0) _ _ (end fd found.0 (fifo_fault (fifo_pipe plain.files found.0) flags)) (tells _ _)
       there fd (Err e) = fails e
 
       go : (o : Option ℕ) → Told script plain pid (open_at script plain pid path flags o)
       go None = fails errno.EMFILE
-      go (Some fd) = there fd _
+      go (Some fd) = there fd (open_path plain.files.tree (directory_of plain.table pid) path (opening_of flags))
 
       begins : (o : Option HalfOpen) → Told script plain pid (open_by script plain pid path flags o)
       begins None = go (lowest_free (descriptors_of plain.files pid))

@@ -1,5 +1,5 @@
 -- Each answer of each call leads to files that one step leads to.
-use Rattle.std.proofs.Common.{◌≡◌, ℕ, zero, suc, ◌-◌, ◌==◌, ◌&&◌, ◌||◌, nat_lt, ℤ, pos, negsuc, ◌+ℤ◌, Bool, true, false, cond, List, length, Option, None, Some, is_some, Result, Ok, Err, refl, ap, sym, ◌∙◌, subst}
+use Rattle.std.proofs.Common.{◌≡◌, ℕ, zero, suc, ◌-◌, ◌==◌, ◌&&◌, ◌||◌, nat_lt, not, ℤ, pos, negsuc, ◌+ℤ◌, Bool, true, false, cond, List, length, Option, None, Some, is_some, Result, Ok, Err, refl, ap, sym, ◌∙◌, subst}
 use Rattle.kabi_types.specs.Arguments.{argument_fault, count_of, is_minus_one, may_be_descriptor}
 use Rattle.kabi_types.specs.declared.calls.Call.{Call}
 use Rattle.kabi_types.specs.declared.calls.Call.TheVariants as call
@@ -15,7 +15,7 @@ use Rattle.posix_defs.specs.Machine.{answer_to, machine, unless_wrong}
 use Rattle.posix_defs.specs.Memory.{is_mapped_range, lowest_run}
 use Rattle.posix_defs.specs.MemoryCalls.{in_range, mapped_from, mmap}
 use Rattle.posix_defs.specs.Needs.{pages_in}
-use Rattle.posix_defs.specs.Pipe.{Moving, pipe_read, pipe_write, with_end}
+use Rattle.posix_defs.specs.Pipe.{Moving, opens_of, pipe_read, with_end}
 use Rattle.posix_defs.specs.Pipe as pipes
 use Rattle.posix_defs.specs.Plain.{Plain, with_files}
 use Rattle.posix_defs.specs.Process.{Process, directory_of, memory_of, process_at}
@@ -423,16 +423,17 @@ module _ (script : Script) (plain : Plain) (pid : ℕ) where
       -- the end of a FIFO, by the place of its pipe, whether it is waited for the other side or not
       end : (fd : ℕ) (found : ℕ × Tree) (openings : List (Option HalfOpen)) → OpensEnd plain pid (call.OpenFile path flags) path flags fd found → MayWait plain.files pid flags fd found.0 openings
           → (at : Option ℕ) → fifo_at plain.files found.0 ≡ at → IsStep plain pid (call.OpenFile path flags) true (with_openings (end_at plain.files pid flags fd found.0 at) openings)
-      end fd found openings opens waits (Some place) is = step.joins path flags fd place found openings opens is waits refl
-      end fd found openings opens waits None is = step.begins path flags fd found openings opens is waits refl
+      end fd found openings right may (Some place) is = step.joins path flags fd place found openings right is may refl
+      end fd found openings right may None is = step.begins path flags fd found openings right is may refl
 
       both : (fd : ℕ) (found : ℕ × Tree) (waits : Bool) → OpensEnd plain pid (call.OpenFile path flags) path flags fd found → fifo_waits (fifo_pipe plain.files found.0) flags ≡ waits
           → Stepped plain pid (call.OpenFile path flags) (cond waits (did_part (with_files plain (end_awaits plain.files pid flags fd found.0)) pid 1)
           (replied script (with_files plain (end_opened plain.files pid flags fd found.0)) pid (Val (pos fd))))
-      both fd found true opens waits = subst (IsStep plain pid (call.OpenFile path flags) true) (ap (with_openings (end_opened plain.files pid flags fd found.0)) (ap (λ list. with_pid list pid _) (sym (end_openings plain.files pid flags fd found.0))))
-          (end fd found _ opens (step.waits waits refl) (fifo_at plain.files found.0) refl)
-      both fd found false opens waits = subst (IsStep plain pid (call.OpenFile path flags) true) (ap (with_openings (end_opened plain.files pid flags fd found.0)) (sym (end_openings plain.files pid flags fd found.0)))
-          (end fd found _ opens (step.goes waits refl) (fifo_at plain.files found.0) refl)
+      both fd found true right sleeps = subst (IsStep plain pid (call.OpenFile path flags) true) (ap (with_openings (end_opened plain.files pid flags fd found.0))
+          (ap (λ list. with_pid list pid (Some (record { fd = fd; seen = opens_of (fifo_pipe plain.files found.0) (not (may_write (access_of flags))) }))) (sym (end_openings plain.files pid flags fd found.0))))
+          (end fd found _ right (step.waits sleeps refl) (fifo_at plain.files found.0) refl)
+      both fd found false right sleeps = subst (IsStep plain pid (call.OpenFile path flags) true) (ap (with_openings (end_opened plain.files pid flags fd found.0)) (sym (end_openings plain.files pid flags fd found.0)))
+          (end fd found _ right (step.goes sleeps refl) (fifo_at plain.files found.0) refl)
 
       ends : (fd : ℕ) (found : ℕ × Tree) (fault : Option Errno) → opening_at plain.files pid ≡ None → lowest_free (descriptors_of plain.files pid) ≡ Some fd
           → open_path plain.files.tree (directory_of plain.table pid) path (opening_of flags) ≡ Ok found → is_fifo found.1 found.0 ≡ true

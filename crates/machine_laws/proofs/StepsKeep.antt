@@ -449,8 +449,8 @@ module _ (plain : Plain) (pid : ℕ) (call : Call) (next : Files) (rooted : Root
   step_after (step.pipes two free is) = untreed _ is (two_piped _ _ (λ number e. no_pipe_node _ number e) (λ number e. no_pipe_node _ number e)) new_pipe_bytes refl
   step_after (step.takes fd addr n opened place k which named on may moves is) = untreed _ is (repiped rooted place (after_read (pipe_at plain.files place) k) refl) (taken_bytes place k) refl
   step_after (step.puts fd addr n done opened place k which named on may moves is) = untreed _ is (repiped rooted place (after_write (pipe_at plain.files place) (bytes_left plain pid addr (count_of n) done) k) refl) (put_bytes place k (bytes_left plain pid addr (count_of n) done) (left_bytes addr (count_of n) done)) refl
-  step_after (step.joins path flags fd place found openings opens_it at waits is) = untreed _ is (joined_end place flags) (joined_bytes place (may_write (access_of flags))) refl
-  step_after (step.begins path flags fd found openings opens_it at waits is) = untreed _ is (begun_end path flags fd found opens_it at) (begun_bytes found.0 (may_write (access_of flags))) refl
+  step_after (step.joins path flags fd place found openings opens_it at may is) = untreed _ is (joined_end place flags) (joined_bytes place (may_write (access_of flags))) refl
+  step_after (step.begins path flags fd found openings opens_it at may is) = untreed _ is (begun_end path flags fd found opens_it at) (begun_bytes found.0 (may_write (access_of flags))) refl
   step_after (step.meets path flags opening which begun is) = same _ is refl refl refl refl
   step_after (step.sockets fd free is) = untreed _ is made pipes refl
   step_after (step.pairs two free is) = untreed _ is pair_made pipes refl

@@ -267,8 +267,8 @@ module _ (plain : Plain) (pid : ℕ) (call : Call) (next : Files) (holds : Holds
   step_names (step.pipes two free is) = kept _ is (λ socket here. pushed_old (plain.files.descriptions ++ Some _ ∷ []) _ socket (pushed_old plain.files.descriptions _ socket here)) (λ place number has. has)
   step_names (step.takes fd addr n opened place k which named_it on may moves is) = same _ is refl refl
   step_names (step.puts fd addr n done opened place k which named_it on may moves is) = same _ is refl refl
-  step_names (step.joins path flags fd place found openings opens at waits is) = kept _ is (pushed_old plain.files.descriptions _) (λ place number has. has)
-  step_names (step.begins path flags fd found openings opens at waits is) = kept _ is (pushed_old plain.files.descriptions _) (λ place number has. has)
+  step_names (step.joins path flags fd place found openings opens at may is) = kept _ is (pushed_old plain.files.descriptions _) (λ place number has. has)
+  step_names (step.begins path flags fd found openings opens at may is) = kept _ is (pushed_old plain.files.descriptions _) (λ place number has. has)
   step_names (step.meets path flags opening which begun is) = same _ is refl refl
   step_names (step.sockets fd free is) = kept _ is (pushed_old plain.files.descriptions _) (new_fewer plain.files.sockets (length plain.files.sockets) (omega arith))
   step_names (step.pairs two free is) = kept _ is (λ socket here. pushed_old (plain.files.descriptions ++ Some _ ∷ []) _ socket (pushed_old plain.files.descriptions _ socket here)) (pair_fewer plain.files.sockets)

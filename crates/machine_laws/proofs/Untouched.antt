@@ -60,8 +60,8 @@ module _ (plain : Plain) (pid : ℕ) (call : Call) (next : Files) (unnamed : nam
   by_step (step.pipes two free is) = tree_of _ is refl
   by_step (step.takes fd addr n opened place k which named_by on may moves is) = tree_of _ is refl
   by_step (step.puts fd addr n done opened place k which named_by on may moves is) = tree_of _ is refl
-  by_step (step.joins path flags fd place there openings opens at waits is) = tree_of _ is refl
-  by_step (step.begins path flags fd there openings opens at waits is) = tree_of _ is refl
+  by_step (step.joins path flags fd place there openings opens at may is) = tree_of _ is refl
+  by_step (step.begins path flags fd there openings opens at may is) = tree_of _ is refl
   by_step (step.meets path flags opening which begun is) = tree_of _ is refl
   by_step (step.sockets fd free is) = tree_of _ is refl
   by_step (step.pairs two free is) = tree_of _ is refl
