@@ -10,7 +10,7 @@ use Rattle.kabi_types.specs.declared.scripts.Script.{Script}
 use Rattle.kabi_types.specs.declared.errnos.Errno.{Errno}
 use Rattle.kabi_types.specs.declared.errnos.Errno.TheVariants.{EACCES, ENOEXEC}
 use Rattle.memfs_ops.specs.Starting.{ArePrograms}
-use Rattle.posix_defs.specs.PathCalls.{bytes_in, exec_found, exec_path, first_line, is_socket, node_led, program_of, unless}
+use Rattle.posix_defs.specs.PathCalls.{bytes_in, exec_found, exec_path, first_line, is_fifo, is_socket, node_led, program_of, unless}
 use Rattle.posix_defs.specs.Paths.{resolve}
 use Rattle.posix_defs.specs.ScriptValues.{is_letter, is_name, is_name_byte}
 use Rattle.posix_defs.specs.Tree.{Tree, is_directory, node_at}
@@ -68,7 +68,7 @@ started_within tree cwd path programs place is = by_led (node_led (resolve tree 
     by_kind false bytes e = by_line bytes e
 
     by_led : (led : Result ℕ Errno) → Ok place ≡ exec_found tree programs led → place < length programs
-    by_led (Ok number) e = by_kind (is_directory tree number || is_socket tree number) (bytes_in (node_at tree number)) e
+    by_led (Ok number) e = by_kind (is_directory tree number || is_socket tree number || is_fifo tree number) (bytes_in (node_at tree number)) e
     by_led (Err errno) e = cc
 
 -- and the path leads to a node

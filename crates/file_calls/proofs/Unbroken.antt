@@ -7,7 +7,7 @@ use Rattle.kheap_slabs.specs.Heap.{Heap}
 use Rattle.kheap_slabs.specs.declared.objects.Target.{Target}
 use Rattle.kheap_slabs.specs.declared.objects.Target.TheVariants as target
 use Rattle.kabi_types.specs.Arguments.{count_of}
-use Rattle.open_laws.specs.Described.{access_in, node_in, target_in}
+use Rattle.open_laws.specs.Described.{access_in, inode_in, target_in}
 use Rattle.open_laws.specs.Placed.{Numbers}
 use Rattle.posix_defs.proofs.SignalLemmas.{write_goes_on}
 use Rattle.posix_defs.specs.Calls.Opened.{opened_at}
@@ -29,7 +29,7 @@ use Rattle.store_objects.specs.Standing.{StandsFor}
 use Rattle.store_objects.specs.Walking.{Serves, WorldReached}
 
 -- what it is open on is read, whatever else
-node_is_read : (numbers : Numbers) (plain : Plain) (what : Target) → IsSome (node_in what) → is_unread plain.files (target_in numbers what) ≡ false
+node_is_read : (numbers : Numbers) (plain : Plain) (what : Target) → IsSome (inode_in what) → is_unread plain.files (target_in numbers what) ≡ false
 node_is_read numbers plain (target.Inode number) some = refl
 node_is_read numbers plain (target.Pipe key) some = absurd (let both : false ≡ true = some in cc)
 node_is_read numbers plain (target.Sock key) some = absurd (let both : false ≡ true = some in cc)

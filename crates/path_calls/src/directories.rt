@@ -74,8 +74,8 @@ pub fn mkfifo(
     ensures does { Reaches script.now objects.old caller.now.place.pid (Call.Mkfifo path.now) (λ plain. mkfifo script.now plain caller.now.place.pid path.now) result objects.new }
 {
     let cwd = directory_of(objects, caller.place);
-    let made = objects.tree.make_fifo(&mut objects.heap, purse, cwd, path);
-    go_on(script, objects, caller, done(made))
+    let named = objects.tree.make_fifo(&mut objects.heap, purse, cwd, path);
+    go_on(script, objects, caller, done(named))
 }
 
 /// Takes a directory without entries away. EINVAL and ENOTEMPTY where its path ends in `.` and `..`, ENOTEMPTY where it has entries,
