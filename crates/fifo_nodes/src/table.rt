@@ -18,7 +18,6 @@ use pipe_ends::close_end;
 use std::marker::Model;
 
 /// Which FIFOs have a pipe: the key of the first of the chain.
-#[derive(Clone, Copy)]
 pub struct FifoTable {
     first: Option<u32>,
 }
