@@ -18,6 +18,7 @@ use pipe_ends::close_end;
 use std::marker::Model;
 
 /// Which FIFOs have a pipe: the key of the first of the chain.
+#[derive(Drop)]
 pub struct FifoTable {
     first: Option<u32>,
 }

@@ -13,6 +13,5 @@ closes_none : (files : Files) (pid : ℕ) → ((fd : ℕ) → after_close files 
 closes_none files pid same [] = refl
 closes_none files pid same (fd ∷ fds) = ap (λ f. after_closes f pid fds) (same fd) ∙ closes_none files pid same fds
 
-pub end_of_none : (numbers : Numbers) (old : Heap) (kept : TableView) (files : Files) (pid : ℕ) → ((fd : ℕ) → named_at old kept pid fd ≡ None) → HaveOpen numbers old kept files → after_end_of files pid ≡ files
-unfolding after_end_of
+pub end_of_none : (numbers : Numbers) (old : Heap) (kept : TableView) (files : Files) (pid : ℕ) → ((fd : ℕ) → named_at old kept pid fd ≡ None) → HaveOpen numbers old kept files → after_closes files pid all_numbers ≡ files
 end_of_none numbers old kept files pid none have = closes_none files pid (λ fd. unopened numbers old kept files pid fd (none fd) have) all_numbers

@@ -49,4 +49,4 @@ pub mod EndLemmas
 pub mod ReadCall
 pub mod WriteCall
 pub mod Breaking
-pub mod Meeting
+pub mod OtherSides

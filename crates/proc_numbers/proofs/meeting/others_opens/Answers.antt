@@ -4,7 +4,7 @@ use Rattle.open_laws.specs.Polled.{IsTargetIn}
 use Rattle.posix_defs.specs.Calls.OnFiles.{others_opens}
 use Rattle.posix_defs.specs.Files.Descriptions.{may_write}
 use Rattle.posix_defs.specs.Pipe.{opens_of}
-use Rattle.proc_numbers.proofs.Meeting.{pipe_is}
+use Rattle.proc_numbers.proofs.OtherSides.{pipe_is}
 use Rattle.proc_numbers.proofs.meeting.others_opens.Goals as goal
 
 pub pipe_opens-requires : goal.pipe_opens-requires
