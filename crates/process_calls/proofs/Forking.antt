@@ -136,10 +136,10 @@ at_last controls last d (suc i) h =
     ∙ ap (λ found. unwrap_or found d) (get_behind controls last [])
 
 -- where neither has changed the objects are the same
-pub same_objects : (old : Objects) (heap : Heap) (procs : TableView) → heap ≡ old.heap → procs ≡ old.procs → record { heap = heap; procs = procs; tree = old.tree; names = old.names } ≡ old
+pub same_objects : (old : Objects) (heap : Heap) (procs : TableView) → heap ≡ old.heap → procs ≡ old.procs → record { heap = heap; procs = procs; tree = old.tree; names = old.names; fifos = old.fifos } ≡ old
 same_objects old heap procs same_heap same_procs =
-    ap (λ (h : Heap). record { heap = h; procs = procs; tree = old.tree; names = old.names }) same_heap
-    ∙ ap (λ (t : TableView). record { heap = old.heap; procs = t; tree = old.tree; names = old.names }) same_procs
+    ap (λ (h : Heap). record { heap = h; procs = procs; tree = old.tree; names = old.names; fifos = old.fifos }) same_heap
+    ∙ ap (λ (t : TableView). record { heap = old.heap; procs = t; tree = old.tree; names = old.names; fifos = old.fifos }) same_procs
 
 -- the child's pid is the one behind the last
 pub number_of : (there last child : ℕ) → Ok child ≡ forked_as there last → child ≡ last + 1

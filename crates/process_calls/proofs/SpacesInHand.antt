@@ -58,7 +58,7 @@ module _ (objects : Objects) (mid new : Heap) (pid key : ℕ) (space now : List 
   }
 
   abbrev back : Objects
-  back = record { heap = new; procs = objects.procs; tree = objects.tree; names = objects.names }
+  back = record { heap = new; procs = objects.procs; tree = objects.tree; names = objects.names; fifos = objects.fifos }
 
   pub kept_then : (script : Script) → AreKept script objects → length now ≡ 4 → AreKept script back
   kept_then script kept four = kept_back script objects back mid pid key has.proc now kept turns refl refl refl four

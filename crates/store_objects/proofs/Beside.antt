@@ -1,6 +1,7 @@
 -- Objects whose caches have become others, with their part of the heap, and all else of which is the same.
 use Rattle.std.proofs.Common.{◌≡◌, ℕ, true, List, Option, refl}
 use Rattle.kabi_types.specs.declared.scripts.Script.{Script}
+use Rattle.fifo_nodes.proofs.ChainLemmas.{chain_kept}
 use Rattle.kheap_slabs.specs.declared.objects.Block.{Block}
 use Rattle.kheap_slabs.specs.declared.objects.Name.{Name}
 use Rattle.kheap_slabs.specs.declared.objects.Vnode.{Vnode}
@@ -32,7 +33,7 @@ beside_in h vnodes names blocks high marks last_high = record h { vnodes = vnode
 -- the objects with that heap, and another tree of files
 abbrev pub beside_as : Objects → List (Option Vnode) → List (Option Name) → List (Option Block) → ℕ → ℕ → ℕ → TreeView → Objects
 beside_as objects vnodes names blocks high marks last_high fs =
-    record { heap = beside_in objects.heap vnodes names blocks high marks last_high; procs = objects.procs; tree = fs; names = objects.names }
+    record { heap = beside_in objects.heap vnodes names blocks high marks last_high; procs = objects.procs; tree = fs; names = objects.names; fifos = objects.fifos }
 
 -- a world with another tree, in which other things are kept and more was read
 abbrev pub treed_in : World → Tree → Kept → ℕ → World
@@ -65,6 +66,7 @@ module _ (script : Script) (objects : Objects) (vnodes : List (Option Vnode)) (n
     calls = kept.calls;
     bound = kept.bound;
     places = kept.places;
+    chain = chain_kept objects.heap new.heap objects.fifos (λ key. refl) kept.chain;
     caches = keeps;
     size = kept.size;
   }
@@ -80,7 +82,7 @@ module _ (script : Script) (objects : Objects) (vnodes : List (Option Vnode)) (n
 
   files_beside : (files : Files) (tree : Tree) (account : Account) → HaveFiles objects files account → HaveFiles new (with_tree files tree) account
   files_beside files tree account have =
-      files_on objects new files (with_tree files tree) account account refl refl refl refl refl refl refl refl refl (λ number have. record { each = have.each; made = have.made }) have
+      files_on objects new files (with_tree files tree) account account refl refl refl refl refl refl refl refl refl (λ number have. record { each = have.each; made = have.made; openings = have.openings }) have
 
   -- they stand for the world in which the tree, what is kept, and how much was read are others
   pub stands_beside : (world : World) (tree : Tree) (kept : Kept) (reads : ℕ) → StandsFor script objects world → AreDirectories tree (directories_of world.plain.table)

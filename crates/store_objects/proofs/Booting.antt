@@ -6,6 +6,8 @@ use Rattle.std.specs.Str.{bytes_eq}
 use Rattle.std.proofs.lemmas.Bool.Decides.{eqb_tells}
 use Rattle.std.proofs.lemmas.List.{length-replicate}
 use Rattle.std.proofs.lemmas.Slice.Eq.{bytes_eq-Decides}
+use Rattle.fifo_nodes.specs.Chain.{IsChain}
+use Rattle.fifo_nodes.proofs.ChainLemmas.{pipe_of}
 use Rattle.kabi_types.specs.Class.{size}
 use Rattle.kabi_types.specs.Counts.{need_bytes, with_count}
 use Rattle.kabi_types.specs.declared.classes.Class.TheVariants as class
@@ -40,7 +42,9 @@ use Rattle.open_laws.specs.Placed.{Numbers}
 use Rattle.posix_defs.specs.Account.{no_account}
 use Rattle.posix_defs.specs.Files.Bare.{IsBare}
 use Rattle.posix_defs.specs.Files.Descriptors.{none_open}
-use Rattle.posix_defs.specs.Files.State.{boot_files, descriptors_of}
+use Rattle.pipe_ends.specs.Links.{Link, link_at}
+use Rattle.proc_table.specs.Opening.{opening_of}
+use Rattle.posix_defs.specs.Files.State.{opening_at, boot_files, descriptors_of}
 use Rattle.posix_defs.specs.Tree.{Tree, new_tree, root as root_node}
 use Rattle.posix_defs.specs.World.{boot_kept as kept_at_boot, boot_world, is_in}
 use Rattle.kabi_types.specs.declared.inodes.Inode.{Inode}
@@ -221,7 +225,7 @@ module _ (heap : ℕ) (inode : Inode) (empty rooted : Heap) (is_empty : empty �
 module _ (heap disk : ℕ) (control : Control) (rooted : Heap) (fs : TreeView) (mid new : Objects)
     (no_pages : (k : ℕ) → object rooted.pages k ≡ None) (no_procs : AreKeysOf rooted.procs []) (owned : IsOwned rooted no_owners)
     (bare : IsUnopened heap rooted) (owners : HasItsOwners rooted []) (stands : TreeStands rooted fs (new_tree disk) root_alone) (kept : kept_by fs ≡ kept_at_boot)
-    (unread : fs.disk.reads ≡ 0) (tree : mid.tree ≡ fs) (unbound : mid.names ≡ replicate (most_nodes + 1) None) (bytes : rooted.heap ≡ heap)
+    (unread : fs.disk.reads ≡ 0) (tree : mid.tree ≡ fs) (unbound : mid.names ≡ replicate (most_nodes + 1) None) (no_fifos : mid.fifos ≡ None) (bytes : rooted.heap ≡ heap)
     (procs : procs_of mid ≡ first_proc ∷ []) (last : mid.procs.last ≡ 1)
     (moves : (others : Owners) → IsOwned rooted others → TableMoves rooted no_table mid.heap mid.procs)
     (table : IsTable mid.heap mid.procs (Some first_process ∷ []))
@@ -332,6 +336,7 @@ module _ (heap disk : ℕ) (control : Control) (rooted : Heap) (fs : TreeView) (
     unread = ap (λ (t : TreeView). t.disk.reads) same_tree ∙ unread;
     size = as_was (λ h. h.heap) (λ h procs nodes pages high. refl) ∙ bytes;
     names = turned.names ∙ unbound;
+    fifos = turned.fifos ∙ no_fifos;
     first = first;
     last = ap (λ t. t.last) turned.same ∙ last;
     table = subst (λ k. IsTable new.heap k (Some first_process ∷ [])) (sym turned.same)
@@ -402,6 +407,25 @@ boot_bound script objects control booted =
     no_name key node None there is = cc
     no_name key node (Some sock) there is = none_there key sock there
 
+-- No FIFO has a pipe, since no pipe is there.
+boot_chain : (script : Script) (objects : Objects) (control : Control) → HasBooted objects script.heap script.disk control → IsChain objects.heap objects.fifos
+boot_chain script objects control booted = subst (IsChain objects.heap) (sym booted.fifos) (record {
+  keys = [];
+  chained = refl;
+  once = λ i j before within same. omega (arith, within);
+  all = λ key link is. absurd (none_there key link is);
+  alone = λ key other link another is also same. absurd (none_there key link is);
+  few = λ key link is. absurd (none_there key link is);
+})
+  where
+    no_pipe : (key : ℕ) (pipe : Pipe) → object objects.heap.pipes key ≡ Some pipe → ⊥
+    no_pipe key pipe is =
+        let opened = booted.opened boot_numbers (boot_files script.disk) (boot_bare script.disk) in
+        let there = opened.piped.there key pipe is in nothing_at (boot_numbers.pipes key) there.0 there.1
+
+    none_there : (key : ℕ) (link : Link) → link_at objects.heap key ≡ Some link → ⊥
+    none_there key link is = let it = pipe_of objects.heap key link is in no_pipe key it.0 it.1
+
 -- what is kept where the first process stands at its call
 pub boot_kept : (script : Script) (objects : Objects) (control : Control) → HasBooted objects script.heap script.disk control → Stands script control → Rests script control
     → AreKept script objects
@@ -414,6 +438,7 @@ boot_kept script objects control booted stands rests = record {
   calls = subst (AreAtCalls script) (sym booted.first) ((λ up. record { stands = stands; rests = rests }), tt);
   bound = boot_bound script objects control booted;
   places = subst (λ (list : List (Option ℕ)). most_nodes < length list) (sym booted.names) (one_behind most_nodes);
+  chain = boot_chain script objects control booted;
   caches = (new_tree script.disk, root_alone, booted.stands);
   size = booted.size;
 }
@@ -427,6 +452,10 @@ boot_opens script objects control booted = record {
     descriptors = record {
       each = λ pid. each pid ∙ sym (ap (λ procs. descriptors_by boot_numbers.descs (places_in (numbers_in objects.heap) (proc_of procs pid))) booted.first);
       made = sym booted.last;
+      openings = record {
+        each = λ pid. unopened pid ∙ sym (ap (λ procs. opening_of (proc_of procs pid)) booted.first);
+        made = sym booted.last;
+      };
     };
   };
   fronts = record {
@@ -448,6 +477,18 @@ boot_opens script objects control booted = record {
         by_hit : (hit : Bool) → descriptors_by boot_numbers.descs (places_in (numbers_in objects.heap) (cond hit (Some (record first_proc { control = control })) None)) ≡ none_open
         by_hit true = ap (descriptors_by boot_numbers.descs) (none_numbers objects.heap (record first_proc { control = control }) (refl, refl)) ∙ none_by boot_numbers.descs
         by_hit false = none_by boot_numbers.descs
+
+    unopened : (pid : ℕ) → opening_at (boot_files script.disk) pid ≡ opening_of (proc_of (record first_proc { control = control } ∷ []) pid)
+    unopened pid = none_made pid ∙ sym (by_hit (1 == pid))
+      where
+        none_made : (pid : ℕ) → opening_at (boot_files script.disk) pid ≡ None
+        none_made zero = refl
+        none_made (suc zero) = refl
+        none_made (suc (suc n)) = refl
+
+        by_hit : (hit : Bool) → opening_of (cond hit (Some (record first_proc { control = control })) None) ≡ None
+        by_hit true = refl
+        by_hit false = refl
 
 boot_controls : (script : Script) (control : Control) → settled script (at_start (place_of (codes "init") script.programs)) ≡ control
     → (pid : ℕ) (proc : Proc) → proc_of (record first_proc { control = control } ∷ []) pid ≡ Some proc

@@ -62,8 +62,8 @@ disposing signal ignored proc = with_ignored proc (with_disposition (ignored_by 
 
 -- what the table did is that one process has become another
 pub one_disposed : (old new : Objects) (place : Place) (signal : ℕ) (ignored before : Bool) → Disposes old.heap new.heap old.procs place signal ignored before
-    → new.procs ≡ old.procs → new.tree ≡ old.tree → new.names ≡ old.names → TakesNothing old.heap new.heap → OneChanges old place.pid (disposing signal ignored) new
-one_disposed old new place signal ignored before disposes same tree names takes = record {
+    → new.procs ≡ old.procs → new.tree ≡ old.tree → new.names ≡ old.names → new.fifos ≡ old.fifos → TakesNothing old.heap new.heap → OneChanges old place.pid (disposing signal ignored) new
+one_disposed old new place signal ignored before disposes same tree names fifos takes = record {
   proc = disposes.proc;
   key = place.key;
   found = disposes.found;
@@ -71,6 +71,7 @@ one_disposed old new place signal ignored before disposes same tree names takes 
   same = same;
   tree = tree;
   names = names;
+  fifos = fifos;
   takes = takes;
 }
 
@@ -127,7 +128,7 @@ module _ (script : Script) (old new : Objects) (pid signal : ℕ) (ignored : Boo
     };
     memory = account_changed script old new pid (disposing signal ignored) kept changes world.account.frames stands.memory;
     files = files_moved old new world.plain.files world.plain.files world.account world.account (moves_changed script old new pid (disposing signal ignored) kept changes)
-        refl refl refl refl refl (λ number have. descriptors_changed script old new pid (disposing signal ignored) kept changes world.plain.files number have) stands.files;
+        refl refl refl refl refl (λ number have. descriptors_changed script old new pid (disposing signal ignored) kept changes refl world.plain.files number have) stands.files;
     tree = tree_goes_on script old new world next stands refl works stays refl refl refl;
     family = changed_family (ignoring those) (ignoring_kin those) world.plain.table pid stands.family;
     works = works_on world.plain next.plain refl works stands.works;

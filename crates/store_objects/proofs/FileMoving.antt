@@ -28,6 +28,7 @@ kept_turned script old new kept moves = record {
   calls = calls_stay script old new moves.procs moves.holds kept.calls;
   bound = moves.bound;
   places = subst (λ n. most_nodes < n) (sym moves.places) kept.places;
+  chain = moves.chain;
   caches = moves.keeps;
   size = moves.size ∙ kept.size;
 }

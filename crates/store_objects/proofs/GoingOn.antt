@@ -124,7 +124,7 @@ module _ (script : Script) (old new : Objects) (pid : ℕ) (change : Proc → Pr
   -- what is kept then, where it stands at its call if it runs
   pub kept_changed : (became.status ≡ None → IsAtCall script became) → AreKept script new
   kept_changed at =
-      kept_on script old new kept changes.tree changes.names moves_changed
+      kept_on script old new kept changes.tree changes.names changes.fifos moves_changed
       (subst (λ (view : TableView). HoldLeaves new.heap.leaves (processes new.heap view)) (sym changes.same)
       (hold_turned old.heap new.heap old.procs pid changes.key changes.proc became kept.holds changes.turns kept.leaves))
       (subst (AllByRecursion (λ proc. length proc.nodes ≡ 4)) (sym procs_changed)
@@ -136,12 +136,21 @@ module _ (script : Script) (old new : Objects) (pid : ℕ) (change : Proc → Pr
       ∙ names_replaced key pid changes.proc became (procs_of old) (ap (λ proc. proc.descriptors) changes.turns.same)
       (only_one (procs_of old) 0 pid changes.proc (rising_in script old kept) changes.found))
 
-  -- its descriptors are what they were
-  pub descriptors_changed : (files : Files) (number : ℕ → ℕ) → HaveDescriptors (numbers_in old.heap) number (procs_of old) old.procs.last files → HaveDescriptors (numbers_in new.heap) number (procs_of new) new.procs.last files
-  descriptors_changed files number have =
+  -- its descriptors are what they were, where it sleeps in no other open
+  pub descriptors_changed : became.opening ≡ changes.proc.opening → (files : Files) (number : ℕ → ℕ) → HaveDescriptors (numbers_in old.heap) number (procs_of old) old.procs.last files → HaveDescriptors (numbers_in new.heap) number (procs_of new) new.procs.last files
+  descriptors_changed still files number have =
       subst (λ (procs : TableView). HaveDescriptors (numbers_in new.heap) number (processes new.heap procs) procs.last files) (sym changes.same)
       (by_pids new.heap number (processes new.heap old.procs) old.procs.last files
-      (have_turned old.heap new.heap old.procs pid changes.key changes.proc became number files kept.holds changes.turns
+      (have_turned old.heap new.heap old.procs pid changes.key changes.proc became number files kept.holds changes.turns still
+      (by_procs old.heap number (procs_of old) old.procs.last files (rising_in script old kept) have)))
+
+  -- or it sleeps in another open
+  pub descriptors_slept : changes.proc.pid ≡ pid → (files : Files) (number : ℕ → ℕ) → HaveDescriptors (numbers_in old.heap) number (procs_of old) old.procs.last files
+      → HaveDescriptors (numbers_in new.heap) number (procs_of new) new.procs.last (with_opening files pid (opening_in became))
+  descriptors_slept own files number have =
+      subst (λ (procs : TableView). HaveDescriptors (numbers_in new.heap) number (processes new.heap procs) procs.last (with_opening files pid (opening_in became))) (sym changes.same)
+      (by_pids new.heap number (processes new.heap old.procs) old.procs.last (with_opening files pid (opening_in became))
+      (have_turned_asleep old.heap new.heap old.procs pid changes.key changes.proc became number files kept.holds changes.turns
       (by_procs old.heap number (procs_of old) old.procs.last files (rising_in script old kept) have)))
 
   pub account_changed : (frames : Frames) → HasAccount old.heap old.procs frames → HasAccount new.heap new.procs frames
@@ -172,7 +181,7 @@ kept_moved script old new pid control kept moves stands rests =
 
 pub descriptors_moved : (script : Script) (old new : Objects) (pid : ℕ) (control : Control) (files : Files) → (kept : AreKept script old) → (moves : MovesOn old pid control new)
     → Stands script control → Rests script control → (number : ℕ → ℕ) → HaveDescriptors (numbers_in old.heap) number (procs_of old) old.procs.last files → HaveDescriptors (numbers_in new.heap) number (procs_of new) new.procs.last files
-descriptors_moved script old new pid control files kept moves at rests number have = descriptors_changed script old new pid (at_control control) kept moves files number have
+descriptors_moved script old new pid control files kept moves at rests number have = descriptors_changed script old new pid (at_control control) kept moves refl files number have
 
 -- The objects stand for the world in which its control is another, which leads to the new one; those of all others are what they
 -- were.

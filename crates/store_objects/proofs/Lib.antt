@@ -30,6 +30,7 @@ pub mod Paying
 pub mod Replies
 pub mod Callers
 pub mod Dispositions
+pub mod Sleeping
 pub mod WithoutOne
 pub mod Moving
 pub mod Booting
@@ -42,4 +43,5 @@ pub mod Staying
 pub mod Within
 pub mod Answered
 pub mod Serving
+pub mod Beginning
 pub mod StoreFiles

@@ -286,7 +286,7 @@ module _ (script : Script) (old mid : Objects) (world : World) (directory : ℕ)
         files_new : HaveFiles new world.plain.files world.account
         files_new = pinned_files moved new lets world.plain.files world.account
             (files_moved mid moved world.plain.files world.plain.files world.account world.account (moves_changed script mid moved pid at_directory kept_mid moves) refl refl refl refl refl
-            (λ number have. descriptors_changed script mid moved pid at_directory kept_mid moves world.plain.files number have)
+            (λ number have. descriptors_changed script mid moved pid at_directory kept_mid moves refl world.plain.files number have)
             (pinned_files old mid once world.plain.files world.account has.files))
 
         -- ---- who holds what

@@ -3,6 +3,8 @@ use Rattle.std.proofs.Common.{◌≡◌, ◌≢◌, ◌⊎◌, ℕ, ◌==◌, Bo
 use Rattle.std.specs.List.{AllByRecursion}
 use Rattle.std.specs.Option.{option_map}
 use Rattle.std.proofs.lemmas.Bool.Decides.{eqb_tells}
+use Rattle.fifo_nodes.specs.Chain.{IsChain}
+use Rattle.fifo_nodes.proofs.ChainLemmas.{chain_kept}
 use Rattle.kheap_slabs.specs.declared.objects.Proc.{Proc}
 use Rattle.kheap_slabs.specs.Heap.{Heap}
 use Rattle.kheap_slabs.specs.Owners.{OwnsItsObjects}
@@ -14,7 +16,7 @@ use Rattle.proc_numbers.specs.Naming.{ChangesNumbers}
 use Rattle.proc_numbers.proofs.Listing.{found_before, found_now, found_others}
 use Rattle.proc_files.specs.Names.{name_of}
 use Rattle.proc_table.specs.Accounting.{HasAccount}
-use Rattle.proc_table.specs.Procs.{HasNoneOpenOnce, IsAlive, IsLight, first_proc, proc_of, process_of}
+use Rattle.proc_table.specs.Procs.{HasNoneOpenOnce, IsAlive, IsAwakeOnce, IsLight, first_proc, proc_of, process_of}
 use Rattle.proc_table.specs.Standing.{AreFrom, IsTable}
 use Rattle.proc_table.specs.Table.{Holds, TableView, processes, procs_at}
 use Rattle.proc_table.proofs.AccountLemmas.{becomes_account}
@@ -166,7 +168,11 @@ module _ (old new : Heap) (kept : TableView) (pid : ℕ) (holds : Holds old kept
       was = has_it IsLight (processes old kept) pid changes.proc holds.light before
 
       of_pid : IsLight now
-      of_pid = subst IsLight (sym changes.same) (record { memory = was.memory; descriptors = subst (λ status. HasNoneOpenOnce status changes.now.descriptors changes.now.leaves) (sym up) tt })
+      of_pid = subst IsLight (sym changes.same) (record {
+        memory = was.memory;
+        descriptors = subst (λ status. HasNoneOpenOnce status changes.now.descriptors changes.now.leaves) (sym up) tt;
+        awake = subst (λ status. IsAwakeOnce status changes.proc.opening) (sym up) tt;
+      })
 
       by_pid_of : (q : ℕ) (proc : Proc) → proc_of (processes new kept) q ≡ Some proc
           → (((q == pid) ≡ true) × (q ≡ pid)) ⊎ (((q == pid) ≡ false) × (q ≢ pid)) → IsLight proc
@@ -185,16 +191,17 @@ module _ (old new : Heap) (kept : TableView) (pid : ℕ) (holds : Holds old kept
       }
 
 -- Where a call changes what a process has open that runs, only what is open has changed of the store.
-pub moves_opened : (old new : Objects) (pid : ℕ) → Holds old.heap old.procs → new.procs ≡ old.procs → new.tree ≡ old.tree → new.names ≡ old.names → IsAlive (procs_of old) pid
+pub moves_opened : (old new : Objects) (pid : ℕ) → Holds old.heap old.procs → new.procs ≡ old.procs → new.tree ≡ old.tree → new.names ≡ old.names → new.fifos ≡ old.fifos → IsChain old.heap old.fifos → IsAlive (procs_of old) pid
     → ChangesNumbers old.heap new.heap old.procs pid → AreListed new.heap old.procs → HasItsOwners new.heap [] → ((key : ℕ) → name_of new.heap.socks key ≡ name_of old.heap.socks key) → OpenMoves old new
-moves_opened old new pid holds same tree table alive changes listed owners names =
-    subst (λ (procs : TableView). OpenMoves old (record { heap = new.heap; procs = procs; tree = new.tree; names = new.names })) (sym same) (record {
+moves_opened old new pid holds same tree table fifos chain alive changes listed owners names =
+    subst (λ (procs : TableView). OpenMoves old (record { heap = new.heap; procs = procs; tree = new.tree; names = new.names; fifos = new.fifos })) (sym same) (record {
       procs = record { same = refl; each = each old.heap new.heap old.procs pid holds changes };
       holds = holds_opened old.heap new.heap old.procs pid holds changes alive listed owners.objects;
       all = listed.all;
       leaves = listed.leaves;
       owners = owners;
       names = names;
+      chain = subst (IsChain new.heap) (sym fifos) (chain_kept old.heap new.heap old.fifos changes.links chain);
       tree = record {
         tree = tree;
         names = table;

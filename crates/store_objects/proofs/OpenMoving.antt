@@ -91,6 +91,7 @@ kept_opened script old new kept moves = record {
   calls = calls_stay script old new moves.procs moves.holds kept.calls;
   bound = subst (AreBound (name_of new.heap.socks)) (sym moves.tree.names) (bound_on (name_of old.heap.socks) (name_of new.heap.socks) old.names kept.bound moves.names);
   places = subst (λ (names : List (Option ℕ)). most_nodes < length names) (sym moves.tree.names) kept.places;
+  chain = moves.chain;
   caches = tree_kept old new moves.tree kept.caches;
   size = moves.tree.caches.size ∙ kept.size;
 }

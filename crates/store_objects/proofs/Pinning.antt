@@ -29,8 +29,8 @@ use Rattle.store_objects.proofs.Beside.{kept_beside}
 use Rattle.store_objects.proofs.Opening.{files_on}
 use Rattle.store_objects.proofs.TreesOn.{stands_on}
 
-abbrev objects_of : Heap → TableView → TreeView → List (Option ℕ) → Objects
-objects_of heap procs tree names = record { heap = heap; procs = procs; tree = tree; names = names }
+abbrev objects_of : Heap → TableView → TreeView → List (Option ℕ) → Option ℕ → Objects
+objects_of heap procs tree names fifos = record { heap = heap; procs = procs; tree = tree; names = names; fifos = fifos }
 
 -- what it stands for it stands for where it stays
 pub stands_where : (old new : Objects) (tree : Tree) (pins : ℕ → ℕ) → TreeStays old new → Stands old.heap old.tree tree pins → Stands new.heap new.tree tree pins
@@ -84,9 +84,10 @@ module _ (old new : Objects) (only : OnlyPins old new) where
   pub pinned_kept : (script : Script) → AreKept script old → KeepsTree new.heap new.tree → AreKept script new
   pinned_kept script kept keeps =
       subst (AreKept script)
-      (sym (ap (λ (h : Heap). objects_of h new.procs new.tree new.names) only.heap
-      ∙ ap (λ (view : TableView). objects_of (record old.heap { vnodes = new.heap.vnodes }) view new.tree new.names) only.procs
-      ∙ ap (objects_of (record old.heap { vnodes = new.heap.vnodes }) old.procs new.tree) only.names))
+      (sym (ap (λ (h : Heap). objects_of h new.procs new.tree new.names new.fifos) only.heap
+      ∙ ap (λ (view : TableView). objects_of (record old.heap { vnodes = new.heap.vnodes }) view new.tree new.names new.fifos) only.procs
+      ∙ ap (λ (names : List (Option ℕ)). objects_of (record old.heap { vnodes = new.heap.vnodes }) old.procs new.tree names new.fifos) only.names
+      ∙ ap (objects_of (record old.heap { vnodes = new.heap.vnodes }) old.procs new.tree old.names) only.fifos))
       (kept_beside script old new.heap.vnodes old.heap.names old.heap.blocks old.heap.high old.heap.marks old.heap.last_high new.tree kept (subst (λ (h : Heap). KeepsTree h new.tree) only.heap keeps))
 
   pub pinned_stays : KeptStays old.tree new.tree

@@ -26,10 +26,10 @@ use Rattle.store_objects.specs.FileWorlds.{HasAnswered, turned_in}
 use Rattle.store_objects.proofs.FileMoving.{stands_turned}
 
 -- so many are kept as the heap has
-few : (new old need kept was : ℕ) → new ≤ old + need → new ≡ kept → old ≡ was → kept ≤ was + need
+pub few : (new old need kept was : ℕ) → new ≤ old + need → new ≡ kept → old ≡ was → kept ≤ was + need
 few new old need kept was within same is = omega arith
 
-rises : (world was now : ℕ) → world ≡ was → was ≤ now → world ≤ now
+pub rises : (world was now : ℕ) → world ≡ was → was ≤ now → world ≤ now
 rises world was now same more = omega arith
 
 module _ (script : Script) (old mid new : Objects) (pid : ℕ) (which : Call) (said : Reply) (told : Turned) (within : CachesWithin old mid which) (tells : told ≡ turned.Done said) where

@@ -3,6 +3,7 @@ use Rattle.std.proofs.Common.{◌≡◌, ◌≢◌, ◌⊎◌, ℕ, ◌==◌, tr
 use Rattle.std.specs.List.{AllByRecursion}
 use Rattle.std.specs.Option.{option_map}
 use Rattle.std.proofs.lemmas.Bool.Decides.{eqb_tells}
+use Rattle.fifo_nodes.specs.Chain.{IsChain}
 use Rattle.kheap_slabs.specs.declared.objects.Proc.{Proc}
 use Rattle.kheap_slabs.specs.Heap.{Heap}
 use Rattle.kheap_slabs.specs.Owners.{OwnsItsObjects}
@@ -16,7 +17,7 @@ use Rattle.proc_files.specs.Closing.{ChangesHolding}
 use Rattle.proc_files.specs.Names.{AreBound, name_of}
 use Rattle.proc_numbers.specs.Standing.{IsKept}
 use Rattle.proc_table.specs.Accounting.{HasAccount}
-use Rattle.proc_table.specs.Procs.{HasNoneOpenOnce, IsAlive, IsLight, proc_of}
+use Rattle.proc_table.specs.Procs.{HasNoneOpenOnce, IsAlive, IsAwakeOnce, IsLight, proc_of}
 use Rattle.proc_table.specs.Standing.{IsTable}
 use Rattle.proc_table.specs.Table.{Holds, TableView, processes, procs_at}
 use Rattle.proc_table.proofs.LawLemmas.{elsewhere_account, elsewhere_table}
@@ -64,8 +65,8 @@ module _ (old new : Objects) (same : new.procs ≡ old.procs) (procs : new.heap.
 
   -- so the store goes on
   pub moves_elsewhere : IsKept new.heap old.procs → AreBound (name_of new.heap.socks) new.names → length new.names ≡ length old.names → KeepsTree new.heap new.tree
-      → new.heap.heap ≡ old.heap.heap → FileMoves old new
-  moves_elsewhere is bound places keeps size = record {
+      → new.heap.heap ≡ old.heap.heap → IsChain new.heap new.fifos → FileMoves old new
+  moves_elsewhere is bound places keeps size chain = record {
     procs = procs_elsewhere;
     holds = subst (Holds new.heap) (sym same) is.holds;
     all = (subst (AreListed new.heap) (sym same) is.listed).all;
@@ -73,6 +74,7 @@ module _ (old new : Objects) (same : new.procs ≡ old.procs) (procs : new.heap.
     owners = is.owners;
     bound = bound;
     places = places;
+    chain = chain;
     keeps = keeps;
     size = size;
   }
@@ -80,9 +82,9 @@ module _ (old new : Objects) (same : new.procs ≡ old.procs) (procs : new.heap.
 -- ---- where one process has other numbers
 
 module _ (old new : Heap) (kept : TableView) (pid : ℕ) (changes : ChangesHolding old new kept pid) where
-  -- the heap with what the caches had
+  -- the heap with what the caches had, and with its pipes
   abbrev mid : Heap
-  mid = record old { procs = new.procs; leaves = new.leaves; descs = new.descs; pipes = new.pipes; chunks = new.chunks; socks = new.socks; high = new.high }
+  mid = record old { procs = new.procs; leaves = new.leaves; descs = new.descs; chunks = new.chunks; socks = new.socks; high = new.high }
 
   numbers : ChangesNumbers old mid kept pid
   numbers = record {
@@ -94,6 +96,7 @@ module _ (old new : Heap) (kept : TableView) (pid : ℕ) (changes : ChangesHoldi
     same = changes.same;
     procs = changes.procs;
     beside = refl;
+    links = λ key. refl;
   }
 
   same_nodes : new.nodes ≡ mid.nodes
@@ -156,7 +159,11 @@ module _ (old new : Heap) (kept : TableView) (pid : ℕ) (changes : ChangesHoldi
         was = has_it IsLight (processes old kept) pid changes.proc holds.light before
 
         of_pid : IsLight now
-        of_pid = subst IsLight (sym changes.same) (record { memory = was.memory; descriptors = subst (λ status. HasNoneOpenOnce status changes.now.descriptors changes.now.leaves) (sym up) tt })
+        of_pid = subst IsLight (sym changes.same) (record {
+          memory = was.memory;
+          descriptors = subst (λ status. HasNoneOpenOnce status changes.now.descriptors changes.now.leaves) (sym up) tt;
+          awake = subst (λ status. IsAwakeOnce status changes.proc.opening) (sym up) tt;
+        })
 
         by_test : (q : ℕ) (proc : Proc) → proc_of (processes new kept) q ≡ Some proc
             → (((q == pid) ≡ true) × (q ≡ pid)) ⊎ (((q == pid) ≡ false) × (q ≢ pid)) → IsLight proc
@@ -176,8 +183,8 @@ module _ (old new : Objects) (pid : ℕ) (same : new.procs ≡ old.procs) (chang
   }
 
   pub moves_holding : IsAlive (procs_of old) pid → AreListed new.heap old.procs → HasItsOwners new.heap [] → AreBound (name_of new.heap.socks) new.names
-      → length new.names ≡ length old.names → KeepsTree new.heap new.tree → FileMoves old new
-  moves_holding alive listed owners bound places keeps = record {
+      → length new.names ≡ length old.names → KeepsTree new.heap new.tree → IsChain new.heap new.fifos → FileMoves old new
+  moves_holding alive listed owners bound places keeps chain = record {
     procs = record {
       same = same;
       each = λ q.
@@ -190,6 +197,7 @@ module _ (old new : Objects) (pid : ℕ) (same : new.procs ≡ old.procs) (chang
     owners = owners;
     bound = bound;
     places = places;
+    chain = chain;
     keeps = keeps;
     size = ap (λ (h : Heap). h.heap) changes.beside;
   }

@@ -1,6 +1,5 @@
 -- A store at boot.
 use Rattle.std.specs.Prelude.{ℕ, ◌≡◌, ◌+◌, [], ◌∷◌, None, replicate}
-use Rattle.fifo_nodes.specs.Chain.{IsChain}
 use Rattle.kabi_types.specs.declared.scripts.Control.{Control}
 use Rattle.kheap_slabs.specs.Leaves.{HoldLeaves}
 use Rattle.kheap_slabs.specs.Keys.{AreKeysOf}
@@ -36,7 +35,7 @@ pub record HasBooted (objects : Objects) (heap blocks : ℕ) (control : Control)
   pub unread : objects.tree.disk.reads ≡ 0
   pub size : objects.heap.heap ≡ heap
   pub names : objects.names ≡ replicate (most_nodes + 1) None
-  pub chain : IsChain objects.heap objects.fifos
+  pub fifos : objects.fifos ≡ None
   pub first : procs_of objects ≡ record first_proc { control = control } ∷ []
   pub last : objects.procs.last ≡ 1
   pub table : IsTable objects.heap objects.procs (Some first_process ∷ [])

@@ -34,3 +34,4 @@ pub record OnlyPins (old new : Objects) : Type 0 where
   pub tree : new.tree ≡ record old.tree { vnodes = new.tree.vnodes }
   pub order : new.tree.vnodes.order ≡ old.tree.vnodes.order
   pub names : new.names ≡ old.names
+  pub fifos : new.fifos ≡ old.fifos

@@ -39,8 +39,8 @@ pub fn one_more_may_hold_each_node()
 pub fn a_store_goes_on_with_who_waits()
     ensures kept { (script : Script) (old : Objects) (new : Objects) (pid : ℕ) (control : Control) (opening : Option HalfOpen)
         → AreKept script old → Runs old pid control → WaitsIn old pid opening new → AreKept script new }
-    ensures runs { (old : Objects) (new : Objects) (pid : ℕ) (control : Control) (opening : Option HalfOpen)
-        → Runs old pid control → WaitsIn old pid opening new → Runs new pid control }
+    ensures runs { (script : Script) (old : Objects) (new : Objects) (pid : ℕ) (control : Control) (opening : Option HalfOpen)
+        → AreKept script old → Runs old pid control → WaitsIn old pid opening new → Runs new pid control }
     ensures stands { (script : Script) (old : Objects) (new : Objects) (pid : ℕ) (control : Control) (opening : Option HalfOpen) (world : World)
         → StandsFor script old world → Runs old pid control → WaitsIn old pid opening new
         → StandsFor script new (waiting_in world pid (option_map half_in opening)) }

@@ -3,7 +3,7 @@
 ghost use Rattle.std.specs.Prelude.{◌≡◌, ◌<◌, IfSome, IsSome, None, Some, false};
 ghost use Rattle.std.specs.Option.{option_copied};
 ghost use Rattle.kheap_slabs.specs.Heap.{IsWellFormed};
-ghost use Rattle.proc_table.specs.Procs.{proc_of};
+ghost use Rattle.proc_table.specs.Procs.{IsAlive, proc_of};
 ghost use Rattle.proc_table.specs.Table.{AreStored, IsPlaced, key_of};
 ghost use Rattle.store_objects.specs.Objects.{IsCaller, MovesOn, WaitsIn, WorksElsewhere, is_running, procs_of};
 
@@ -117,10 +117,11 @@ impl Objects {
         self.heap.set_proc_control(place.key, control);
     }
 
-    /// Has a process sleep in an open of a FIFO, or in none any more.
+    /// Has a process that runs sleep in an open of a FIFO, or in none any more.
     pub fn wait_in(&mut self, place: Place, opening: Option<HalfOpen>)
         requires stored { AreStored self.old.heap.procs self.old.procs.listed }
         requires there { IsPlaced self.old.procs place }
+        requires alive { IsAlive (procs_of self.old) place.pid }
         ensures { WaitsIn self.old place.pid opening self.new }
     {
         self.heap.set_proc_opening(place.key, opening);

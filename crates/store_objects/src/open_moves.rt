@@ -1,5 +1,6 @@
 //! Laws of stores of which a call changes what is open: they go on. Each is the contract of a function that does nothing.
 
+ghost use Rattle.fifo_nodes.specs.Chain.{IsChain};
 ghost use Rattle.kabi_types.specs.declared.calls.Call.{Call};
 ghost use Rattle.kabi_types.specs.declared.scripts.Control.{Control};
 ghost use Rattle.kabi_types.specs.declared.scripts.Script.{Script};
@@ -38,7 +39,7 @@ pub fn a_store_goes_on_with_what_is_open()
 /// caller goes on in that machine.
 pub fn a_call_changes_what_a_process_has_open()
     ensures moves { (old : Objects) (new : Objects) (pid : ℕ) → Holds old.heap old.procs → new.procs ≡ old.procs → new.tree ≡ old.tree → new.names ≡ old.names
-        → IsAlive (procs_of old) pid → ChangesNumbers old.heap new.heap old.procs pid → AreListed new.heap old.procs → HasItsOwners new.heap []
+        → new.fifos ≡ old.fifos → IsChain old.heap old.fifos → IsAlive (procs_of old) pid → ChangesNumbers old.heap new.heap old.procs pid → AreListed new.heap old.procs → HasItsOwners new.heap []
         → ((key : ℕ) → name_of new.heap.socks key ≡ name_of old.heap.socks key) → OpenMoves old new }
     ensures performs { (script : Script) (old : Objects) (mid : Objects) (new : Objects) (pid : ℕ) (call : Call) (said : Reply) (told : Turned)
         (answer : Plain → Answer)

@@ -53,7 +53,7 @@ returns-clause-kept c = λ script kept.
     let pid = c.args.place.pid in
     let some = c.requires.holds in
     let mid : Objects = with_heap old c.close_each.new.heap c.close_each.new.tree c.close_each.new.names in
-    let new : Objects = record { heap = c.end.new.heap; procs = c.end.new.self; tree = c.close_each.new.tree; names = c.close_each.new.names } in
+    let new : Objects = record { heap = c.end.new.heap; procs = c.end.new.self; tree = c.close_each.new.tree; names = c.close_each.new.names; fifos = c.close_each.new.fifos } in
     let hold = c.close_each.ensures.closed some.0 (workers_at (procs_of old)) some.1 some.2 in
     let is : procs_of mid ≡ map (shut pid) (procs_of old) = shut_procs old.heap mid.heap old.procs pid kept.holds c.close_each.ensures.closes in
     let between : AreKept script mid =
@@ -84,7 +84,7 @@ returns-clause-holds c = λ numbers others files hold.
     let some = c.requires.kept in
     let held = c.requires.holds in
     let mid : Objects = with_heap old c.close_each.new.heap c.close_each.new.tree c.close_each.new.names in
-    let new : Objects = record { heap = c.end.new.heap; procs = c.end.new.self; tree = c.close_each.new.tree; names = c.close_each.new.names } in
+    let new : Objects = record { heap = c.end.new.heap; procs = c.end.new.self; tree = c.close_each.new.tree; names = c.close_each.new.names; fifos = c.close_each.new.fifos } in
     let between = c.close_each.ensures.closed numbers others files hold in
     let is : procs_of mid ≡ map (shut pid) (procs_of old) = shut_procs old.heap mid.heap old.procs pid some.1.holds c.close_each.ensures.closes in
     let kept : AreKept some.0 mid =

@@ -15,9 +15,10 @@ returns c =
       proc = named.0;
       key = c.args.place.key;
       found = named.3;
-      turns = record { found = c.requires.there; there = named.1; same = refl; after = c.set_proc_control.ensures.kept named.0 named.1 };
+      turns = record { found = c.requires.there; there = named.1; same = refl; awake = λ still. still; after = c.set_proc_control.ensures.kept named.0 named.1 };
       same = refl;
       tree = refl;
       names = refl;
+      fifos = refl;
       takes = c.set_proc_control.ensures.takes;
     }

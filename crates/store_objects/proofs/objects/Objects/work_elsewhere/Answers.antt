@@ -6,9 +6,10 @@ returns c = record {
   proc = c.at-proc.result.now;
   key = c.args.place.key;
   found = c.at-proc.ensures.found;
-  turns = record { found = c.requires.there; there = c.at-proc.ensures.kept; same = refl; after = c.set_proc.ensures.kept };
+  turns = record { found = c.requires.there; there = c.at-proc.ensures.kept; same = refl; awake = λ still. still; after = c.set_proc.ensures.kept };
   same = refl;
   tree = refl;
   names = refl;
+  fifos = refl;
   takes = c.set_proc.ensures.takes;
 }
