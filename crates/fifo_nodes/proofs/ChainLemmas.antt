@@ -39,6 +39,10 @@ pipe_of h key link is = go (object h.pipes key) refl is
 pub used_at : (h : Heap) (key : ℕ) (link : Link) → link_at h key ≡ Some link → InUse h.pipes key
 used_at h key link is = let it = pipe_of h key link is in subst IsSome (sym it.1) refl
 
+-- a FIFO has one pipe
+pub one_pipe : (h : Heap) (first : Option ℕ) (node one other : ℕ) → IsChain h first → IsFifoAt h node one → IsFifoAt h node other → one ≡ other
+one_pipe h first node one other chain is also = chain.alone one other is.link also.link is.there also.there (is.same ∙ sym also.same)
+
 -- ---- keys that lead somewhere
 
 -- each of them is a FIFO's
@@ -81,7 +85,7 @@ leads_last h (Some first) [] key at leads = (leads.1, leads.2, leads.3, ap Some 
 leads_last h None (k ∷ ahead) key at leads = absurd leads
 leads_last h (Some first) (k ∷ ahead) key at leads =
     let behind = leads_last h leads.1.next ahead key at leads.3 in
-    (behind.0, behind.1, behind.2, leads.0, leads.1, leads.2, behind.3)
+    (behind.0, behind.1, behind.2, (leads.0, leads.1, leads.2, behind.3))
 
 -- where they lead to none, the first of them is where they begin
 pub leads_first : (h : Heap) (key : ℕ) (keys : List ℕ) → Leads h (Some key) keys None → (rest : List ℕ) × (link : Link) × (keys ≡ key ∷ rest) × (link_at h key ≡ Some link) × Leads h link.next rest None
@@ -105,6 +109,7 @@ keys_few objects (key ∷ rest) once used =
     omega (arith, less, behind)
 
 pub left_is : (n : ℕ) (h : Heap) (at : Option ℕ) (keys : List ℕ) → Leads h at keys None → length keys ≤ n → chain_left n h at ≡ length keys
+unfolding chain_left
 left_is zero h at [] leads few = refl
 left_is zero h at (k ∷ keys) leads few = absurd (omega (arith, few))
 left_is (suc n) h None [] leads few = refl

@@ -1,5 +1,5 @@
 -- The chain is walked from its first one on.
-use Rattle.std.proofs.Common.{◌≡◌, ◌≢◌, ℕ, suc, ◌<◌, List, [], ◌∷◌, ◌++◌, append-assoc, Option, None, Some, IsSome, refl, sym, ap, subst, ◌∙◌, arith, inl, inr, Contains}
+use Rattle.std.proofs.Common.{◌≡◌, ◌≢◌, ℕ, suc, ◌<◌, List, [], ◌∷◌, ◌++◌, append_assoc, Option, None, Some, IsSome, refl, sym, ap, subst, ◌∙◌, arith, inl, inr, Contains}
 use Rattle.chunk_queue.proofs.JoinedLemmas.{Contains-cons_cases}
 use Rattle.kheap_laws.proofs.OnceLemmas.{IsOnce-tail}
 use Rattle.kheap_slabs.specs.Keys.{IsOnce}
@@ -83,7 +83,7 @@ pub walks_on : (h : Heap) (first : Option ℕ) (key here : ℕ) (before : Option
 walks_on h first key here before pipe walks there differs =
     let it = leads_first h here walks.rest walks.behind in
     let same = link_here h here pipe it.1 there it.3 in
-    let joined : walks.front ++ walks.rest ≡ (walks.front ++ here ∷ []) ++ it.0 = ap (λ keys. walks.front ++ keys) it.2 ∙ sym (append-assoc walks.front (here ∷ []) it.0) in record {
+    let joined : walks.front ++ walks.rest ≡ (walks.front ++ here ∷ []) ++ it.0 = ap (λ keys. walks.front ++ keys) it.2 ∙ sym (append_assoc walks.front (here ∷ []) it.0) in record {
       front = walks.front ++ here ∷ [];
       rest = it.0;
       lead = subst (λ (l : Link). Leads h first (walks.front ++ here ∷ []) l.next) (sym same.1) (leads_push h first walks.front here it.1 walks.lead it.3);

@@ -12,7 +12,7 @@ next_of None = None
 next_of (Some link) = link.next
 
 -- how many stand in the chain from this one on, of at most so many
-pub chain_left : ℕ → Heap → Option ℕ → ℕ
+unfoldable pub chain_left : ℕ → Heap → Option ℕ → ℕ
 chain_left zero h at = 0
 chain_left (suc n) h None = 0
 chain_left (suc n) h (Some key) = suc (chain_left n h (next_of (link_at h key)))

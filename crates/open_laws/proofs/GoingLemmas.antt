@@ -94,7 +94,7 @@ counted_there None some = absurd (omega (arith, some))
 counted_there (Some desc) some = (desc, refl, some)
 
 -- what a Desc is open on is there
-target_there : (h : Heap) (key : ℕ) (desc : Desc) → IsHeldOpen h → object h.descs key ≡ Some desc → IsTargetIn h desc.target
+pub target_there : (h : Heap) (key : ℕ) (desc : Desc) → IsHeldOpen h → object h.descs key ≡ Some desc → IsTargetIn h desc.target
 target_there h key desc held is = go desc.target refl (held.targets key desc is)
   where
     go : (what : Target) → desc.target ≡ what → IsThereFor h desc.access what → IsTargetIn h what

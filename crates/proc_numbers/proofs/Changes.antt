@@ -11,6 +11,8 @@ use Rattle.kheap_slabs.specs.declared.objects.Proc.{Proc}
 use Rattle.kheap_slabs.proofs.ObjectLemmas.{InUse-within}
 use Rattle.kheap_slabs.specs.Heap.{Heap}
 use Rattle.open_laws.specs.Described.{inode_in}
+use Rattle.pipe_ends.specs.Links.{KeepsLinks}
+use Rattle.pipe_ends.proofs.LinkLemmas.{links_then}
 use Rattle.proc_table.specs.Moves.{NumbersTurn}
 use Rattle.proc_table.specs.Procs.{numbers_in, proc_of, with_numbers}
 use Rattle.proc_table.specs.Table.{TableView, key_of, processes}
@@ -46,25 +48,12 @@ changes_nothing h kept pid listed there = by_key (key_of kept.listed pid) refl t
           same = refl;
           procs = sym (ap (slice_set h.procs key) (sym it.1) ∙ set-get_or h.procs key None);
           beside = refl;
+          links = λ other. refl;
         }
 
-pub changes_closed : (old new : Heap) (kept : TableView) (pid fd : ℕ) → ClosesNumber old new kept pid fd → ChangesNumbers old new kept pid
-changes_closed old new kept pid fd closes = record {
-  key = closes.key;
-  proc = closes.proc;
-  now = closes.now;
-  named = closes.turns.found;
-  there = closes.turns.there;
-  same = closes.turns.same;
-  procs = closes.turns.procs;
-  beside = closes.beside
-      ∙ ap (λ n. record old { procs = new.procs; leaves = new.leaves; descs = new.descs; pipes = new.pipes; chunks = new.chunks; socks = new.socks; high = n })
-      (sym (ap (λ (h : Heap). h.high) closes.beside));
-}
-
 -- first other objects than Procs and Leaves change
-pub changes_after : (old mid new : Heap) (kept : TableView) (pid : ℕ) → mid.procs ≡ old.procs → mid ≡ opening old mid → ChangesNumbers mid new kept pid → ChangesNumbers old new kept pid
-changes_after old mid new kept pid same e it = record {
+pub changes_after : (old mid new : Heap) (kept : TableView) (pid : ℕ) → mid.procs ≡ old.procs → mid ≡ opening old mid → KeepsLinks old mid → ChangesNumbers mid new kept pid → ChangesNumbers old new kept pid
+changes_after old mid new kept pid same e keeps it = record {
   key = it.key;
   proc = it.proc;
   now = it.now;
@@ -73,6 +62,7 @@ changes_after old mid new kept pid same e it = record {
   same = it.same;
   procs = it.procs ∙ ap (λ (p : List (Option Proc)). put p it.key it.now) same;
   beside = it.beside ∙ ap (λ (h : Heap). opening h new) e;
+  links = links_then old mid new keeps it.links;
 }
 
 pub changes_then : (old mid new : Heap) (kept : TableView) (pid : ℕ) → ChangesNumbers old mid kept pid → ChangesNumbers mid new kept pid → ChangesNumbers old new kept pid
@@ -93,6 +83,7 @@ changes_then old mid new kept pid first second =
           ∙ ap (λ objects. put objects first.key second.now) first.procs
           ∙ set_again old.procs first.key (Some first.now) (Some second.now);
       beside = second.beside ∙ ap (λ (h : Heap). opening h new) first.beside;
+      links = links_then old mid new first.links second.links;
     }
 
 -- what a number names once the numbers have turned, and what it named

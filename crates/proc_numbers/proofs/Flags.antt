@@ -71,5 +71,5 @@ module _ (old : Heap) (key : ℕ) (desc : Desc) (append nonblock : Bool) (is : o
   have_flagged numbers kept files have = record {
     list = set have.list (numbers.descs key) (Some (counted_in numbers flagged));
     opened = open_flagged numbers have.list files have.opened;
-    descriptors = record { each = have.descriptors.each; made = have.descriptors.made };
+    descriptors = record { each = have.descriptors.each; made = have.descriptors.made; openings = have.descriptors.openings };
   }

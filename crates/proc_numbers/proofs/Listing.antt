@@ -7,9 +7,12 @@ use Rattle.std.proofs.lemmas.List.{get_or-set_same, get_or-set_other}
 use Rattle.kheap_slabs.specs.Objects.{InUse, object, put}
 use Rattle.kheap_slabs.proofs.ObjectLemmas.{InUse-within}
 use Rattle.kheap_slabs.specs.declared.objects.Proc.{Proc}
+use Rattle.kheap_slabs.specs.Heap.{Heap}
 use Rattle.kheap_slabs.specs.Keys.{AreKeysOf}
+use Rattle.posix_defs.specs.Files.State.{HalfOpen}
+use Rattle.proc_table.specs.Opening.{HaveOpenings}
 use Rattle.proc_table.specs.Procs.{proc_of}
-use Rattle.proc_table.specs.Table.{AreBetween, AreStored, key_of, keys_of, procs_at}
+use Rattle.proc_table.specs.Table.{AreBetween, AreStored, TableView, key_of, keys_of, processes, procs_at}
 use Rattle.proc_table.specs.declared.places.Place.{Place}
 use Rattle.proc_table.proofs.PlaceLemmas.{Contains-cases, IsAt, eqb_other, eqb_same, key_of-none, key_of-proc, none_not_some, some_same, stored_is}
 
@@ -125,3 +128,7 @@ module _ (objects : List (Option Proc)) (key : ℕ) (proc now : Proc) (there : o
             let after = key_of-proc (put objects key now) places other that (stored_still places stored) some in
             let differs : that ≢ key = λ same. apart (sym before.2 ∙ ap (λ (p : Proc). p.pid) (some_same (object objects key) before.0 proc (ap (object objects) (sym same) ∙ before.1) there) ∙ its_pid) in
             after.3 ∙ ap Some (some_same (object objects that) after.0 before.0 (sym (put_other that differs) ∙ after.1) before.1) ∙ sym before.3
+
+-- who sleeps in an open sleeps in it in another heap with the same Procs
+pub openings_on : (old new : Heap) (kept : TableView) (openings : List (Option HalfOpen)) → new.procs ≡ old.procs → HaveOpenings (processes old kept) kept.last openings → HaveOpenings (processes new kept) kept.last openings
+openings_on old new kept openings same = subst (λ (objects : List (Option Proc)). HaveOpenings (procs_at objects kept.listed) kept.last openings) (sym same)

@@ -27,6 +27,7 @@ use Rattle.posix_defs.specs.Files.Descriptors.{Descriptors, descriptor_at, none_
 use Rattle.posix_defs.specs.Files.State.{Files, descriptors_of, node_of, opens, pipe_at, with_descriptions, with_open, with_pipe, with_tree}
 use Rattle.posix_defs.specs.Pipe.{after_close as pipe_after_close}
 use Rattle.posix_defs.specs.TreeChanges.{closed}
+use Rattle.proc_table.specs.Opening.{HaveOpenings}
 use Rattle.proc_table.specs.Procs.{numbers_in, proc_of}
 use Rattle.proc_table.specs.Table.{AreStored, TableView, key_of, keys_of, processes, procs_at}
 use Rattle.proc_table.proofs.PlaceLemmas.{eqb_same, key_of-proc, some_same}
@@ -34,34 +35,38 @@ use Rattle.desc_table.specs.Numbered.{names_one}
 use Rattle.proc_numbers.specs.Having.{AreListed, ClosesNumber, HaveDescriptors, HaveOpen, OpensNoNode, places_in}
 use Rattle.proc_numbers.specs.Naming.{TurnsNumber, named_at}
 use Rattle.proc_numbers.proofs.Droppable.{droppable}
-use Rattle.proc_numbers.proofs.Listing.{found_before}
+use Rattle.proc_numbers.proofs.Listing.{found_before, openings_on}
 use Rattle.proc_numbers.proofs.NamedPlaces.{named_by_none, named_by_some}
 use Rattle.proc_numbers.proofs.NumberOpens.{turned_listed, turned_open, turned_owners}
 use Rattle.proc_numbers.proofs.PlacedLeaves.{owns_placed}
 use Rattle.proc_numbers.proofs.NumberTurns.{descriptors_here, descriptors_turned}
 use Rattle.proc_numbers.proofs.Sums.{one_if, count_cons}
 
--- a description that goes leaves descriptors
-gone_leaves : (files : Files) (place : ℕ) → (description_gone files place).descriptors ≡ files.descriptors
-gone_leaves files place = by_description (description_at files.descriptions place)
+-- the same descriptors are open, and the same opens sleep
+abbrev HasSame : Files → Files → Type 0
+HasSame files now = (now.descriptors ≡ files.descriptors) × (now.openings ≡ files.openings)
+
+-- a description that goes leaves them
+gone_both : (files : Files) (place : ℕ) → HasSame files (description_gone files place)
+gone_both files place = by_description (description_at files.descriptions place)
   where
-    by_opens : (b : Bool) (one other : Files) → one.descriptors ≡ files.descriptors → other.descriptors ≡ files.descriptors → (cond b one other).descriptors ≡ files.descriptors
+    by_opens : (b : Bool) (one other : Files) → HasSame files one → HasSame files other → HasSame files (cond b one other)
     by_opens true one other first second = first
     by_opens false one other first second = second
 
-    by_fifo : (from : Files) (node : Option ℕ) → from.descriptors ≡ files.descriptors → (left_fifo from node).descriptors ≡ files.descriptors
+    by_fifo : (from : Files) (node : Option ℕ) → HasSame files from → HasSame files (left_fifo from node)
     by_fifo from None same = same
     by_fifo from (Some number) same = by_opens (opens from number) from (with_tree from (closed from.tree number)) same same
 
-    by_target : (from : Files) (access : PlainAccess) (what : PlainTarget) → from.descriptors ≡ files.descriptors → (target_closed from access what).descriptors ≡ files.descriptors
+    by_target : (from : Files) (access : PlainAccess) (what : PlainTarget) → HasSame files from → HasSame files (target_closed from access what)
     by_target from access (OnNode number) same = by_opens (opens from number) from (with_tree from (closed from.tree number)) same same
     by_target from access (OnPipe place) same = by_fifo (with_pipe from place (pipe_after_close (pipe_at from place) (may_write access))) (node_of from (OnPipe place)) same
     by_target from access (OnSocket place) same = same
 
-    by_description : (o : Option Description) → (gone_in files place o).descriptors ≡ files.descriptors
-    by_description None = refl
+    by_description : (o : Option Description) → HasSame files (gone_in files place o)
+    by_description None = (refl, refl)
     by_description (Some description) =
-        by_target (with_descriptions files (with_description files.descriptions place None)) description.access description.target refl
+        by_target (with_descriptions files (with_description files.descriptions place None)) description.access description.target (refl, refl)
 
 -- ---- a number of a process is open no more in its Proc or its Leaf
 
@@ -185,16 +190,16 @@ module _ (old mid : Heap) (kept : TableView) (pid fd : ℕ) (held : HeldDescript
             positive zero some = absurd (some refl)
             positive (suc n) some = omega arith
 
-    dropped_leaves : (files_dropped without_it have.list place).descriptors ≡ without_it.descriptors
-    dropped_leaves = by_entry (object have.list place)
+    dropped_both : HasSame without_it (files_dropped without_it have.list place)
+    dropped_both = by_entry (object have.list place)
       where
-        by_entry : (o : Option Counted) → (dropped_in without_it place o).descriptors ≡ without_it.descriptors
-        by_entry None = refl
+        by_entry : (o : Option Counted) → HasSame without_it (dropped_in without_it place o)
+        by_entry None = (refl, refl)
         by_entry (Some counted) = by_test (counted.count == 1)
           where
-            by_test : (b : Bool) → (cond b (description_gone without_it place) without_it).descriptors ≡ without_it.descriptors
-            by_test true = gone_leaves without_it place
-            by_test false = refl
+            by_test : (b : Bool) → HasSame without_it (cond b (description_gone without_it place) without_it)
+            by_test true = gone_both without_it place
+            by_test false = (refl, refl)
 
     -- Where the Desc is dropped the processes have open what the machine says after the close.
     pub have_closed : (new : Heap) → new.procs ≡ mid.procs → new.leaves ≡ mid.leaves
@@ -205,11 +210,12 @@ module _ (old mid : Heap) (kept : TableView) (pid fd : ℕ) (held : HeldDescript
           opened = opened;
           descriptors = record {
             each = λ q.
-                ap (λ descriptors. unwrap_or (at_of descriptors q) none_open) dropped_leaves
+                ap (λ descriptors. unwrap_or (at_of descriptors q) none_open) dropped_both.0
                 ∙ descriptors_mid.each q
                 ∙ (ap (λ (objects : List (Option Proc)). descriptors_by numbers.descs (places_in (numbers_in mid) (proc_of (procs_at objects kept.listed) q))) (sym procs)
                 ∙ ap (λ (found : List (Option Leaf)). descriptors_by numbers.descs (places_in (λ p. numbers_by found p.descriptors p.leaves) (proc_of (procs_at new.procs kept.listed) q))) (sym leaves));
-            made = ap length dropped_leaves ∙ descriptors_mid.made;
+            made = ap length dropped_both.0 ∙ descriptors_mid.made;
+            openings = subst (HaveOpenings (processes new kept) kept.last) (sym dropped_both.1) (openings_on mid new kept files.openings procs descriptors_mid.openings);
           };
         })
       where

@@ -16,6 +16,7 @@ use Rattle.open_laws.specs.Placed.{Numbers}
 use Rattle.posix_defs.specs.Files.State.{Files, with_open}
 use Rattle.proc_table.specs.Procs.{numbers_in}
 use Rattle.proc_table.specs.Table.{TableView}
+use Rattle.pipe_ends.proofs.LinkLemmas.{links_same}
 use Rattle.proc_numbers.specs.Having.{AreListed, HaveOpen}
 use Rattle.proc_numbers.specs.Naming.{ChangesNumbers, NamesNumber, TurnsNumber, named_at}
 use Rattle.proc_numbers.proofs.NumberTurns.{beside_numbers, descriptors_turned, held_beside, listed_turned, numbers_before, open_beside}
@@ -97,6 +98,7 @@ module _ (old new : Heap) (kept : TableView) (pid fd : ℕ) (held : Option HeldD
     beside = subst
         (λ (h : Heap). h ≡ record old { procs = h.procs; leaves = h.leaves; descs = h.descs; pipes = h.pipes; chunks = h.chunks; socks = h.socks; high = h.high })
         (sym names.after) refl;
+    links = links_same old new (ap (λ (h : Heap). h.pipes) names.after);
   }
 
   pub turned_beside : new ≡ record old { procs = new.procs; leaves = new.leaves; high = new.high }

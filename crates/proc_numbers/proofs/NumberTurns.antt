@@ -24,6 +24,7 @@ use Rattle.posix_defs.specs.ByPid.{with_pid}
 use Rattle.posix_defs.specs.Files.Descriptors.{Descriptor, Descriptors, none_open, with_descriptor}
 use Rattle.posix_defs.specs.Files.State.{Files, descriptors_of, with_open}
 use Rattle.proc_table.specs.Moves.{NumbersTurn}
+use Rattle.proc_table.specs.Opening.{HaveOpenings, opening_in, opening_of}
 use Rattle.proc_table.specs.Procs.{numbers_in, proc_of}
 use Rattle.proc_table.specs.Table.{AreStored, TableView, keys_of, processes, procs_at}
 use Rattle.proc_table.proofs.LeafTurns.{turned_hold, turned_others}
@@ -132,8 +133,21 @@ module _ (old mid : Heap) (kept : TableView) (pid fd key : ℕ) (proc now : Proc
     at_another (suc i) zero descriptors apart = refl
     at_another (suc i) (suc j) descriptors apart = ap (λ found. unwrap_or found none_open) (get_set_other files.descriptors i j descriptors (λ same. apart (ap (λ k. suc k) same)))
 
+    -- who sleeps in an open sleeps in it still
+    openings_turned : HaveOpenings (processes mid kept) kept.last files.openings
+    openings_turned = record { each = λ q. have.openings.each q ∙ sym (by_pid q (eqb_tells q pid)); made = have.openings.made }
+      where
+        by_pid : (q : ℕ) → (((q == pid) ≡ true) × (q ≡ pid)) ⊎ (((q == pid) ≡ false) × (q ≢ pid))
+            → opening_of (proc_of (processes mid kept) q) ≡ opening_of (proc_of (processes old kept) q)
+        by_pid q (inl same) =
+            ap (λ p. opening_of (proc_of (processes mid kept) p)) same.1
+            ∙ (ap opening_of found_mid
+            ∙ (ap opening_in turns.same
+            ∙ (sym (ap opening_of found_old) ∙ sym (ap (λ p. opening_of (proc_of (processes old kept) p)) same.1))))
+        by_pid q (inr apart) = ap opening_of (same_mid q apart.1)
+
     pub descriptors_turned : HaveDescriptors (numbers_in mid) numbers.descs (processes mid kept) kept.last files_then
-    descriptors_turned = record { each = λ q. by_pid q (eqb_tells q pid); made = made_then }
+    descriptors_turned = record { each = λ q. by_pid q (eqb_tells q pid); made = made_then; openings = openings_turned }
       where
         within : (0 < pid) × (pid ≤ kept.last)
         within = pid_between kept.listed 0 kept.last pid key listed.rising turns.found

@@ -29,7 +29,7 @@ use Rattle.proc_table.proofs.PlaceLemmas.{eqb_same}
 use Rattle.proc_numbers.specs.Having.{AreListed, HaveOpen, places_in}
 use Rattle.proc_numbers.specs.Naming.{named_at, places_of}
 use Rattle.proc_numbers.proofs.NumberParts.{named_part}
-use Rattle.proc_numbers.proofs.Listing.{found_by_pid}
+use Rattle.proc_numbers.proofs.Listing.{found_by_pid, openings_on}
 use Rattle.proc_numbers.proofs.Sums.{one_if, part_of_sum}
 use Rattle.proc_numbers.proofs.Made.{counted_on, length_uncounted, made_described, uncounted_more, used_apart}
 use Rattle.usock_core.specs.Standing.{LeavesOthers}
@@ -64,6 +64,7 @@ module _ (old new : Heap) (others : LeavesOthers old new) (numbers : Numbers) (s
     descriptors = record {
       each = λ pid. have.descriptors.each pid ∙ ap (λ (h : Heap). descriptors_by numbers.descs (places_of h kept pid)) (sym others.kept);
       made = have.descriptors.made;
+      openings = openings_on old new kept files.openings (ap (λ (h : Heap). h.procs) others.kept) have.descriptors.openings;
     };
   }
 
@@ -140,6 +141,7 @@ module _ (old new : Heap) (sock key : ℕ) (vacant : object old.descs key ≡ No
           (λ fd held is. stays numbers.descs key (length files.descriptions) held.desc (used_apart old.descs key (desc_on sock) vacant within held.desc (named_used old kept hand listed named pid fd held is)))
           ∙ ap (λ (h : Heap). descriptors_by then.descs (places_of h kept pid)) (sym kept_so);
       made = have.descriptors.made;
+      openings = openings_on old new kept files.openings (ap (λ (h : Heap). h.procs) kept_so) have.descriptors.openings;
     };
   }
 

@@ -39,6 +39,7 @@ use Rattle.proc_table.proofs.PlaceLemmas.{some_same}
 use Rattle.proc_numbers.specs.Having.{AreListed, HaveOpen, OpensNoNode, places_in}
 use Rattle.proc_numbers.specs.Naming.{places_of}
 use Rattle.proc_numbers.specs.Queues.{QueuesStand}
+use Rattle.proc_numbers.proofs.Listing.{openings_on}
 use Rattle.proc_numbers.proofs.NumberNames.{desc_named}
 use Rattle.proc_numbers.proofs.Sums.{count_cons, one_if}
 use Rattle.proc_numbers.specs.PipeOpening.{KeepsNumbers, PipeOpens, end_of, with_ends}
@@ -376,5 +377,6 @@ module _ (old new : Heap) (pipe reading writing : ℕ) (opens : PipeOpens old ne
               (λ fd held is. let desc = desc_named old kept hand listed owners pid fd held is in (keeps numbers have.list files have.opened).descs held.desc (ap is_some desc.1))
               ∙ ap (λ (h : Heap). descriptors_by then.descs (places_in (numbers_in h) (proc_of (procs_at h.procs kept.listed) pid))) (sym opens.beside);
           made = have.descriptors.made;
+          openings = openings_on old new kept files.openings (ap (λ (h : Heap). h.procs) opens.beside) have.descriptors.openings;
         };
       }

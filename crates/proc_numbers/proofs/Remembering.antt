@@ -24,6 +24,7 @@ use Rattle.posix_defs.specs.Files.State.{Files}
 use Rattle.posix_defs.specs.Memory.{Frames, Memory, after_put, is_mapped_range, stored}
 use Rattle.posix_defs.specs.Process.{Table, memory_in, memory_of, with_memory}
 use Rattle.proc_numbers.specs.Having.{HaveOpen, places_in}
+use Rattle.proc_numbers.proofs.Listing.{openings_on}
 use Rattle.proc_numbers.proofs.NumberCloses.{listed_on}
 use Rattle.proc_table.specs.Accounting.{HasAccount}
 use Rattle.proc_table.specs.Moves.{SpaceTurns}
@@ -142,6 +143,7 @@ module _ (mid : Heap) (before : Purse) (new : Heap) (after : Purse) (kept : Tabl
     descriptors = record {
       each = λ q. have.descriptors.each q ∙ ap (λ (h : Heap). descriptors_by numbers.descs (places_in (numbers_in h) (proc_of (procs_at h.procs kept.listed) q))) (sym puts.moves.kept);
       made = have.descriptors.made;
+      openings = openings_on mid new kept files.openings (ap (λ (h : Heap). h.procs) puts.moves.kept) have.descriptors.openings;
     };
   }
 

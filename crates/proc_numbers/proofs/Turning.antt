@@ -31,6 +31,7 @@ use Rattle.posix_defs.specs.Account.{Account, front_after, fronts_after, pipe_le
 use Rattle.posix_defs.specs.Files.State.{Files, with_pipe}
 use Rattle.posix_defs.specs.Pipe.{Pipe}
 use Rattle.proc_numbers.specs.Having.{HaveOpen, places_in}
+use Rattle.proc_numbers.proofs.Listing.{openings_on}
 use Rattle.proc_numbers.proofs.NumberCloses.{listed_on}
 use Rattle.proc_table.specs.Procs.{numbers_in, proc_of}
 use Rattle.proc_table.specs.Table.{TableView, processes, procs_at, with_procs}
@@ -106,6 +107,7 @@ module _ (old new : Heap) (key : ℕ) (others : LeavesOthers old new key) where
       descriptors = record {
         each = λ pid. have.descriptors.each pid ∙ ap (λ (h : Heap). descriptors_by numbers.descs (places_in (numbers_in h) (proc_of (procs_at h.procs kept.listed) pid))) (sym others.kept);
         made = have.descriptors.made;
+        openings = openings_on old new kept files.openings (ap (λ (h : Heap). h.procs) others.kept) have.descriptors.openings;
       };
     }
 

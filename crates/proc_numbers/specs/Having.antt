@@ -36,7 +36,7 @@ places_in numbers (Some proc) = numbers proc
 pub record HaveDescriptors (numbers : Proc → List (Option HeldDescriptor)) (number : ℕ → ℕ) (procs : List Proc) (last : ℕ) (files : Files) : Type 0 where
   pub each : (pid : ℕ) → descriptors_of files pid ≡ descriptors_by number (places_in numbers (proc_of procs pid))
   pub made : length files.descriptors ≡ last
-  pub openings : HaveOpenings procs last files
+  pub openings : HaveOpenings procs last files.openings
 
 -- The processes of a table have open what the machine says: its descriptors, and behind them its descriptions, pipes and sockets.
 pub record HaveOpen (numbers : Numbers) (h : Heap) (kept : TableView) (files : Files) : Type 0 where

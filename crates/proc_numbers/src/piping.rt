@@ -9,6 +9,7 @@ ghost use Rattle.kheap_slabs.specs.Owners.{OwnsItsObjects};
 ghost use Rattle.kheap_slabs.specs.Paid.{CanPay, IsPaid};
 ghost use Rattle.open_laws.specs.Owned.{HasItsOwners};
 ghost use Rattle.open_laws.specs.Placed.{Numbers};
+ghost use Rattle.pipe_ends.specs.Links.{KeepsLinks};
 ghost use Rattle.posix_defs.specs.Calls.OnPipes.{pipe};
 ghost use Rattle.posix_defs.specs.Plain.{Plain};
 ghost use Rattle.proc_table.specs.Table.{IsPlaced};
@@ -97,6 +98,7 @@ fn open_ends(heap: &mut KHeap, purse: &mut Purse) -> Ends
     requires left_pipe { 0 < purse.old.left.pipe }
     requires left_descs { 2 ≤ purse.old.left.desc }
     ensures opens { PipeOpens heap.old heap.new result.pipe result.reading result.writing }
+    ensures links { KeepsLinks heap.old heap.new }
     ensures paid { IsPaid heap.old purse.old heap.new purse.new }
     ensures pays { CanPay heap.new purse.new }
     ensures spent { purse.new ≡ record purse.old {

@@ -37,7 +37,7 @@ module _ (old new : Heap) (now : TableView) (key : ℕ) (vacant : object old.pro
     holds = record {
       stored = added-stored old new no_table now first_proc key vacant stored listed last kept tt;
       rising = added-rising old new no_table now first_proc key vacant stored listed last kept tt (lit≤ tt) (lit< tt);
-      light = added-light old new no_table now first_proc key vacant stored listed last kept tt tt (record { memory = tt; descriptors = tt });
+      light = added-light old new no_table now first_proc key vacant stored listed last kept tt tt (record { memory = tt; descriptors = tt; awake = tt });
       owned = (others, owned_on others owned);
     };
     owners = owned_on;

@@ -15,7 +15,7 @@ use Rattle.posix_defs.specs.Process.{Table, process_at}
 use Rattle.proc_table.specs.Accounting.{HasAccount}
 use Rattle.proc_table.specs.Changes.{cleared, ended, is_alone, is_other, left_behind, left_by, left_child}
 use Rattle.proc_table.specs.Moves.{MemoryStays, TableMoves}
-use Rattle.proc_table.specs.Procs.{HasClosed, HasEnded, HasNoMemoryOnce, IsLight, OpensNone, memory_at, no_nodes, proc_of}
+use Rattle.proc_table.specs.Procs.{HasClosed, HasEnded, HasNoMemoryOnce, IsClosed, IsLight, memory_at, no_nodes, proc_of}
 use Rattle.proc_table.specs.Standing.{AreFrom, IsTable, cleared_in, ends_in}
 use Rattle.proc_table.specs.Table.{Holds, TableView, objects_after, places_kept, processes}
 use Rattle.proc_table.proofs.AccountLemmas.{becomes_account}
@@ -39,8 +39,8 @@ cleared_light (proc ∷ procs) pid closed light = (
   cleared_light procs pid closed.1 light.1,
 )
   where
-    as_open : (b : Bool) → OpensNone proc → OpensNone (cond b (record proc { nodes = no_nodes }) proc)
-    as_open true none = none
+    as_open : (b : Bool) → IsClosed proc → IsClosed (cond b (record proc { nodes = no_nodes }) proc)
+    as_open true none = record { opens = none.opens; awake = none.awake }
     as_open false none = none
 
     by_case : (b : Bool) → (proc.pid == pid) ≡ b → (cleared pid proc).pid ≡ pid → keys_in (cleared pid proc).nodes ≡ []
@@ -57,7 +57,7 @@ left_sound pid status = record {
 }
   where
     child_light : (proc now : Proc) → IsLight proc → (told : Option ℕ) → left_child told proc ≡ Some now → IsLight now
-    child_light proc now light None is = subst IsLight (some_same (Some now) (record proc { parent = 1 }) now (sym is) refl) (record { memory = light.memory; descriptors = light.descriptors })
+    child_light proc now light None is = subst IsLight (some_same (Some now) (record proc { parent = 1 }) now (sym is) refl) (record { memory = light.memory; descriptors = light.descriptors; awake = light.awake })
     child_light proc now light (Some over) is = cc
 
     parent_light : (proc now : Proc) → IsLight proc → (b : Bool) → cond b (left_child proc.status proc) (Some proc) ≡ Some now → IsLight now
@@ -68,7 +68,7 @@ left_sound pid status = record {
         → cond b (Some (record proc { status = Some status })) (cond (proc.parent == pid) (left_child proc.status proc) (Some proc)) ≡ Some now → IsLight now
     light_by proc now goes true own is =
         subst IsLight (some_same (Some now) (record proc { status = Some status }) now (sym is) refl)
-        (record { memory = goes.empty (eqb_is proc.pid pid own); descriptors = goes.closed (eqb_is proc.pid pid own) })
+        (let closed = goes.closed (eqb_is proc.pid pid own) in record { memory = goes.empty (eqb_is proc.pid pid own); descriptors = closed.opens; awake = closed.awake })
     light_by proc now goes false own is = parent_light proc now goes.light (proc.parent == pid) is
 
     light : (proc now : Proc) → GoesLight pid proc → left_behind pid status proc ≡ Some now → IsLight now

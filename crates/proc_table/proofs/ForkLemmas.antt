@@ -25,7 +25,7 @@ use Rattle.posix_defs.specs.Process.{Table, process_at}
 use Rattle.proc_table.specs.Accounting.{HasAccount}
 use Rattle.proc_table.specs.Changes.{child_proc}
 use Rattle.proc_table.specs.Moves.{IsAdded, IsForked, MemoryStays, TableMoves, sharing}
-use Rattle.proc_table.specs.Procs.{HasNoMemoryOnce, HasNoneOpenOnce, IsAlive, IsLight, proc_of, process_of}
+use Rattle.proc_table.specs.Procs.{HasNoMemoryOnce, HasNoneOpenOnce, IsAlive, IsAwakeOnce, IsLight, proc_of, process_of}
 use Rattle.proc_table.specs.Standing.{AreFrom, IsTable}
 use Rattle.proc_table.specs.Table.{AreStored, Holds, TableView, keys_of, processes, procs_at, with_procs}
 use Rattle.proc_table.proofs.AccountLemmas.{accounted_of, forked_has_account}
@@ -123,6 +123,7 @@ module _ (old mid new : Heap) (before between after : Purse) (was now : TableVie
   light_child = record {
     memory = subst (λ status. HasNoMemoryOnce status nodes) (sym runs) tt;
     descriptors = subst (λ status. HasNoneOpenOnce status parent.descriptors leaves) (sym runs) tt;
+    awake = subst (λ status. IsAwakeOnce status None) (sym runs) tt;
   }
 
   pub forked-moves : TableMoves old was new now

@@ -126,7 +126,7 @@ module _ (old new : Heap) (kept : TableView) (pid key : ℕ) (proc now : Proc) (
   pid_now = ap (λ p. p.pid) turns.same
 
   light_now : IsLight proc → IsLight now
-  light_now light = subst IsLight (sym turns.same) (record { memory = light.memory; descriptors = light.descriptors })
+  light_now light = subst IsLight (sym turns.same) (record { memory = light.memory; descriptors = light.descriptors; awake = turns.awake light.awake })
 
   pid_by : (p : Proc) (b : Bool) → (p.pid == pid) ≡ b → (cond b now p).pid ≡ p.pid
   pid_by p true own = pid_now ∙ has_pid ∙ sym (eqb_is p.pid pid own)

@@ -65,7 +65,7 @@ left_leaves pid status proc over = by_pid (proc.pid == pid)
     child (Some ended_so) its = sym (ap keys_in its.1)
 
     by_parent : (b : Bool) → leaves_left (cond b (left_child proc.status proc) (Some proc)) ≡ keys_in proc.leaves
-    by_parent true = child proc.status over
+    by_parent true = child proc.status over.0
     by_parent false = refl
 
     by_pid : (b : Bool) → leaves_left (cond b (Some (record proc { status = Some status })) (cond (proc.parent == pid) (left_child proc.status proc) (Some proc))) ≡ keys_in proc.leaves
@@ -80,7 +80,7 @@ leaves_gone pid (proc ∷ procs) closed = by_case (leaves_gone pid procs closed.
     by_case : leaf_keys (filter (is_other pid) procs) ≡ leaf_keys procs → (((proc.pid == pid) ≡ true) × (proc.pid ≡ pid)) ⊎ (((proc.pid == pid) ≡ false) × (proc.pid ≢ pid)) → leaf_keys (filter (is_other pid) (proc ∷ procs)) ≡ leaf_keys (proc ∷ procs)
     by_case behind (inl same) =
         ap (λ b. leaf_keys (cond (not b) (proc ∷ filter (is_other pid) procs) (filter (is_other pid) procs))) same.0
-        ∙ (behind ∙ ap (λ keys. keys ++ leaf_keys procs) (sym (ap keys_in (closed.0 same.1).1)))
+        ∙ (behind ∙ ap (λ keys. keys ++ leaf_keys procs) (sym (ap keys_in (closed.0 same.1).opens.1)))
     by_case behind (inr apart) =
         ap (λ b. leaf_keys (cond (not b) (proc ∷ filter (is_other pid) procs) (filter (is_other pid) procs))) apart.0
         ∙ ap (λ keys. keys_in proc.leaves ++ keys) behind

@@ -10,18 +10,19 @@ use Rattle.kheap_slabs.specs.declared.objects.Proc.{Proc}
 use Rattle.kheap_slabs.specs.Heap.{Heap, IsWellFormed}
 use Rattle.kheap_slabs.specs.Leaves.{no_row, numbers_by}
 use Rattle.kheap_laws.proofs.LeafLemmas.{numbers_by-length, numbers_by-none}
-use Rattle.proc_table.specs.Procs.{OpensNone, no_descriptors, numbers_in}
+use Rattle.proc_table.specs.Procs.{IsClosed, OpensNone, no_descriptors, numbers_in}
 
 -- there are as many as there may be
 pub numbers_all : (h : Heap) (key : ℕ) (proc : Proc) → IsWellFormed h → object h.procs key ≡ Some proc → length (numbers_in h proc) ≡ most_descriptors
 numbers_all h key proc whole there =
     numbers_by-length h.leaves proc.descriptors proc.leaves whole.leaf_rows (whole.descriptors key proc there) (whole.leaves key proc there)
 
--- ---- the same numbers in another Proc
+-- ---- the same numbers, and the same open, in another Proc
 
 pub record KeepsNumbers (now proc : Proc) : Type 0 where
   pub descriptors : now.descriptors ≡ proc.descriptors
   pub leaves : now.leaves ≡ proc.leaves
+  pub opening : now.opening ≡ proc.opening
 
 pub numbers_kept : (h : Heap) (now proc : Proc) → KeepsNumbers now proc → numbers_in h now ≡ numbers_in h proc
 numbers_kept h now proc keeps =
@@ -29,6 +30,9 @@ numbers_kept h now proc keeps =
 
 pub none_kept : (now proc : Proc) → KeepsNumbers now proc → OpensNone proc → OpensNone now
 none_kept now proc keeps none = (keeps.descriptors ∙ none.0, keeps.leaves ∙ none.1)
+
+pub closed_kept : (now proc : Proc) → KeepsNumbers now proc → IsClosed proc → IsClosed now
+closed_kept now proc keeps closed = record { opens = none_kept now proc keeps closed.opens; awake = keeps.opening ∙ closed.awake }
 
 -- without one open, none of all is
 pub none_numbers : (h : Heap) (proc : Proc) → OpensNone proc → numbers_in h proc ≡ no_descriptors

@@ -15,7 +15,7 @@ use Rattle.kheap_laws.proofs.OwnerLemmas.{IsOwned-same, IsOwned-space_from_front
 use Rattle.page_space.specs.Contents.{content_at, IsOwnedWith}
 use Rattle.proc_table.specs.Changes.{is_other, with_nodes}
 use Rattle.proc_table.specs.Moves.{MemoryStays, TableMoves}
-use Rattle.proc_table.specs.Procs.{IsLight, HasNoMemoryOnce, HasNoneOpenOnce, OpensNone, proc_of}
+use Rattle.proc_table.specs.Procs.{IsAwakeOnce, IsClosed, IsLight, HasNoMemoryOnce, HasNoneOpenOnce, proc_of}
 use Rattle.proc_table.specs.Table.{AreStored, Holds, TableView, key_of, keys_of, places_kept, processes, procs_at, with_procs}
 use Rattle.proc_table.specs.declared.places.Place.{Place}
 use Rattle.proc_table.proofs.PlaceLemmas.{Follows, IsAt, Misses, eqb_other, eqb_same, follows_keys, follows_one, follows_procs, follows_stored, key_of-misses, key_of-proc, object_missed, some_same, stored_is}
@@ -65,7 +65,7 @@ light_with (first ∷ procs) before pid proc nodes rising is runs light =
     by_case (inl same) rest =
         let one : first ≡ proc = some_same (proc_of (first ∷ procs) pid) first proc (ap (λ b. cond b (Some first) (proc_of procs pid)) same.0) is in (
           subst IsLight (sym (with_nodes_same pid nodes first same.1))
-              (record { memory = subst (λ status. HasNoMemoryOnce status nodes) (sym (ap (λ p. p.status) one ∙ runs)) tt; descriptors = light.0.descriptors }),
+              (record { memory = subst (λ status. HasNoMemoryOnce status nodes) (sym (ap (λ p. p.status) one ∙ runs)) tt; descriptors = light.0.descriptors; awake = light.0.awake }),
           subst (AllByRecursion IsLight) (sym (with_nodes-above procs first.pid pid nodes rising.1 (let e = same.1 in omega arith))) light.1,
         )
     by_case (inr other) rest = (
@@ -73,19 +73,19 @@ light_with (first ∷ procs) before pid proc nodes rising is runs light =
       rest (sym (ap (λ b. cond b (Some first) (proc_of procs pid)) other.0) ∙ is) runs light.1,
     )
 
--- a process of that pid has no nodes and nothing open
+-- a process of that pid has no nodes and nothing open, and sleeps in no open
 pub record GoesLight (pid : ℕ) (proc : Proc) : Type 0 where
   pub light : IsLight proc
   pub empty : proc.pid ≡ pid → keys_in proc.nodes ≡ []
-  pub closed : proc.pid ≡ pid → OpensNone proc
+  pub closed : proc.pid ≡ pid → IsClosed proc
 
 empty_once : (status : Option ℕ) (nodes : List (Option ℕ)) (over : ℕ) → status ≡ Some over → HasNoMemoryOnce status nodes → keys_in nodes ≡ []
 empty_once None nodes over is memory = cc
 empty_once (Some status) nodes over is memory = memory
 
-pub closed_once : (status : Option ℕ) (proc : Proc) (over : ℕ) → status ≡ Some over → HasNoneOpenOnce status proc.descriptors proc.leaves → OpensNone proc
-closed_once None proc over is closed = absurd (cc)
-closed_once (Some status) proc over is closed = closed
+pub closed_once : (status : Option ℕ) (proc : Proc) (over : ℕ) → status ≡ Some over → HasNoneOpenOnce status proc.descriptors proc.leaves → IsAwakeOnce status proc.opening → IsClosed proc
+closed_once None proc over is closed awake = absurd (cc)
+closed_once (Some status) proc over is closed awake = record { opens = closed; awake = awake }
 
 none_above : (procs : List Proc) (before pid : ℕ) → AreRising before procs → pid ≤ before → AllByRecursion IsLight procs → AllByRecursion (GoesLight pid) procs
 none_above [] before pid rising low light = tt
@@ -108,7 +108,7 @@ goes_light (first ∷ procs) before pid proc over rising is ended light =
           record {
             light = light.0;
             empty = λ it. empty_once first.status first.nodes over (ap (λ p. p.status) one ∙ ended) light.0.memory;
-            closed = λ it. closed_once first.status first over (ap (λ p. p.status) one ∙ ended) light.0.descriptors;
+            closed = λ it. closed_once first.status first over (ap (λ p. p.status) one ∙ ended) light.0.descriptors light.0.awake;
           },
           none_above procs first.pid pid rising.1 (let e = same.1 in omega arith) light.1,
         )

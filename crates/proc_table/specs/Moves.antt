@@ -16,7 +16,7 @@ use Rattle.open_laws.specs.Owned.{all_namings, names_desc}
 use Rattle.page_space.specs.Contents.{SpaceMoves, content_at}
 use Rattle.proc_table.specs.Changes.{child_proc}
 use Rattle.posix_defs.specs.Signals.{is_ignored, with_disposition}
-use Rattle.proc_table.specs.Procs.{ignored_by, numbers_in, proc_of, with_ignored, with_numbers}
+use Rattle.proc_table.specs.Procs.{IsAwakeOnce, ignored_by, numbers_in, proc_of, with_ignored, with_numbers}
 use Rattle.proc_table.specs.Table.{TableView, Holds, key_of, keys_of, processes, with_procs}
 use Rattle.proc_table.specs.declared.places.Place.{Place}
 
@@ -78,11 +78,13 @@ pub record SpaceTurns (old mid new : Heap) (kept : TableView) (pid key : ℕ) (p
   pub moves : SpaceMoves old mid proc.nodes now
   pub after : new ≡ record mid { procs = put mid.procs key (record proc { nodes = now }) }
 
--- A process goes on: its Proc has another control, works in another directory, ignores other signals, or sleeps in another open.
+-- A process goes on: its Proc has another control, works in another directory, ignores other signals, or sleeps in another open. Who has
+-- ended sleeps in none.
 pub record ProcTurns (old new : Heap) (kept : TableView) (pid key : ℕ) (proc now : Proc) : Type 0 where
   pub found : key_of kept.listed pid ≡ Some key
   pub there : object old.procs key ≡ Some proc
   pub same : now ≡ record proc { control = now.control; cwd = now.cwd; ignores_pipe = now.ignores_pipe; ignores_term = now.ignores_term; opening = now.opening }
+  pub awake : IsAwakeOnce proc.status proc.opening → IsAwakeOnce proc.status now.opening
   pub after : new ≡ record old { procs = put old.procs key now }
 
 -- A process ignores a signal now, or doesn't, and it is told whether it did before.

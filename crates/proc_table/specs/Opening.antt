@@ -1,10 +1,11 @@
 -- Which descriptors of the plain machine the processes in the heap have, and in which opens of FIFOs they sleep.
-use Rattle.std.specs.Prelude.{ℕ, ◌≡◌, List, Option, None, Some, length}
+use Rattle.std.specs.Prelude.{ℕ, ◌≡◌, List, Option, None, Some, length, unwrap_or}
 use Rattle.std.specs.List.{AllByRecursion}
 use Rattle.std.specs.Option.{option_map}
 use Rattle.kheap_slabs.specs.declared.objects.Descriptor.{Descriptor}
 use Rattle.kheap_slabs.specs.declared.objects.HalfOpen.{HalfOpen as HeldHalf}
 use Rattle.kheap_slabs.specs.declared.objects.Proc.{Proc}
+use Rattle.posix_defs.specs.ByPid.{at_pid}
 use Rattle.posix_defs.specs.Files.Descriptors.{none_open}
 use Rattle.posix_defs.specs.Files.State.{Files, HalfOpen, descriptors_of, opening_at}
 use Rattle.open_laws.specs.Open.{descriptors_by}
@@ -22,10 +23,10 @@ abbrev pub opening_of : Option Proc → Option HalfOpen
 opening_of None = None
 opening_of (Some proc) = opening_in proc
 
--- The open of a FIFO in which the machine has each process sleep is that of which its Proc tells, up to the last that was made.
-pub record HaveOpenings (procs : List Proc) (last : ℕ) (files : Files) : Type 0 where
-  pub each : (pid : ℕ) → opening_at files pid ≡ opening_of (proc_of procs pid)
-  pub made : length files.openings ≡ last
+-- These are the opens of FIFOs in which processes sleep, by pid, up to the last that was made: each is that of which its Proc tells.
+pub record HaveOpenings (procs : List Proc) (last : ℕ) (openings : List (Option HalfOpen)) : Type 0 where
+  pub each : (pid : ℕ) → unwrap_or (at_pid openings pid) None ≡ opening_of (proc_of procs pid)
+  pub made : length openings ≡ last
 
 -- The machine has open in each process what that one has by number, where the Desc of each key has this place, and has it sleep in the
 -- open of a FIFO of which its Proc tells; who is gone has nothing open and sleeps in none; and the machine has descriptors and opens of

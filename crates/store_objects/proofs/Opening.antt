@@ -9,12 +9,12 @@ use Rattle.open_laws.specs.Open.{descriptors_by}
 use Rattle.open_laws.proofs.GoingLemmas.{open_on}
 use Rattle.posix_defs.specs.Account.{Account, fronts_after, pipe_lengths, socket_lengths, unread_in_pipe, unread_in_socket}
 use Rattle.posix_defs.specs.Files.Descriptors.{none_open}
-use Rattle.posix_defs.specs.Files.State.{Files, descriptors_of}
+use Rattle.posix_defs.specs.Files.State.{Files, descriptors_of, opening_at}
 use Rattle.posix_defs.specs.Pipe.{Pipe}
 use Rattle.posix_defs.specs.Sockets.{Sockets}
 use Rattle.proc_numbers.specs.Having.{HaveDescriptors, places_in}
 use Rattle.proc_table.specs.Moves.{TableMoves}
-use Rattle.proc_table.specs.Opening.{HaveOpen as TableOpen}
+use Rattle.proc_table.specs.Opening.{HaveOpen as TableOpen, opening_in, opening_of}
 use Rattle.proc_table.specs.Procs.{no_descriptors, numbers_in, proc_of}
 use Rattle.proc_table.proofs.FamilyLemmas.{proc_has_pid}
 use Rattle.proc_table.proofs.OwnLemmas.{AreRising, has_it}
@@ -37,11 +37,26 @@ by_procs h number procs last files rising have = record {
       (λ pid proc above is. ap (descriptors_of files) (proc_has_pid procs pid proc is) ∙ have.each pid ∙ ap (λ o. descriptors_by number (places_in (numbers_in h) o)) is);
   gone = λ pid none. have.each pid ∙ ap (λ o. descriptors_by number (places_in (numbers_in h) o)) none ∙ none_by number;
   made = have.made;
+  sleeping = all_found (λ proc. opening_at files proc.pid ≡ opening_in proc) procs 0 rising
+      (λ pid proc above is. ap (opening_at files) (proc_has_pid procs pid proc is) ∙ have.openings.each pid ∙ ap opening_of is);
+  awake = λ pid none. have.openings.each pid ∙ ap opening_of none;
+  counted = have.openings.made;
 }
 
 pub by_pids : (h : Heap) (number : ℕ → ℕ) (procs : List Proc) (last : ℕ) (files : Files) → TableOpen (numbers_in h) procs last number files → HaveDescriptors (numbers_in h) number procs last files
-by_pids h number procs last files have = record { each = λ pid. by_proc pid (proc_of procs pid) refl; made = have.made }
+by_pids h number procs last files have = record {
+  each = λ pid. by_proc pid (proc_of procs pid) refl;
+  made = have.made;
+  openings = record { each = λ pid. asleep pid (proc_of procs pid) refl; made = have.counted };
+}
   where
+    asleep : (pid : ℕ) (o : Option Proc) → proc_of procs pid ≡ o → opening_at files pid ≡ opening_of (proc_of procs pid)
+    asleep pid None none = have.awake pid none ∙ sym (ap opening_of none)
+    asleep pid (Some proc) is =
+        ap (opening_at files) (sym (proc_has_pid procs pid proc is))
+        ∙ has_it (λ p. opening_at files p.pid ≡ opening_in p) procs pid proc have.sleeping is
+        ∙ sym (ap opening_of is)
+
     by_proc : (pid : ℕ) (o : Option Proc) → proc_of procs pid ≡ o → descriptors_of files pid ≡ descriptors_by number (places_in (numbers_in h) (proc_of procs pid))
     by_proc pid None none = have.gone pid none ∙ sym (none_by number) ∙ sym (ap (λ o. descriptors_by number (places_in (numbers_in h) o)) none)
     by_proc pid (Some proc) is =

@@ -6,6 +6,7 @@ use Rattle.posix_defs.specs.Calls.OnSockets.{accept, description_of}
 use Rattle.posix_defs.specs.Files.State.{opened_as, with_sockets}
 use Rattle.posix_defs.specs.Socket.{Takes, Waits, Refuses, accept as accept_in}
 use Rattle.posix_defs.specs.Sockets.{after_accept, stage_at}
+use Rattle.pipe_ends.proofs.LinkLemmas.{links_same}
 use Rattle.proc_numbers.specs.Having.{HaveOpen, OpensNoNode}
 use Rattle.proc_numbers.specs.Naming.{ChangesNumbers, named_at}
 use Rattle.proc_numbers.proofs.Fronts.{queues_then}
@@ -85,7 +86,8 @@ returns-in-Some-clause-owners c =
 pub returns-in-Some-clause-changes : goal.returns-in-Some-clause-changes
 returns-in-Some-clause-changes c =
     changes_after c.args.heap.now c.accept.new.heap c.open_on.new.heap c.args.procs.now c.args.place.pid (ap (λ (h : Heap). h.procs) c.in-Took.ensures.others.kept)
-    (beside_changed c.args.heap.now c.accept.new.heap c.in-Took.ensures.others) c.open_on.ensures.changes
+    (beside_changed c.args.heap.now c.accept.new.heap c.in-Took.ensures.others)
+    (links_same c.args.heap.now c.accept.new.heap (ap (λ (h : Heap). h.pipes) c.in-Took.ensures.others.kept)) c.open_on.ensures.changes
 
 pub returns-in-Some-clause-queues : goal.returns-in-Some-clause-queues
 returns-in-Some-clause-queues c =

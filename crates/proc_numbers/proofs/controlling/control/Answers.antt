@@ -10,6 +10,7 @@ use Rattle.posix_defs.specs.Calls.OnDescriptors.{cloexec_bit, cloexec_set, dupli
 use Rattle.posix_defs.specs.Files.Descriptions.{has_flag, o_append, o_nonblock, with_status}
 use Rattle.posix_defs.specs.Files.Descriptors.{descriptor_at, lowest_free_from}
 use Rattle.posix_defs.specs.Files.State.{described_as, descriptors_of, with_open}
+use Rattle.pipe_ends.proofs.LinkLemmas.{links_same}
 use Rattle.proc_numbers.specs.Having.{HaveOpen}
 use Rattle.proc_numbers.proofs.NumberCloses.{listed_on, no_some}
 use Rattle.proc_numbers.specs.Answering.{with_flags}
@@ -136,6 +137,7 @@ returns-in-4-clause-changes c =
     let same = ap (λ (h : Heap). h.procs) c.set_flags.ensures.beside in
     changes_after c.args.heap.now c.set_flags.new.heap c.set_flags.new.heap c.args.procs.now c.args.place.pid same
     (ap (λ (h : Heap). record h { procs = c.set_flags.new.heap.procs; leaves = c.set_flags.new.heap.leaves; descs = c.set_flags.new.heap.descs; pipes = c.set_flags.new.heap.pipes; chunks = c.set_flags.new.heap.chunks; socks = c.set_flags.new.heap.socks; high = c.set_flags.new.heap.high }) c.set_flags.ensures.beside)
+    (links_same c.args.heap.now c.set_flags.new.heap (ap (λ (h : Heap). h.pipes) c.set_flags.ensures.beside))
     (changes_nothing c.set_flags.new.heap c.args.procs.now c.args.place.pid (listed_on c.args.heap.now c.set_flags.new.heap c.args.procs.now same (ap (λ (h : Heap). h.leaves) c.set_flags.ensures.beside) c.requires.listed) (ap is_some c.requires.there))
 
 -- ---- another command

@@ -3,6 +3,7 @@ use Rattle.desc_table.specs.Copying.{spends_leaves}
 use Rattle.kheap_slabs.specs.Heap.{Heap}
 use Rattle.kheap_slabs.specs.Purse.{Purse}
 use Rattle.kheap_laws.proofs.PaidLemmas.{CanPay-kept, IsPaid-trans}
+use Rattle.pipe_ends.proofs.LinkLemmas.{links_same}
 use Rattle.proc_numbers.specs.Having.{HaveOpen, OpensNoNode}
 use Rattle.proc_numbers.specs.Naming.{has_room, named_at}
 use Rattle.proc_numbers.proofs.Fronts.{queues_same, queues_then}
@@ -44,6 +45,7 @@ pub returns-clause-changes : goal.returns-clause-changes
 returns-clause-changes c =
     changes_after c.args.heap.now c.describe-desc.new.heap c.open_one.new.heap c.args.procs.now c.args.place.pid (ap (λ (h : Heap). h.procs) c.describe-desc.ensures.kept)
     (subst (λ (h : Heap). h ≡ record c.args.heap.now { procs = h.procs; leaves = h.leaves; descs = h.descs; pipes = h.pipes; chunks = h.chunks; socks = h.socks; high = h.high }) (sym c.describe-desc.ensures.kept) refl)
+    (links_same c.args.heap.now c.describe-desc.new.heap (ap (λ (h : Heap). h.pipes) c.describe-desc.ensures.kept))
     (changes_named c.describe-desc.new.heap c.open_one.new.heap c.args.procs.now c.args.place.pid c.args.fd (record { desc = c.describe-desc.result; close_on_exec = false })
     (listed_on c.args.heap.now c.describe-desc.new.heap c.args.procs.now (ap (λ (h : Heap). h.procs) c.describe-desc.ensures.kept) (ap (λ (h : Heap). h.leaves) c.describe-desc.ensures.kept) c.requires.listed) c.open_one.ensures.names)
 

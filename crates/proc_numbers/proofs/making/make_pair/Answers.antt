@@ -11,6 +11,7 @@ use Rattle.posix_defs.specs.Answer.{replied}
 use Rattle.posix_defs.specs.Calls.OnSockets.{socketpair}
 use Rattle.posix_defs.specs.Files.State.{descriptors_of, with_open}
 use Rattle.posix_defs.specs.Plain.{with_files}
+use Rattle.pipe_ends.proofs.LinkLemmas.{links_same}
 use Rattle.proc_numbers.specs.Having.{OpensNoNode}
 use Rattle.proc_numbers.specs.Naming.{AreOpenBelow, named_at}
 use Rattle.proc_numbers.proofs.Fronts.{queues_same, queues_then}
@@ -116,6 +117,7 @@ returns-clause-changes c =
     let listed = listed_on c.args.heap.now c.open_both-ends.new.heap c.args.procs.now (ap (λ (h : Heap). h.procs) c.open_both-ends.ensures.kept) (ap (λ (h : Heap). h.leaves) c.open_both-ends.ensures.kept) c.requires.listed in
     changes_after c.args.heap.now c.open_both-ends.new.heap c.open_one-2.new.heap c.args.procs.now c.args.place.pid (ap (λ (h : Heap). h.procs) c.open_both-ends.ensures.kept)
     (subst (λ (h : Heap). h ≡ record c.args.heap.now { procs = h.procs; leaves = h.leaves; descs = h.descs; pipes = h.pipes; chunks = h.chunks; socks = h.socks; high = h.high }) (sym c.open_both-ends.ensures.kept) refl)
+    (links_same c.args.heap.now c.open_both-ends.new.heap (ap (λ (h : Heap). h.pipes) c.open_both-ends.ensures.kept))
     (changes_then c.open_both-ends.new.heap c.open_one.new.heap c.open_one-2.new.heap c.args.procs.now c.args.place.pid
     (changes_named c.open_both-ends.new.heap c.open_one.new.heap c.args.procs.now c.args.place.pid c.in-Some.first (record { desc = c.open_both-ends.result.one; close_on_exec = false }) listed c.open_one.ensures.names)
     (changes_named c.open_one.new.heap c.open_one-2.new.heap c.args.procs.now c.args.place.pid c.in-Some-next.second (record { desc = c.open_both-ends.result.other; close_on_exec = false }) c.open_one.ensures.listed c.open_one-2.ensures.names))

@@ -10,6 +10,7 @@ use Rattle.posix_defs.specs.Calls.OnSockets.{description_of, socket}
 use Rattle.posix_defs.specs.Files.State.{opened_as, with_sockets}
 use Rattle.posix_defs.specs.Plain.{with_files}
 use Rattle.posix_defs.specs.Sockets.{with_new}
+use Rattle.pipe_ends.proofs.LinkLemmas.{links_same}
 use Rattle.proc_numbers.specs.Having.{OpensNoNode}
 use Rattle.proc_numbers.specs.Naming.{named_at}
 use Rattle.proc_numbers.proofs.Fronts.{queues_same, queues_then}
@@ -96,7 +97,8 @@ returns-clause-owners c =
 pub returns-clause-changes : goal.returns-clause-changes
 returns-clause-changes c =
     changes_after c.args.heap.now c.sock_make-made.new.heap c.open_on.new.heap c.args.procs.now c.args.place.pid (ap (λ (h : Heap). h.procs) c.sock_make-made.ensures.others.kept)
-    (beside_changed c.args.heap.now c.sock_make-made.new.heap c.sock_make-made.ensures.others) c.open_on.ensures.changes
+    (beside_changed c.args.heap.now c.sock_make-made.new.heap c.sock_make-made.ensures.others)
+    (links_same c.args.heap.now c.sock_make-made.new.heap (ap (λ (h : Heap). h.pipes) c.sock_make-made.ensures.others.kept)) c.open_on.ensures.changes
 
 pub returns-clause-queues : goal.returns-clause-queues
 returns-clause-queues c =

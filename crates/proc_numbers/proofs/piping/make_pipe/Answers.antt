@@ -117,7 +117,7 @@ returns-clause-changes c =
       high = c.open_ends-ends.new.heap.high;
     } in
     changes_after c.args.heap.now c.open_ends-ends.new.heap c.open_one-2.new.heap c.args.procs.now c.args.place.pid (same_procs c.args.heap.now c.open_ends-ends.new.heap c.open_ends-ends.result.pipe c.open_ends-ends.result.reading c.open_ends-ends.result.writing c.open_ends-ends.ensures.opens)
-    (ap so c.open_ends-ends.ensures.opens.beside)
+    (ap so c.open_ends-ends.ensures.opens.beside) c.open_ends-ends.ensures.links
     (changes_then c.open_ends-ends.new.heap c.open_one.new.heap c.open_one-2.new.heap c.args.procs.now c.args.place.pid
     (changes_named c.open_ends-ends.new.heap c.open_one.new.heap c.args.procs.now c.args.place.pid c.in-Some.first (record { desc = c.open_ends-ends.result.reading; close_on_exec = false }) (listed_on c.args.heap.now c.open_ends-ends.new.heap c.args.procs.now (same_procs c.args.heap.now c.open_ends-ends.new.heap c.open_ends-ends.result.pipe c.open_ends-ends.result.reading c.open_ends-ends.result.writing c.open_ends-ends.ensures.opens) (same_leaves c.args.heap.now c.open_ends-ends.new.heap c.open_ends-ends.result.pipe c.open_ends-ends.result.reading c.open_ends-ends.result.writing c.open_ends-ends.ensures.opens) c.requires.listed) c.open_one.ensures.names)
     (changes_named c.open_one.new.heap c.open_one-2.new.heap c.args.procs.now c.args.place.pid c.in-Some-next.second (record { desc = c.open_ends-ends.result.writing; close_on_exec = false }) c.open_one.ensures.listed c.open_one-2.ensures.names))

@@ -1,4 +1,7 @@
 use Rattle.kheap_laws.proofs.PaidLemmas.{IsPaid-trans}
+use Rattle.std.proofs.Common.{ap, ◌∙◌}
+use Rattle.kheap_slabs.specs.Heap.{Heap}
+use Rattle.pipe_ends.proofs.LinkLemmas.{links_same, links_then}
 use Rattle.proc_numbers.proofs.PipeSteps.{pipe_opens, spent_so}
 use Rattle.proc_numbers.proofs.piping.open_ends.Goals as goal
 
@@ -20,3 +23,8 @@ pub returns-clause-spent : goal.returns-clause-spent
 returns-clause-spent c =
     spent_so c.args.purse.now c.pipe_make-pipe.new.purse c.describe-reading.new.purse c.describe-writing.new.purse
     c.pipe_make-pipe.ensures.spent c.describe-reading.ensures.spent c.describe-writing.ensures.spent
+
+pub returns-clause-links : goal.returns-clause-links
+returns-clause-links c =
+    links_then c.args.heap.now c.pipe_make-pipe.new.heap c.describe-writing.new.heap c.pipe_make-pipe.ensures.links
+    (links_same c.pipe_make-pipe.new.heap c.describe-writing.new.heap (ap (λ (h : Heap). h.pipes) c.describe-writing.ensures.kept ∙ ap (λ (h : Heap). h.pipes) c.describe-reading.ensures.kept))

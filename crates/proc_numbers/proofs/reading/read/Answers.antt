@@ -80,3 +80,15 @@ pub returns-clause-kept : goal.returns-clause-kept
 returns-clause-kept c =
     kept_taken c.args.heap.now c.args.purse.now c.take_in.new.heap c.take_in.new.purse c.args.procs.now c.args.place.pid c.space_of-space.result c.in-Some-of.queue c.start_of-start.result c.cast_unsigned-n.result
     c.in-Some.found.desc.flags.nonblock c.requires.kept c.space_of-space.ensures (open_end c.args.heap.now c.in-Some.found.key c.in-Some.found.desc c.in-Some-of.queue c.requires.kept.owners (is_there c.args.heap.now c.args.procs.now c.args.place.pid c.args.on.now c.requires.opened c.in-Some.found c.in-Some.ensures.same) (sym c.of.ensures ∙ c.in-Some-of.is)) c.take_in.ensures.reads c.take_in.ensures.refused
+
+pub returns-in_default-clause-links : goal.returns-in_default-clause-links
+returns-in_default-clause-links c = λ key. refl
+
+pub returns-then-not-mapped-clause-links : goal.returns-then-not-mapped-clause-links
+returns-then-not-mapped-clause-links c = λ key. refl
+
+pub returns-then-n-eq0-clause-links : goal.returns-then-n-eq0-clause-links
+returns-then-n-eq0-clause-links c = λ key. refl
+
+pub returns-clause-links : goal.returns-clause-links
+returns-clause-links c = c.take_in.ensures.links

@@ -2,6 +2,8 @@ use Rattle.std.proofs.Common.{◌≡◌, ◌≤◌, ◌∙◌, ap, arith, subst,
 use Rattle.std.proofs.lemmas.List.{length-take-le}
 use Rattle.posix_defs.specs.Needs.{pages_touched}
 use Rattle.posix_defs.specs.Pipe.{Moves, Blocks, Fails}
+use Rattle.kheap_slabs.specs.Heap.{Heap}
+use Rattle.pipe_ends.proofs.LinkLemmas.{links_same, links_then}
 use Rattle.proc_numbers.specs.PipeMoving.{UnlessMoves, told_read}
 use Rattle.proc_numbers.specs.QueueEnds.{read_of}
 use Rattle.proc_numbers.proofs.Capped.{touched_fewer}
@@ -90,3 +92,16 @@ returns-in-Fault-clause-reads c = λ behind k stands is.
 
 pub returns-in-Fault-clause-beside : goal.returns-in-Fault-clause-beside
 returns-in-Fault-clause-beside c = beside_none c.args.heap.now c.take.new.heap c.in-Fault.ensures.refused.0
+
+-- ---- the pipes of FIFOs
+
+pub returns-in-Bytes-clause-links : goal.returns-in-Bytes-clause-links
+returns-in-Bytes-clause-links c =
+    links_then c.args.heap.now c.take.new.heap c.copy_in.new.heap c.in-Bytes.ensures.links
+    (links_same c.take.new.heap c.copy_in.new.heap (ap (λ (h : Heap). h.pipes) c.copy_in.ensures.puts.moves.kept))
+
+pub returns-in-Blocked-clause-links : goal.returns-in-Blocked-clause-links
+returns-in-Blocked-clause-links c = c.in-Blocked.ensures.links
+
+pub returns-in-Fault-clause-links : goal.returns-in-Fault-clause-links
+returns-in-Fault-clause-links c = c.in-Fault.ensures.links

@@ -5,6 +5,7 @@ use Rattle.kheap_laws.proofs.PaidLemmas.{CanPay-kept, IsPaid-nothing, IsPaid-tra
 use Rattle.open_laws.specs.Described.{after_share, counting}
 use Rattle.proc_table.specs.Procs.{numbers_in}
 use Rattle.proc_table.specs.Table.{processes}
+use Rattle.pipe_ends.proofs.LinkLemmas.{links_same}
 use Rattle.proc_numbers.specs.Having.{HaveDescriptors, OpensNoNode}
 use Rattle.proc_numbers.specs.Naming.{named_at}
 use Rattle.proc_numbers.proofs.NumberCloses.{listed_on}
@@ -58,6 +59,7 @@ returns-clause-changes c =
     changes_after c.args.heap.now c.share_desc.new.heap c.open_one.new.heap c.args.procs.now c.args.place.pid
     (ap (λ (h : Heap). h.procs) shared)
     (subst (λ (h : Heap). h ≡ record c.args.heap.now { procs = h.procs; leaves = h.leaves; descs = h.descs; pipes = h.pipes; chunks = h.chunks; socks = h.socks; high = h.high }) (sym shared) refl)
+    (links_same c.args.heap.now c.share_desc.new.heap (ap (λ (h : Heap). h.pipes) shared))
     (changes_named c.share_desc.new.heap c.open_one.new.heap c.args.procs.now c.args.place.pid c.args.fd _
     (listed_on c.args.heap.now c.share_desc.new.heap c.args.procs.now (ap (λ (h : Heap). h.procs) shared) (ap (λ (h : Heap). h.leaves) shared) c.requires.listed) c.open_one.ensures.names)
 

@@ -1,6 +1,7 @@
 use Rattle.std.proofs.Common.{is_some, ◌∙◌, [], ap, refl, subst}
 use Rattle.kheap_slabs.specs.Heap.{Heap}
 use Rattle.posix_defs.specs.Calls.OnSockets.{listen}
+use Rattle.pipe_ends.proofs.LinkLemmas.{links_same}
 use Rattle.proc_numbers.proofs.Fronts.{queues_same}
 use Rattle.proc_numbers.proofs.NumberCloses.{listed_on}
 use Rattle.proc_numbers.proofs.Answered.{refused}
@@ -33,6 +34,7 @@ pub returns-in-Ok-clause-changes : goal.returns-in-Ok-clause-changes
 returns-in-Ok-clause-changes c =
     changes_after c.args.heap.now c.listen.new.heap c.listen.new.heap c.args.procs.now c.args.place.pid (ap (λ (h : Heap). h.procs) c.listen.ensures.others.kept)
     (beside_changed c.args.heap.now c.listen.new.heap c.listen.ensures.others)
+    (links_same c.args.heap.now c.listen.new.heap (ap (λ (h : Heap). h.pipes) c.listen.ensures.others.kept))
     (changes_nothing c.listen.new.heap c.args.procs.now c.args.place.pid (listed_on c.args.heap.now c.listen.new.heap c.args.procs.now (ap (λ (h : Heap). h.procs) c.listen.ensures.others.kept) (ap (λ (h : Heap). h.leaves) c.listen.ensures.others.kept) c.requires.listed) (ap is_some c.requires.there))
 
 pub returns-in-Ok-clause-queues : goal.returns-in-Ok-clause-queues

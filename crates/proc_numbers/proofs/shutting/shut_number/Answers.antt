@@ -5,6 +5,7 @@ use Rattle.posix_defs.specs.Sockets.{after_shut}
 use Rattle.usock_core.specs.Standing.{StandsFor as SocketsStandFor}
 use Rattle.kheap_slabs.specs.Heap.{Heap}
 use Rattle.posix_defs.specs.Calls.OnSockets.{shutdown}
+use Rattle.pipe_ends.proofs.LinkLemmas.{links_same}
 use Rattle.proc_numbers.proofs.Fronts.{queues_same}
 use Rattle.proc_numbers.proofs.NumberCloses.{listed_on}
 use Rattle.proc_numbers.proofs.Answered.{refused}
@@ -37,6 +38,7 @@ pub returns-in-Ok-clause-changes : goal.returns-in-Ok-clause-changes
 returns-in-Ok-clause-changes c =
     changes_after c.args.heap.now c.shutdown.new.heap c.shutdown.new.heap c.args.procs.now c.args.place.pid (ap (λ (h : Heap). h.procs) c.shutdown.ensures.others.kept)
     (beside_changed c.args.heap.now c.shutdown.new.heap c.shutdown.ensures.others)
+    (links_same c.args.heap.now c.shutdown.new.heap (ap (λ (h : Heap). h.pipes) c.shutdown.ensures.others.kept))
     (changes_nothing c.shutdown.new.heap c.args.procs.now c.args.place.pid (listed_on c.args.heap.now c.shutdown.new.heap c.args.procs.now (ap (λ (h : Heap). h.procs) c.shutdown.ensures.others.kept) (ap (λ (h : Heap). h.leaves) c.shutdown.ensures.others.kept) c.requires.listed) (ap is_some c.requires.there))
 
 pub returns-in-Ok-clause-queues : goal.returns-in-Ok-clause-queues

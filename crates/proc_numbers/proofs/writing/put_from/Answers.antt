@@ -39,3 +39,6 @@ returns-clause-refused c = λ behind stands.
     (c.fetch.ensures memory (memory_at-stands c.args.heap.now c.args.space.now) ∙ ap (loaded memory c.rest.result) (length-take-le c.min.result _ (let few = c.min.ensures in omega (arith, few))))
     len_is c.rest.ensures.rest c.put-moved.result (c.put-moved.ensures.answer behind stands))
     (λ both. both.0) c.put-moved.ensures.refused
+
+pub returns-clause-links : goal.returns-clause-links
+returns-clause-links c = c.put-moved.ensures.links

@@ -113,3 +113,18 @@ returns-clause-kept c =
 pub returns-clause-beside : goal.returns-clause-beside
 returns-clause-beside c =
     beside_put c.args.heap.now c.put_from.new.heap c.in-Some-of.queue c.put_from.ensures.leaves
+
+pub returns-in_default-clause-links : goal.returns-in_default-clause-links
+returns-in_default-clause-links c = λ key. refl
+
+pub returns-then-not-mapped-clause-links : goal.returns-then-not-mapped-clause-links
+returns-then-not-mapped-clause-links c = λ key. refl
+
+pub returns-then-n-eq0-clause-links : goal.returns-then-n-eq0-clause-links
+returns-then-n-eq0-clause-links c = λ key. refl
+
+pub returns-then-not-is_linked-clause-links : goal.returns-then-not-is_linked-clause-links
+returns-then-not-is_linked-clause-links c = λ key. refl
+
+pub returns-clause-links : goal.returns-clause-links
+returns-clause-links c = c.put_from.ensures.links

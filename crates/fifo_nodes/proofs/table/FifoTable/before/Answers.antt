@@ -15,10 +15,10 @@ chain-init c =
     let link = its (link_at c.args.heap.now c.args.key) c.requires.there in
     subst (Walks c.args.heap.now c.args.self.now c.args.key None) (sym c.self.view_is) (walks_from c.args.heap.now c.args.self.now c.args.key link.0 c.requires.chain link.1)
 
-pub returns-then-here : goal.returns-then-here
-returns-then-here c =
+pub returns-then-here-key : goal.returns-then-here-key
+returns-then-here-key c =
     let so = subst (Walks c.args.heap.now c.args.self.now c.args.key c.chain.before) c.in-Some.is c.chain.invariant in
-    walked_to c.args.heap.now c.args.self.now c.args.key c.chain.before (subst (λ k. Walks c.args.heap.now c.args.self.now c.args.key c.chain.before (Some k)) c.if-here.true so)
+    walked_to c.args.heap.now c.args.self.now c.args.key c.chain.before (subst (λ k. Walks c.args.heap.now c.args.self.now c.args.key c.chain.before (Some k)) c.if-here-key.true so)
 
 pub get_pipe-requires : goal.get_pipe-requires
 get_pipe-requires c =
@@ -28,8 +28,7 @@ get_pipe-requires c =
 pub chain-preserved : goal.chain-preserved
 chain-preserved c =
     let so = subst (Walks c.args.heap.now c.args.self.now c.args.key c.chain.before) c.in-Some.is c.chain.invariant in
-    subst (λ b. Walks c.args.heap.now c.args.self.now c.args.key b c.get_pipe.result.now.next) (sym c.in-Some.is)
-    (walks_on c.args.heap.now c.args.self.now c.args.key c.in-Some.here c.chain.before c.get_pipe.result.now so c.get_pipe.ensures c.if-here.false)
+    walks_on c.args.heap.now c.args.self.now c.args.key c.in-Some.here c.chain.before c.get_pipe.result.now so c.get_pipe.ensures c.if-here-key.false
 
 pub chain-smaller : goal.chain-smaller
 chain-smaller c =

@@ -2,14 +2,9 @@ use Rattle.std.proofs.Common.{◌≡◌, ℕ, sym, subst, ◌∙◌}
 use Rattle.kheap_laws.proofs.PaidLemmas.{TakesNothing-trans}
 use Rattle.pipe_ends.specs.Standing.{HasEndAt}
 use Rattle.pipe_ends.proofs.RelinkLemmas.{relinked_stands}
-use Rattle.fifo_nodes.specs.Chain.{ClosesEndOf, IsFifoAt}
+use Rattle.fifo_nodes.specs.Chain.{ClosesEndOf}
+use Rattle.fifo_nodes.proofs.ChainLemmas.{one_pipe}
 use Rattle.fifo_nodes.proofs.table.FifoTable.close_end.Goals as goal
-
--- the FIFO has one pipe
-the_one : (c : goal.After-leave_end) (key : ℕ) → IsFifoAt c.args.heap.now c.args.node key → c.in-Some.key ≡ key
-the_one c key is =
-    let found = c.key_of.ensures.some c.in-Some.key c.in-Some.is in
-    c.requires.chain.alone c.in-Some.key key found.link is.link found.there is.there (found.same ∙ sym is.same)
 
 pub unreachable-requires : goal.unreachable-requires
 unreachable-requires c = let end = c.requires.end in c.key_of.ensures.none c.in_default.is end.0 end.3
@@ -17,14 +12,13 @@ unreachable-requires c = let end = c.requires.end in c.key_of.ensures.none c.in_
 pub leave_end-requires-clause-end : goal.leave_end-requires-clause-end
 leave_end-requires-clause-end c =
     let end = c.requires.end in
-    let found = c.key_of.ensures.some c.in-Some.key c.in-Some.is in
-    let same : end.0 ≡ c.in-Some.key = c.requires.chain.alone end.0 c.in-Some.key end.3.link found.link end.3.there found.there (end.3.same ∙ sym found.same) in
+    let same = one_pipe c.args.heap.now c.args.self.now c.args.node end.0 c.in-Some.key c.requires.chain end.3 c.in-Some.ensures.some in
     subst (λ k. HasEndAt c.args.heap.now k c.args.writing) same (end.1, end.2, end.4, end.5)
 
 pub close_end-requires : goal.close_end-requires
 close_end-requires c =
     let end = c.requires.end in
-    let same = sym (the_one c end.0 end.3) in record {
+    let same = one_pipe c.args.heap.now c.args.self.now c.args.node end.0 c.in-Some.key c.requires.chain end.3 c.in-Some.ensures.some in record {
       owned = c.leave_end.ensures.owned;
       end = subst (λ k. HasEndAt c.leave_end.new.heap k c.args.writing) same
           (end.1, end.2, relinked_stands c.args.heap.now c.leave_end.new.heap end.0 end.1 end.2 c.leave_end.ensures.relinked end.4, end.5);
@@ -32,7 +26,7 @@ close_end-requires c =
 
 pub returns-clause-closes : goal.returns-clause-closes
 returns-clause-closes c = λ key is.
-    subst (λ k. ClosesEndOf c.args.heap.now c.close_end.new.heap k c.args.writing) (the_one c key is) (record {
+    subst (λ k. ClosesEndOf c.args.heap.now c.close_end.new.heap k c.args.writing) (one_pipe c.args.heap.now c.args.self.now c.args.node c.in-Some.key key c.requires.chain c.in-Some.ensures.some is) (record {
       mid = c.leave_end.new.heap;
       relinked = c.leave_end.ensures.relinked;
       gone = λ pipe at stands. c.close_end.ensures.gone pipe at (relinked_stands c.args.heap.now c.leave_end.new.heap c.in-Some.key pipe at c.leave_end.ensures.relinked stands);

@@ -5,11 +5,11 @@ use Rattle.pipe_ends.specs.Standing.{StandsFor}
 use Rattle.fifo_nodes.proofs.table.FifoTable.ends.Goals as goal
 
 pub get_pipe-requires : goal.get_pipe-requires
-get_pipe-requires c = let found = c.key_of.ensures.some c.in-Some.key c.in-Some.is in used_at c.args.heap.now c.in-Some.key found.link found.there
+get_pipe-requires c = let found = c.in-Some.ensures.some in used_at c.args.heap.now c.in-Some.key found.link found.there
 
 pub returns-in-Some : goal.returns-in-Some
 returns-in-Some c =
-    let found = c.key_of.ensures.some c.in-Some.key c.in-Some.is in record {
+    let found = c.in-Some.ensures.some in record {
       had = λ key pipe at is stands.
           let same = c.requires.alone key c.in-Some.key is.link found.link is.there found.there (is.same ∙ sym found.same) in
           let here = subst (λ k. StandsFor c.args.heap.now k pipe at) same stands in

@@ -1,6 +1,5 @@
 use Rattle.std.proofs.Common.{◌<◌, sym, subst}
 use Rattle.kheap_slabs.specs.Objects.{count}
-use Rattle.fifo_nodes.specs.Chain.{IsFifoAt}
 use Rattle.fifo_nodes.specs.Walking.{Seeks, chain_left}
 use Rattle.fifo_nodes.proofs.WalkLemmas.{found_here, found_none, here_used, seeks_from, seeks_on, walks_less}
 use Rattle.fifo_nodes.proofs.table.FifoTable.key_of.Goals as goal
@@ -25,10 +24,9 @@ chain-smaller c =
     (walks_less c.args.heap.now c.in-Some.key so.rest c.get_pipe-pipe.result.now so.behind so.once c.get_pipe-pipe.ensures)
 
 pub returns-then-pipe-node-clause-some : goal.returns-then-pipe-node-clause-some
-returns-then-pipe-node-clause-some c = λ key same.
+returns-then-pipe-node-clause-some c =
     let so = subst (Seeks c.args.heap.now c.args.node) c.in-Some.is c.chain.invariant in
-    let here = found_here c.args.heap.now c.args.node c.in-Some.key c.get_pipe-pipe.result.now so c.get_pipe-pipe.ensures c.if-pipe-node.true in
-    subst (IsFifoAt c.args.heap.now c.args.node) (let is = same in cc) here
+    found_here c.args.heap.now c.args.node c.in-Some.key c.get_pipe-pipe.result.now so c.get_pipe-pipe.ensures c.if-pipe-node.true
 
 pub returns-clause-none : goal.returns-clause-none
 returns-clause-none c = λ none. found_none c.args.heap.now c.args.node (subst (Seeks c.args.heap.now c.args.node) c.in_default.is c.chain.invariant)

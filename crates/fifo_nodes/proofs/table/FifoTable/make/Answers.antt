@@ -9,13 +9,13 @@ pub with_end-requires : goal.with_end-requires
 with_end-requires c = subst (λ p. HasRoom p c.args.writing) (sym c.unopened.ensures) (made_room c.args.node c.self.inside.first c.args.writing)
 
 -- what was made
-made : (c : goal.After-insert_pipe-key) → c.with_end.result ≡ held_with_end (held_unopened c.args.node c.args.self.now) c.args.writing
+made : (c : goal.After-self-1) → c.with_end.result ≡ held_with_end (held_unopened c.args.node c.args.self.now) c.args.writing
 made c = c.with_end.ensures ∙ ap (λ p. held_with_end p c.args.writing) (c.unopened.ensures ∙ ap (held_unopened c.args.node) c.self.view_is)
 
-stored : (c : goal.After-insert_pipe-key) → object c.insert_pipe-key.new.self.pipes c.insert_pipe-key.result ≡ Some (held_with_end (held_unopened c.args.node c.args.self.now) c.args.writing)
+stored : (c : goal.After-self-1) → object c.insert_pipe-key.new.self.pipes c.insert_pipe-key.result ≡ Some (held_with_end (held_unopened c.args.node c.args.self.now) c.args.writing)
 stored c = c.insert_pipe-key.ensures.stored ∙ ap Some (made c)
 
-kept : (c : goal.After-insert_pipe-key) → c.insert_pipe-key.new.self
+kept : (c : goal.After-self-1) → c.insert_pipe-key.new.self
     ≡ record c.args.heap.now { pipes = put c.args.heap.now.pipes c.insert_pipe-key.result (held_with_end (held_unopened c.args.node c.args.self.now) c.args.writing); high = c.insert_pipe-key.new.self.high }
 kept c = c.insert_pipe-key.ensures.kept ∙ ap (λ p. record c.args.heap.now { pipes = put c.args.heap.now.pipes c.insert_pipe-key.result p; high = c.insert_pipe-key.new.self.high }) (made c)
 

@@ -6,7 +6,7 @@ use Rattle.fifo_nodes.proofs.table.FifoTable.open_end.Goals as goal
 
 pub add_end-requires : goal.add_end-requires
 add_end-requires c =
-    let is = c.key_of.ensures.some c.in-Some.key c.in-Some.is in record {
+    let is = c.in-Some.ensures.some in record {
       owned = c.requires.owned;
       there = c.requires.stand c.in-Some.key is;
       few = λ pipe at stands. can_open c.args.heap.now c.args.self.now c.args.node c.in-Some.key c.args.writing pipe at c.requires.chain is stands (c.requires.few c.in-Some.key pipe at is stands);
@@ -14,11 +14,11 @@ add_end-requires c =
 
 pub returns-in-Some-clause-opens : goal.returns-in-Some-clause-opens
 returns-in-Some-clause-opens c =
-    opens_end c.args.heap.now c.add_end.new.heap c.args.self.now c.args.node c.in-Some.key c.args.writing c.requires.chain (c.key_of.ensures.some c.in-Some.key c.in-Some.is) c.add_end.ensures.opens
+    opens_end c.args.heap.now c.add_end.new.heap c.args.self.now c.args.node c.in-Some.key c.args.writing c.requires.chain (c.in-Some.ensures.some) c.add_end.ensures.opens
 
 pub returns-in-Some-clause-chain : goal.returns-in-Some-clause-chain
 returns-in-Some-clause-chain c =
-    opens_chain c.args.heap.now c.add_end.new.heap c.args.self.now c.args.node c.in-Some.key c.args.writing c.requires.chain (c.key_of.ensures.some c.in-Some.key c.in-Some.is) c.add_end.ensures.opens
+    opens_chain c.args.heap.now c.add_end.new.heap c.args.self.now c.args.node c.in-Some.key c.args.writing c.requires.chain (c.in-Some.ensures.some) c.add_end.ensures.opens
 
 pub returns-in-Some-clause-paid : goal.returns-in-Some-clause-paid
 returns-in-Some-clause-paid c = IsPaid-nothing c.args.heap.now c.add_end.new.heap c.args.purse.now c.args.purse.now c.add_end.ensures.takes refl refl

@@ -1,5 +1,7 @@
-use Rattle.std.proofs.Common.{◌≡◌, length, subst, sym}
+use Rattle.std.proofs.Common.{ap, ◌≡◌, length, subst, sym}
 use Rattle.chunk_queue.specs.Moving.{moved_by, moving_of}
+use Rattle.kheap_slabs.specs.Heap.{Heap}
+use Rattle.pipe_ends.proofs.LinkLemmas.{links_same}
 use Rattle.proc_numbers.proofs.SocketWrites.{sent_queues}
 use Rattle.proc_numbers.specs.QueueEnds.{Behind, IsEndIn, LeavesBut, PutsIn, StandsBehind, write_of}
 use Rattle.proc_numbers.proofs.ends.QueueEnd.put.Goals as goal
@@ -38,3 +40,9 @@ returns-in-Sock-clause-puts c =
 
 pub returns-in-Sock-clause-leaves : goal.returns-in-Sock-clause-leaves
 returns-in-Sock-clause-leaves c = subst (LeavesBut c.args.heap.now c.sock_write.new.heap) (sym c.in-Sock.is) (record { others = c.sock_write.ensures.others; objects = c.sock_write.ensures.owned; held = c.sock_write.ensures.held })
+
+pub returns-in-Pipe-clause-links : goal.returns-in-Pipe-clause-links
+returns-in-Pipe-clause-links c = c.pipe_write.ensures.links
+
+pub returns-in-Sock-clause-links : goal.returns-in-Sock-clause-links
+returns-in-Sock-clause-links c = links_same c.args.heap.now c.sock_write.new.heap (ap (λ (h : Heap). h.pipes) c.sock_write.ensures.others.kept)

@@ -1,5 +1,7 @@
-use Rattle.std.proofs.Common.{◌≡◌, ◌++◌, drop, length, subst, sym, take}
+use Rattle.std.proofs.Common.{ap, ◌≡◌, ◌++◌, drop, length, subst, sym, take}
 use Rattle.chunk_queue.specs.Moving.{moved_by, moving_of}
+use Rattle.kheap_slabs.specs.Heap.{Heap}
+use Rattle.pipe_ends.proofs.LinkLemmas.{links_same}
 use Rattle.proc_numbers.specs.QueueEnds.{Behind, IsEndIn, LeavesBut, StandsBehind, TakesOut, read_of, unread}
 use Rattle.proc_numbers.proofs.ends.QueueEnd.take.Goals as goal
 
@@ -44,3 +46,9 @@ returns-in-Sock-clause-taken c =
 
 pub returns-in-Sock-clause-leaves : goal.returns-in-Sock-clause-leaves
 returns-in-Sock-clause-leaves c = subst (LeavesBut c.args.heap.now c.sock_read.new.heap) (sym c.in-Sock.is) (record { others = c.sock_read.ensures.others; objects = c.sock_read.ensures.owned; held = c.sock_read.ensures.held })
+
+pub returns-in-Pipe-clause-links : goal.returns-in-Pipe-clause-links
+returns-in-Pipe-clause-links c = c.pipe_read.ensures.links
+
+pub returns-in-Sock-clause-links : goal.returns-in-Sock-clause-links
+returns-in-Sock-clause-links c = links_same c.args.heap.now c.sock_read.new.heap (ap (λ (h : Heap). h.pipes) c.sock_read.ensures.others.kept)
