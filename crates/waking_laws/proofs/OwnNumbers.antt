@@ -205,37 +205,37 @@ module _ (script : Script) (plain : Plain) (pid : ℕ) (made : pid ≤ length pl
   unfolding poll
   polls timeout entries = either ((hits_of (revents_of plain.files pid entries) == 0) && is_minus_one timeout) _ _ tt refl
 
-  right : (no : Bool) (which : Call) → wakes_nobody no which ≡ true → gives_number which ≡ false → Leaves (answer_to script plain pid which)
-  right no call.Getpid e f = refl
-  right no call.Getppid e f = refl
-  right no call.SchedYield e f = refl
-  right no call.Fork e f = forks
-  right no (call.Mmap size) e f = maps size
-  right no (call.Munmap addr size) e f = refl
-  right no (call.Store addr bytes) e f = ranged addr (length bytes) _ refl
-  right no (call.Load addr n) e f = ranged addr (count_of n) _ refl
-  right no (call.Pread fd addr n at) e f = preads fd addr n at
-  right no (call.Pwrite fd addr n at) e f = pwrites fd addr n at
-  right no (call.Lseek fd offset whence) e f = seeks fd offset whence
-  right no (call.Readdir fd addr n) e f = lists fd addr n
-  right no (call.Ftruncate fd size) e f = truncates fd size
-  right no (call.Fstat fd) e f = fstats fd
-  right no (call.Stat path) e f = stats path
-  right no (call.Chdir path) e f = enters path
-  right no (call.Mkdir path) e f = makes path
-  right no (call.Rmdir path) e f = removes path
-  right no (call.Unlink path) e f = unlinks path
-  right no (call.Link old new) e f = links old new
-  right no (call.Rename old new) e f = renames old new
-  right no (call.Mkfifo path) e f = makes_fifo path
-  right no (call.Bind fd path) e f = binds fd path
-  right no (call.Poll timeout entries) e f = polls timeout entries
-  right no (call.Signal which disposition) e f = refl
-  right no _ e f = cc
+  right : (none_open : Bool) (which : Call) → wakes_nobody none_open which ≡ true → gives_number which ≡ false → Leaves (answer_to script plain pid which)
+  right none_open call.Getpid e f = refl
+  right none_open call.Getppid e f = refl
+  right none_open call.SchedYield e f = refl
+  right none_open call.Fork e f = forks
+  right none_open (call.Mmap size) e f = maps size
+  right none_open (call.Munmap addr size) e f = refl
+  right none_open (call.Store addr bytes) e f = ranged addr (length bytes) _ refl
+  right none_open (call.Load addr n) e f = ranged addr (count_of n) _ refl
+  right none_open (call.Pread fd addr n at) e f = preads fd addr n at
+  right none_open (call.Pwrite fd addr n at) e f = pwrites fd addr n at
+  right none_open (call.Lseek fd offset whence) e f = seeks fd offset whence
+  right none_open (call.Readdir fd addr n) e f = lists fd addr n
+  right none_open (call.Ftruncate fd size) e f = truncates fd size
+  right none_open (call.Fstat fd) e f = fstats fd
+  right none_open (call.Stat path) e f = stats path
+  right none_open (call.Chdir path) e f = enters path
+  right none_open (call.Mkdir path) e f = makes path
+  right none_open (call.Rmdir path) e f = removes path
+  right none_open (call.Unlink path) e f = unlinks path
+  right none_open (call.Link old new) e f = links old new
+  right none_open (call.Rename old new) e f = renames old new
+  right none_open (call.Mkfifo path) e f = makes_fifo path
+  right none_open (call.Bind fd path) e f = binds fd path
+  right none_open (call.Poll timeout entries) e f = polls timeout entries
+  right none_open (call.Signal which disposition) e f = refl
+  right none_open _ e f = cc
 
-  pub leaves_numbers : (no : Bool) (which : Call) → wakes_nobody no which ≡ true → gives_number which ≡ false → Leaves (machine script plain pid which)
-  leaves_numbers no which e f = go (argument_fault which)
+  pub leaves_numbers : (none_open : Bool) (which : Call) → wakes_nobody none_open which ≡ true → gives_number which ≡ false → Leaves (machine script plain pid which)
+  leaves_numbers none_open which e f = go (argument_fault which)
     where
       go : (fault : Option Errno) → Leaves (unless_wrong script plain pid fault (answer_to script plain pid which))
-      go None = right no which e f
+      go None = right none_open which e f
       go (Some errno) = refl

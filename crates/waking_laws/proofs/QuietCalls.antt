@@ -456,9 +456,9 @@ module _ (script : Script) (plain : Plain) (pid who : ℕ) (apart : who ≢ pid)
       go (Some errno) = λ none. record { files = still; kin = family }
 
   -- of all but an open it doesn't matter whether a FIFO is open
-  same_unless_open : (no : Bool) (which : Call) → is_open which ≡ false → wakes_nobody no which ≡ wakes_nobody true which
-  same_unless_open no (call.OpenFile path flags) o = cc
-  same_unless_open no _ o = refl
+  same_unless_open : (none_open : Bool) (which : Call) → is_open which ≡ false → wakes_nobody none_open which ≡ wakes_nobody true which
+  same_unless_open none_open (call.OpenFile path flags) o = cc
+  same_unless_open none_open _ o = refl
 
   open_is : (which : Call) → is_open which ≡ true → (path : List ℕ) × (flags : ℤ) × (which ≡ call.OpenFile path flags)
   open_is (call.OpenFile path flags) o = (path, flags, refl)
