@@ -11,7 +11,7 @@ from dataclasses import dataclass, field
 from script import Register
 
 ERRNOS = {name: int(number) for name, number in (it.split() for it in """
-EPERM 1, ENOENT 2, ESRCH 3, ENOEXEC 8, EBADF 9, ECHILD 10, EAGAIN 11, ENOMEM 12, EACCES 13, EFAULT 14, EBUSY 16, EEXIST 17,
+EPERM 1, ENOENT 2, ESRCH 3, ENXIO 6, ENOEXEC 8, EBADF 9, ECHILD 10, EAGAIN 11, ENOMEM 12, EACCES 13, EFAULT 14, EBUSY 16, EEXIST 17,
 ENOTDIR 20, EISDIR 21, EINVAL 22, EMFILE 24, EFBIG 27, ENOSPC 28, ESPIPE 29, EMLINK 31, EPIPE 32, ENAMETOOLONG 36,
 ENOTEMPTY 39, EOVERFLOW 75, ENOTSOCK 88, EDESTADDRREQ 89, EOPNOTSUPP 95, EADDRINUSE 98, EISCONN 106, ENOTCONN 107,
 ECONNREFUSED 111""".replace("\n", " ").split(","))}
@@ -25,7 +25,7 @@ def values_of(reply):
         return -ERRNOS[reply], 0
     if re.fullmatch(r"x([0-9a-f]{2})*", reply):
         return int(reply[1:3] or "0", 16), 0
-    if words[0] in ("file", "dir", "sock", "pipe"):
+    if words[0] in ("file", "dir", "sock", "pipe", "fifo"):
         return int(words[1]), int(words[3])
     if len(words) == 3 and words[1] in ("exit", "signal"):
         return int(words[0]), int(words[2]) * (256 if words[1] == "exit" else 1)

@@ -13,10 +13,11 @@ ELSEWHERE = {
     "goto": "jump", "return": "exit", "wait": "waitpid", "yield": "sched_yield", "vfork": "fork", "clone": "fork", "let": "set",
     "var": "set", "while": "loop", "for": "loop", "cd": "chdir", "ls": "readdir", "rm": "unlink", "mv": "rename", "ln": "link",
     "creat": "open", "send": "write", "recv": "read", "malloc": "mmap", "free": "munmap", "sigaction": "signal",
+    "mknod": "mkfifo",
 }
 NO_SUCH = {
     **dict.fromkeys("print printf puts echo".split(), "A script prints nothing; the report tells what each call is answered."),
-    **dict.fromkeys("sleep usleep nanosleep".split(), "There is no time; a process sleeps in waitpid, read, write, accept and poll."),
+    **dict.fromkeys("sleep usleep nanosleep".split(), "There is no time; a process sleeps in waitpid, read, write, accept, poll and open."),
     **dict.fromkeys("symlink chmod chown umask alarm select mprotect fsync getuid".split(),
                     "There is no such call; ./kres table lists all that there are."),
 }

@@ -37,7 +37,7 @@ CALLS = {name: operands.split() for operands, names in {
     "FD ADDRESS COUNT": "read write readdir",
     "FD OFFSET WHENCE": "lseek",
     "FD ADDRESS COUNT PLACE": "pread pwrite",
-    "PATH": "exec stat chdir mkdir rmdir unlink",
+    "PATH": "exec stat chdir mkdir mkfifo rmdir unlink",
     "PATH NEW_PATH": "link rename",
     "PATH FLAGS": "open",
     "FD PATH": "bind connect",

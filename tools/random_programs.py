@@ -10,10 +10,14 @@ NAMES = {
     "file": ["a", "a", "b", "/a", "dir/a", "dir/b", "dir/sub/a", "dir/../a"],
     "dir": ["dir", "dir/sub", "/dir", "b", "/", "..", "dir/..", "dir/", "dir/sub/.."],
     "sock": ["sock", "sock", "/sock", "dir/sock", "a"],
+    "fifo": ["fifo", "fifo", "/fifo", "dir/fifo", "a"],
     "odd": [".", "a/", "none/a", "a/b", "", "dir/.", "x" * 27, "y" * 28, "none/", "//dir///sub", "prog"],
 }
 FLAGS = ["O_RDONLY", "O_RDWR", "O_RDWR|O_CREAT", "O_RDWR|O_CREAT", "O_WRONLY|O_CREAT|O_TRUNC", "O_RDWR|O_CREAT|O_EXCL",
          "O_WRONLY|O_APPEND", "O_RDWR|O_CREAT|O_CLOEXEC", "O_RDWR|O_NONBLOCK", "O_TRUNC", "3"]
+# How a FIFO is opened, mostly.
+SIDES = ["O_RDONLY", "O_RDONLY", "O_WRONLY", "O_WRONLY", "O_RDONLY|O_NONBLOCK", "O_WRONLY|O_NONBLOCK", "O_WRONLY|O_CREAT|O_TRUNC",
+         "O_RDONLY|O_CREAT|O_EXCL", "O_RDWR", "O_RDONLY|O_CLOEXEC"]
 # What the registers of a reply hold.
 HELD = {"fork": ["child"], "mmap": ["address"], "open": ["file"], "socket": ["socket"], "accept": ["socket"],
         "pipe": ["reader", "writer"], "socketpair": ["socket", "socket"], "dup": ["file"], "dup2": ["file"]}
@@ -56,7 +60,7 @@ class Program:
         return str(self.rng.choice([0, 1, 5, 60, 64, 511, 512, 513, 1024, 1025, 4096, 4097, 5000, 9000]))
 
     def path(self, kind=None):
-        kind = kind or self.rng.choice(["file", "file", "dir", "sock", "odd"])
+        kind = kind or self.rng.choice(["file", "file", "dir", "sock", "odd"] + ["fifo"] * ("mkfifo" in self.calls))
         return '"%s"' % self.rng.choice(NAMES[kind])
 
     def socket_path(self):
@@ -84,7 +88,8 @@ class Program:
                              f"{rng.choice(['SEEK_SET', 'SEEK_CUR', 'SEEK_END', '7'])}",
             "ftruncate": lambda: f"{self.fd(call)} {rng.choice(['0', '5', '2000', '12000', '272384', '272385', '67381248', '67381249', '-1'])}",
             "shutdown": lambda: f"{self.fd(call)} {rng.choice(['SHUT_RD', 'SHUT_WR', 'SHUT_RDWR', '5'])}",
-            "open": lambda: f"{self.path()} {rng.choice(FLAGS)}",
+            "open": self.opened,
+            "mkfifo": lambda: self.path("fifo") if rng.random() < 0.8 else self.path(),
             "poll": self.polled,
             **{it: lambda: self.fd(call) for it in ("close", "dup", "fstat", "listen", "accept")},
             **{it: lambda: f"{self.fd(call)} {self.address()} {self.length()}" for it in ("read", "write")},
@@ -94,6 +99,12 @@ class Program:
             **{it: self.path for it in ("stat", "chdir", "mkdir", "rmdir", "unlink", "exec")},
             **{it: lambda: f"{self.path()} {self.path()}" for it in ("link", "rename")},
         }.get(call, str)()
+
+    def opened(self):
+        """What an open is told; where there are FIFOs it is often a side of one."""
+        if "mkfifo" in self.calls and self.rng.random() < 0.4:
+            return f"{self.path('fifo')} {self.rng.choice(SIDES)}"
+        return f"{self.path()} {self.rng.choice(FLAGS)}"
 
     def polled(self):
         pairs = " ".join(f"{self.fd()} {self.rng.choice(['POLLIN', 'POLLOUT', 'POLLIN|POLLOUT', '0'])}"
@@ -117,6 +128,8 @@ class Program:
             kinds = [self.holds.get(words[1], "file")]
         if words[0] == "open" and words[1].strip('"') in NAMES["dir"]:
             kinds = ["directory"]
+        elif words[0] == "open" and "fifo" in words[1]:
+            kinds = ["writer" if "O_WRONLY" in words[2] else "reader"]
         if words[0] == "close" and self.rng.random() < 0.7:
             self.holds.pop(words[1], None)
         self.holds.update(zip(before.split(), kinds))
@@ -207,8 +220,9 @@ class Piece:
     def __init__(self, program):
         self.program, self.rng = program, program.rng
         self.registers, self.open = {}, []
-        self.names = {kind: program.path(kind) for kind in ("file", "dir", "sock")}
-        self.names["other"] = program.path(self.rng.choice(["file", "dir", "sock"]))
+        kinds = ["file", "dir", "sock"] + ["fifo"] * ("mkfifo" in program.calls)
+        self.names = {kind: program.path(kind) for kind in kinds}
+        self.names["other"] = program.path(self.rng.choice(kinds))
 
     def word(self, word):
         if word.startswith("$"):

@@ -3,10 +3,10 @@
 
 Writes COUNT scripts to FOLDER, as SEED.kres, SEED + 1 and so on; each is made of its number alone, so a script that shows
 something can be told by its number. They make the calls that are named, or one of the families memory, pipes, sockets,
-paths, files, all; without a name those of processes and memory. What programs do stands in tools/random_programs.py. With
-the name sleepers alone the scripts are of many processes that mostly sleep on a few pipes and sockets. Heaps
-are small, so that calls wait and processes are killed, choices and policies vary, and some programs end while others sleep.
-Nothing here runs or judges a script: tools/hostile_runs.py does.
+paths, files, fifos, all; without a name those of processes and memory. What programs do stands in tools/random_programs.py.
+With the name sleepers alone the scripts are of many processes that mostly sleep on a few pipes and sockets, with openers of
+some that mostly open the sides of a few FIFOs. Heaps are small, so that calls wait and processes are killed, choices and
+policies vary, and some programs end while others sleep. Nothing here runs or judges a script: tools/hostile_runs.py does.
 """
 import os
 import random
@@ -22,8 +22,14 @@ FAMILIES = {
     "sockets": "socket socketpair bind listen connect accept shutdown read write close poll fstat".split(),
     "paths": "stat chdir mkdir rmdir unlink link rename".split(),
     "files": "open close dup dup2 fcntl fstat read write pread pwrite lseek readdir ftruncate exec".split(),
+    "fifos": "mkfifo open close dup dup2 fcntl fstat read write poll stat unlink link rename exec".split(),
 }
 FAMILIES["all"] = sorted({it for family in FAMILIES.values() for it in family})
+# Scripts of another form, by a name of their own: what their processes do, and how much heap they have.
+CROWDS = {
+    "sleepers": (random_sleepers.Crowd, [32768, 131072, 262144, 1048576]),
+    "openers": (random_sleepers.Openers, [12288, 16384, 24576, 65536, 262144]),
+}
 HEAPS = [8192, 9000, 12000, 16384, 20000, 32768, 65536, 65536, 131072]
 
 
@@ -49,19 +55,20 @@ def programs(rng, calls):
         yield from [f"program {name}", *random_programs.Program(rng, calls).body(length), "end"]
 
 
-def crowded(number):
+def crowded(number, crowd, heaps):
     """The text of a number, as bytes, of many processes that mostly sleep."""
     rng = random.Random(number)
-    heap = rng.choice([32768, 131072, 262144, 1048576])
+    heap = rng.choice(heaps)
     lines = [f"heap {heap}", f"steps {rng.choice([1000, 3000, 6000])}", *choosing(rng, rng.choice([0, 1, 1, 1, 2]))]
-    lines += ["program init", *random_sleepers.Crowd(rng).lines(), "end"]
+    lines += ["program init", *crowd(rng).lines(), "end"]
     return ("\n".join(lines) + "\n").encode("latin-1")
 
 
 def script(number, calls):
     """The text of a number, as bytes."""
-    if "sleepers" in calls:
-        return crowded(number)
+    for name, crowd in CROWDS.items():
+        if name in calls:
+            return crowded(number, *crowd)
     rng = random.Random(number)
     lines = [f"heap {rng.choice(HEAPS)}", f"steps {rng.choice([200, 400, 1000, 3000, 3000])}"]
     lines += [f"disk {rng.choice([16, 17, 32, 64])}"] * (rng.random() < 0.7)

@@ -1,4 +1,4 @@
-"""Programs of many processes that share a few pipes and sockets and mostly sleep on them, for tools/random_scripts.py."""
+"""Programs of many processes that share a few pipes and sockets, or FIFOs, and mostly sleep on them, for tools/random_scripts.py."""
 
 EVENTS = ["POLLIN"] * 7 + ["POLLOUT", "POLLIN|POLLOUT", "0"]
 SIZES = [0, 1, 7, 512, 513, 4000, 4096, 5000]
@@ -59,3 +59,55 @@ class Crowd:
         children = [line for child in range(self.children)
                     for line in (f"label child{child}", *self.rounds(f"again{child}", self.rng.random() < 0.15), "exit 0")]
         return ["r1 = mmap 8192", *made, *listener, *forks, *self.rounds("again", True), "exit 0", *children]
+
+
+class Openers:
+    """A first process that makes FIFOs, and children of it that open their sides, each in rounds of its own."""
+
+    def __init__(self, rng):
+        self.rng = rng
+        self.fifos = [f'"/fifo{number}"' for number in range(rng.randint(1, 3))]
+        self.children = rng.choice([2, 3, 5, 8, 12, 20])
+
+    def fifo(self):
+        return self.rng.choice(self.fifos)
+
+    def visit(self):
+        """A side is opened, which mostly sleeps until the other one is; something is done with it, and it is closed."""
+        rng = self.rng
+        side, call = rng.choice([("O_RDONLY", "read"), ("O_WRONLY", "write")])
+        waits = rng.choice(["", "", "", "|O_NONBLOCK"])
+        lines = [f"r2 = open {self.fifo()} {side}{waits}"]
+        lines += [f"r9 = {call} r2 r1 {rng.choice(SIZES)}" for _ in range(rng.randint(0, 3))]
+        return lines + ["close r2"] * (rng.random() < 0.8)
+
+    def call(self):
+        rng = self.rng
+        return rng.choices([
+            lambda: f"r9 = mkfifo {self.fifo()}",
+            lambda: f"r9 = unlink {self.fifo()}",
+            lambda: f"r9 = rename {self.fifo()} {self.fifo()}",
+            lambda: f"r9 = kill {rng.randint(2, self.children + 3)} {rng.choice(['0', '9', '9', '9', '15'])}",
+            lambda: f"r9 r10 = waitpid -1 {rng.choice(['0', 'WNOHANG', 'WNOHANG'])}",
+            lambda: f"r9 = dup2 r2 {rng.randint(0, 3)}",
+            lambda: f"r9 = fcntl r2 F_SETFL {rng.choice(['0', 'O_NONBLOCK'])}",
+            lambda: f"r9 = {rng.choice(['stat ' + self.fifo(), 'fstat r2', 'sched_yield'])}",
+            lambda: f"r9 = poll {rng.choice([-1, 0, 0])} r2 {rng.choice(EVENTS)}",
+            lambda: "r9 = signal SIGPIPE SIG_DFL",
+            lambda: "r9 = fork",
+            lambda: "exit 0",
+        ], [4, 2, 1, 4, 4, 2, 1, 3, 2, .3, .5, .5])[0]()
+
+    def rounds(self, name):
+        """Some visits, over and over, and other calls between them."""
+        lines = []
+        for _ in range(self.rng.randint(1, 4)):
+            lines += self.visit() if self.rng.random() < 0.7 else [self.call()]
+        return [f"set r13 {self.rng.choice([3, 10, 30])}", f"label {name}", *lines, f"loop r13 {name}"]
+
+    def lines(self):
+        made = [f"mkfifo {name}" for name in self.fifos]
+        forks = [line for child in range(self.children) for line in ("r15 = fork", f"if r15 == 0 child{child}")]
+        children = [line for child in range(self.children)
+                    for line in (f"label child{child}", *self.rounds(f"again{child}"), "exit 0")]
+        return ["r1 = mmap 8192", *made, *forks, *self.rounds("again"), "exit 0", *children]

@@ -3,7 +3,7 @@
 A piece is some lines of a script, of which these have a meaning of their own:
 
     $x             a register of the piece's own
-    @file @dir @sock @other   a path of such a kind or of any, the same in the whole piece
+    @file @dir @sock @fifo @other   a path of such a kind or of any, the same in the whole piece
     #              a length; ## is a small one
     ? LINE         the line stands there or it doesn't
     child .. done, child $x .. done   a child does this, and mostly ends; the register has its pid
@@ -199,6 +199,106 @@ poll -1 $r POLLIN $a POLLIN
 poll -1 $r POLLIN -1 POLLIN $a POLLIN|POLLOUT $b POLLIN 0 POLLIN 31 POLLOUT
 read $r r0 ##
 read $a r0 ##
+
+# A reader who sleeps in its open, and the writer that wakes it.
+mkfifo @fifo
+child
+$r = open @fifo O_RDONLY
+read $r r0 #
+read $r r0 #
+? close $r
+? open @fifo O_RDONLY
+done
+? sched_yield
+$w = open @fifo O_WRONLY
+write $w r0 #
+? unlink @fifo
+write $w r0 9000
+? close $w
+waitpid -1 WNOHANG
+
+# Writers who sleep in their opens, and readers that come and go.
+mkfifo @fifo
+open @fifo O_WRONLY|O_NONBLOCK
+child
+$w = open @fifo O_WRONLY
+? fcntl $w F_SETFL O_NONBLOCK
+write $w r0 #
+write $w r0 9000
+done
+child
+? open @fifo O_WRONLY
+done
+? sched_yield
+$r = open @fifo O_RDONLY|O_NONBLOCK
+? read $r r0 5
+close $r
+open @fifo O_WRONLY|O_NONBLOCK
+? $r = open @fifo O_RDONLY
+read $r r0 9000
+
+# Who sleeps in an open is killed, and who comes to that side later sleeps too.
+mkfifo @fifo
+child $j
+open @fifo O_RDONLY
+done
+? sched_yield
+? sched_yield
+? open @fifo O_WRONLY|O_NONBLOCK
+kill $j SIGKILL
+open @fifo O_WRONLY|O_NONBLOCK
+waitpid $j 0
+child
+? sched_yield
+$r = open @fifo O_RDONLY
+read $r r0 ##
+done
+$w = open @fifo O_WRONLY
+write $w r0 ##
+
+# A FIFO whose name goes, or is another's, while somebody sleeps in an open of it.
+mkfifo @fifo
+child
+$r = open @fifo O_RDONLY
+fstat $r
+read $r r0 #
+done
+sched_yield
+? sched_yield
+? link @fifo @other
+? rename @fifo @other
+unlink @fifo
+mkfifo @fifo
+stat @fifo
+? open @fifo O_WRONLY
+$w = open @other O_WRONLY|O_NONBLOCK
+write $w r0 ##
+? unlink @other
+? rename @file @fifo
+
+# Ends of a FIFO that others take the place of, and a writer that nobody reads.
+mkfifo @fifo
+$r = open @fifo O_RDONLY|O_NONBLOCK
+$w = open @fifo O_WRONLY
+? $x = open @fifo O_WRONLY|O_CLOEXEC
+write $w r0 #
+? unlink @fifo
+child
+? dup2 $w $r
+? exec @file
+done
+? dup2 $w $r
+? read $r r0 ##
+? $s = open @fifo O_RDONLY
+close $r
+write $w r0 ##
+poll 0 $r POLLIN $w POLLOUT
+? signal SIGPIPE SIG_DFL
+write $w r0 9000
+? dup2 0 $w
+close $w
+$r = open @fifo O_RDONLY|O_NONBLOCK
+read $r r0 9000
 
 # A file up to where the disk is full, and what then goes again.
 $f = open @file O_RDWR|O_CREAT

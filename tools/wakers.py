@@ -12,15 +12,27 @@ WHOLE = 512  # a write to a pipe of so many bytes goes whole or not at all
 NONBLOCK, CLOEXEC = 2048, 524288
 F_DUPFD, F_SETFD, F_SETFL = 0, 2, 4
 POLLIN, POLLOUT = 1, 4
+READS, WRITES = False, True  # the sides of a pipe
 
 Woken = namedtuple("Woken", "waker woken cause wake")  # the pids, and the events
 
 
 @dataclass(eq=False)
 class Pipe:
+    """Of both sides, which may read and which may write: its ends, and how often it was opened so far."""
+
     unread: int = 0
-    readers: int = 0
-    writers: int = 0
+    ends: list = field(default_factory=lambda: [0, 0])
+    opens: list = field(default_factory=lambda: [0, 0])
+
+    def open_side(self, writes):
+        self.ends[writes] += 1
+        self.opens[writes] += 1
+
+    def close_side(self, writes):
+        self.ends[writes] -= 1
+        if not self.ends[READS]:
+            self.unread = 0
 
 
 @dataclass(eq=False)
@@ -59,7 +71,7 @@ class Table:
         self.numbers[number] = description
         description.count += 1
         if isinstance(description.on, Pipe) and description.count == 1:
-            setattr(description.on, "writers" if description.writes else "readers", 1)
+            description.on.open_side(description.writes)
 
     def drop(self, number):
         description = self.numbers.pop(number, None)
@@ -76,11 +88,14 @@ class Table:
     def on(self, number):
         return self.numbers[number].on if number in self.numbers else None
 
+    def free_number(self):
+        return next(it for it in range(len(self.numbers) + 1) if it not in self.numbers)
+
 
 def close(description):
     """The last descriptor of a description is gone."""
     if isinstance(description.on, Pipe):
-        setattr(description.on, "writers" if description.writes else "readers", 0)
+        description.on.close_side(description.writes)
     elif isinstance(description.on, Socket):
         description.on.is_open = False
         for waiting in description.on.queue:
@@ -93,7 +108,9 @@ class Streams:
     def __init__(self, run):
         self.run = run
         self.tables = {1: Table()}
-        self.named = {}
+        self.named, self.fifos = {}, {}
+        # Who sleeps in an open: the FIFO, its other side, and how often that was opened before.
+        self.opening = {}
         processes = run.processes.values()
         calls = [call for process in processes for call in process.calls if call.said]
         # The call that an event is over with, or has done a part of; who ends at it; and who was left without a child.
@@ -107,7 +124,9 @@ class Streams:
         """What an event changes."""
         call = self.calls.get(event.number)
         made = event.word == "done" and getattr(self, f"did_{event.call}", None)
-        if call and event.word == "part":
+        if call and event.word == "part" and call.name == "open":
+            self.began_to_open(event.pid, call.said.operands)
+        elif call and event.word == "part":
             self.moved(event, int(event.reply))
         elif call and made and not call.is_error():
             made(self.tables[event.pid], call.said.operands, event)
@@ -130,10 +149,27 @@ class Streams:
     def did_socket(self, table, operands, event):
         table.put(int(event.reply), Description(Socket()))
 
-    def did_open(self, table, operands, event):
-        table.put(int(event.reply), Description())
+    def did_mkfifo(self, table, operands, event):
+        self.fifos[operands[0]] = Pipe()
+
+    def began_to_open(self, pid, operands):
+        """It has its end of a FIFO, and sleeps until the other side is opened. Where a path leads by which none was made isn't known."""
+        table, fifo = self.tables[pid], self.fifos.get(operands[0])
+        self.put_opened(table, table.free_number(), operands)
+        other = not operands[1] & 1
+        self.opening[pid] = fifo and (fifo, other, fifo.opens[other])
+
+    def put_opened(self, table, number, operands):
+        fifo = self.fifos.get(operands[0])
+        table.put(number, Description(fifo, bool(operands[1] & 1), bool(fifo and operands[1] & NONBLOCK)))
         if operands[1] & CLOEXEC:
-            table.marked.add(int(event.reply))
+            table.marked.add(number)
+
+    def did_open(self, table, operands, event):
+        if event.pid in self.opening:
+            del self.opening[event.pid]
+        else:
+            self.put_opened(table, int(event.reply), operands)
 
     def did_dup(self, table, operands, event):
         table.put(int(event.reply), table.numbers[operands[0]])
@@ -208,6 +244,8 @@ class Streams:
     def blocks(self, pid, call, number):
         """Whether a call would block after this event; None where that isn't known."""
         operands, table = call.said.operands, self.tables[pid]
+        if call.name == "open":
+            return self.opening_blocks(self.opening.get(pid))
         if call.name == "waitpid":
             return not any(it.ended <= number and (it.gone is None or it.gone > number) and operands[0] in (-1, it.pid)
                            for it in self.children.get(pid, []) if it.ended is not None)
@@ -223,24 +261,30 @@ class Streams:
             return not on.queue
         return self.reading_blocks(on) if call.name == "read" else self.writing_blocks(on, operands[2])
 
+    def opening_blocks(self, opening):
+        if opening is None:
+            return None
+        fifo, other, before = opening
+        return fifo.opens[other] <= before
+
     def reading_blocks(self, on):
         if isinstance(on, Pipe):
-            return on.unread == 0 and on.writers > 0
+            return on.unread == 0 and on.ends[WRITES] > 0
         return on.unread == 0 and not on.no_reading and on.peer is not None and on.peer.is_open and not on.peer.no_writing
 
     def writing_blocks(self, on, count):
         if isinstance(on, Pipe):
             room = CAPACITY - on.unread
-            return on.readers > 0 and (room < count if count <= WHOLE else room == 0)
+            return on.ends[READS] > 0 and (room < count if count <= WHOLE else room == 0)
         peer = on.peer
         return not on.no_writing and peer is not None and peer.is_open and not peer.no_reading and peer.unread >= CAPACITY
 
     def is_told(self, on, writes, events):
         """Whether `poll` tells anything of what a descriptor is open on."""
         if isinstance(on, Pipe) and writes:
-            return on.readers == 0 or bool(events & POLLOUT and CAPACITY - on.unread >= WHOLE)
+            return on.ends[READS] == 0 or bool(events & POLLOUT and CAPACITY - on.unread >= WHOLE)
         if isinstance(on, Pipe):
-            return on.writers == 0 or bool(events & POLLIN and on.unread)
+            return on.ends[WRITES] == 0 or bool(events & POLLIN and on.unread)
         if on is None or not (on.listens or on.peer):
             return True
         if on.listens:
