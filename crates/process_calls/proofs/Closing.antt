@@ -1,5 +1,7 @@
 -- The processes of a store when one has closed all that it had open.
-use Rattle.std.proofs.Common.{◌≡◌, ℕ, ◌<◌, ◌==◌, Bool, true, false, cond, List, [], map, length, Option, None, Some, refl, ap, sym, ◌∙◌, subst}
+use Rattle.std.proofs.Common.{◌≡◌, ◌≢◌, ◌⊎◌, ℕ, ◌<◌, ◌==◌, Bool, true, false, cond, List, [], ◌∷◌, map, length, Option, None, Some, refl, ap, sym, ◌∙◌, subst, inl, inr}
+use Rattle.std.proofs.lemmas.Bool.Decides.{eqb_tells}
+use Rattle.fifo_nodes.specs.Chain.{IsChain}
 use Rattle.std.specs.List.{AllByRecursion}
 use Rattle.std.specs.Option.{option_map}
 use Rattle.kabi_types.specs.declared.scripts.Script.{Script}
@@ -17,6 +19,7 @@ use Rattle.proc_numbers.specs.Having.{AreListed}
 use Rattle.proc_files.specs.Ending.{ClosesEach}
 use Rattle.proc_files.specs.Names.{AreBound, name_of}
 use Rattle.proc_table.specs.Accounting.{HasAccount}
+use Rattle.proc_table.specs.Changes.{replaced}
 use Rattle.proc_table.specs.Procs.{IsAlive, IsLight, closed_all, proc_of, process_of}
 use Rattle.proc_table.specs.Standing.{AreFrom, IsTable}
 use Rattle.proc_table.specs.Table.{Holds, TableView, processes, procs_at}
@@ -31,14 +34,27 @@ use Rattle.store_objects.specs.declared.objects.Objects.{Objects}
 use Rattle.store_objects.specs.Objects.{AreAtCalls, AreKept, IsAtCall, most_nodes, procs_of}
 use Rattle.store_objects.specs.Trees.{KeepsTree}
 use Rattle.store_objects.proofs.Peeling.{by_pid}
-use Rattle.process_calls.specs.Endings.{shut}
-use Rattle.process_calls.proofs.Shutting.{all_shut, found_shut, light_shut, shut_nodes, shut_other, shut_pid}
+use Rattle.process_calls.specs.Endings.{shut, silent}
+use Rattle.process_calls.proofs.Shutting.{all_changing, changing_nodes, changing_other, changing_pid, found_changing, light_closed}
+
+-- the process of that pid has nothing open any more
+abbrev pub closed_at : ℕ → Proc → Proc
+closed_at pid proc = cond (proc.pid == pid) (closed_all proc) proc
+
+closed_pid : (pid : ℕ) (proc : Proc) → (closed_at pid proc).pid ≡ proc.pid
+closed_pid pid proc = changing_pid closed_all (λ p. refl) (λ p. refl) pid proc
+
+closed_nodes : (pid : ℕ) (proc : Proc) → (closed_at pid proc).nodes ≡ proc.nodes
+closed_nodes pid proc = changing_nodes closed_all (λ p. refl) (λ p. refl) pid proc
+
+all_closed : (P : Proc → Type 0) (pid : ℕ) (procs : List Proc) → ((proc : Proc) → P proc → P (closed_all proc)) → AllByRecursion P procs → AllByRecursion P (map (closed_at pid) procs)
+all_closed P pid procs lasts all = all_changing closed_all (λ p. refl) (λ p. refl) P pid procs lasts all
 
 -- ---- the table
 
 module _ (old new : Heap) (kept : TableView) (pid : ℕ) (holds : Holds old kept) (closes : ClosesEach old new kept pid) where
   abbrev becomes : Proc → Option Proc
-  becomes proc = Some (shut pid proc)
+  becomes proc = Some (closed_at pid proc)
 
   abbrev was : Proc
   was = closes.changes.proc
@@ -62,14 +78,14 @@ module _ (old new : Heap) (kept : TableView) (pid : ℕ) (holds : Holds old kept
   follows : Follows becomes old.procs new.procs kept.listed
   follows = subst (λ procs. Follows becomes old.procs procs kept.listed) (sym empties)
       (follows_one becomes old.procs at pid was (Some (closed_all was)) kept.listed 0 kept.last
-      (λ proc apart. ap Some (shut_other pid proc apart)) closes.changes.there
+      (λ proc apart. ap Some (changing_other closed_all (λ p. refl) (λ p. refl) pid proc apart)) closes.changes.there
       (ap (λ b. Some (cond b (closed_all was) was)) (eqb_same was.pid pid has_pid)) holds.stored holds.rising closes.changes.named)
 
-  pub shut_procs : processes new kept ≡ map (shut pid) (processes old kept)
+  pub shut_procs : processes new kept ≡ map (closed_at pid) (processes old kept)
   shut_procs =
-      ap (procs_at new.procs) (sym (all_kept (shut pid) old.procs kept.listed holds.stored))
+      ap (procs_at new.procs) (sym (all_kept (closed_at pid) old.procs kept.listed holds.stored))
       ∙ follows_procs becomes old.procs new.procs kept.listed holds.stored follows
-      ∙ all_changed (shut pid) (processes old kept)
+      ∙ all_changed (closed_at pid) (processes old kept)
 
   same_nodes : new.nodes ≡ old.nodes
   same_nodes = ap (λ (h : Heap). h.nodes) closes.changes.beside
@@ -81,9 +97,9 @@ module _ (old new : Heap) (kept : TableView) (pid : ℕ) (holds : Holds old kept
   pub shut_table : (table : Table) → IsTable old kept table → IsTable new kept table
   shut_table table is = record {
     present = subst (AreFrom new 1 table) (sym shut_procs)
-        (changed_table is.present new (shut pid)
-        (all_by (λ proc. (process_of new (shut pid proc) ≡ process_of old proc) × ((shut pid proc).pid ≡ proc.pid)) (processes old kept)
-        (λ proc. (by_pid proc (proc.pid == pid), shut_pid pid proc))));
+        (changed_table is.present new (closed_at pid)
+        (all_by (λ proc. (process_of new (closed_at pid proc) ≡ process_of old proc) × ((closed_at pid proc).pid ≡ proc.pid)) (processes old kept)
+        (λ proc. (by_pid proc (proc.pid == pid), closed_pid pid proc))));
     made = is.made;
   }
     where
@@ -94,8 +110,8 @@ module _ (old new : Heap) (kept : TableView) (pid : ℕ) (holds : Holds old kept
       by_pid proc true = in_heap proc
       by_pid proc false = in_heap proc
 
-  becomes_it : (proc now : Proc) → becomes proc ≡ Some now → now ≡ shut pid proc
-  becomes_it proc now is = some_same (Some now) now (shut pid proc) refl (sym is)
+  becomes_it : (proc now : Proc) → becomes proc ≡ Some now → now ≡ closed_at pid proc
+  becomes_it proc now is = some_same (Some now) now (closed_at pid proc) refl (sym is)
 
   never : {X : Type 0} (proc : Proc) → Some proc ≡ None → X
   never proc e = cc
@@ -104,11 +120,11 @@ module _ (old new : Heap) (kept : TableView) (pid : ℕ) (holds : Holds old kept
   pub shut_account : (frames : Frames) → HasAccount old kept frames → HasAccount new kept frames
   shut_account frames has =
       becomes_account (λ (proc : Proc). Unit {0}) becomes old new kept kept frames
-      (λ proc now is. ap (λ (p : Proc). p.pid) (becomes_it proc now is) ∙ shut_pid pid proc)
-      (λ proc now its is. ap (λ (p : Proc). p.nodes) (becomes_it proc now is) ∙ shut_nodes pid proc)
-      (λ proc its is. never (shut pid proc) is)
+      (λ proc now is. ap (λ (p : Proc). p.pid) (becomes_it proc now is) ∙ closed_pid pid proc)
+      (λ proc now its is. ap (λ (p : Proc). p.nodes) (becomes_it proc now is) ∙ closed_nodes pid proc)
+      (λ proc its is. never (closed_at pid proc) is)
       (all_by (λ (proc : Proc). Unit {0}) (processes old kept) (λ proc. tt))
-      (shut_procs ∙ sym (all_changed (shut pid) (processes old kept))) refl same_nodes same_pages has
+      (shut_procs ∙ sym (all_changed (closed_at pid) (processes old kept))) refl same_nodes same_pages has
 
   -- the table holds
   pub shut_holds : AreListed new kept → OwnsItsObjects new → Holds new kept
@@ -117,15 +133,15 @@ module _ (old new : Heap) (kept : TableView) (pid : ℕ) (holds : Holds old kept
       record {
         stored = listed.stored;
         rising = listed.rising;
-        light = subst (AllByRecursion IsLight) (sym shut_procs) (all_shut IsLight pid (processes old kept) light_shut holds.light);
+        light = subst (AllByRecursion IsLight) (sym shut_procs) (all_closed IsLight pid (processes old kept) light_closed holds.light);
         owned = (record { spaces = []; queues = by.queues }, by.owned);
       }
 
 -- who closes is alive still
-pub alive_shut : (procs now : List Proc) (pid : ℕ) → now ≡ map (shut pid) procs → IsAlive procs pid → IsAlive now pid
+pub alive_shut : (procs now : List Proc) (pid : ℕ) → now ≡ map (closed_at pid) procs → IsAlive procs pid → IsAlive now pid
 alive_shut procs now pid is alive = record {
-  proc = shut pid alive.proc;
-  there = ap (λ all. proc_of all pid) is ∙ found_shut pid procs pid ∙ ap (option_map (shut pid)) alive.there;
+  proc = closed_at pid alive.proc;
+  there = ap (λ all. proc_of all pid) is ∙ found_changing closed_all (λ p. refl) (λ p. refl) pid procs pid ∙ ap (option_map (closed_at pid)) alive.there;
   runs = by_pid (alive.proc.pid == pid) ∙ alive.runs;
 }
   where
@@ -133,28 +149,50 @@ alive_shut procs now pid is alive = record {
     by_pid true = refl
     by_pid false = refl
 
--- the objects with another heap, another tree and other names
-abbrev pub with_heap : Objects → Heap → TreeView → List (Option ℕ) → Objects
-with_heap old heap tree names = record { heap = heap; procs = old.procs; tree = tree; names = names }
+-- the objects with another heap, another tree, other names and another chain of FIFOs' pipes
+abbrev pub with_heap : Objects → Heap → TreeView → List (Option ℕ) → Option ℕ → Objects
+with_heap old heap tree names first = record { heap = heap; procs = old.procs; tree = tree; names = names; fifos = first }
 
 -- What the objects keep they keep.
-pub kept_shut : (script : Script) (old : Objects) (heap : Heap) (tree : TreeView) (names : List (Option ℕ)) (pid : ℕ) → AreKept script old → ClosesEach old.heap heap old.procs pid
-    → AreListed heap old.procs → HasItsOwners heap [] → AreBound (name_of heap.socks) names → length names ≡ length old.names → KeepsTree heap tree
-    → AreKept script (with_heap old heap tree names)
-kept_shut script old heap tree names pid kept closes listed owners bound long caches = record {
+pub kept_shut : (script : Script) (old : Objects) (heap : Heap) (tree : TreeView) (names : List (Option ℕ)) (first : Option ℕ) (pid : ℕ) → AreKept script old → ClosesEach old.heap heap old.procs pid
+    → AreListed heap old.procs → HasItsOwners heap [] → AreBound (name_of heap.socks) names → length names ≡ length old.names → IsChain heap first → KeepsTree heap tree
+    → AreKept script (with_heap old heap tree names first)
+kept_shut script old heap tree names first pid kept closes listed owners bound long chain caches = record {
   holds = shut_holds old.heap heap old.procs pid kept.holds closes listed owners.objects;
   all = listed.all;
   leaves = listed.leaves;
   owners = owners;
-  groups = subst (AllByRecursion (λ proc. length proc.nodes ≡ 4)) (sym is) (all_shut (λ proc. length proc.nodes ≡ 4) pid (procs_of old) (λ proc four. four) kept.groups);
+  groups = subst (AllByRecursion (λ proc. length proc.nodes ≡ 4)) (sym is) (all_closed (λ proc. length proc.nodes ≡ 4) pid (procs_of old) (λ proc four. four) kept.groups);
   calls = subst (AreAtCalls script) (sym is)
-      (all_shut (λ proc. proc.status ≡ None → IsAtCall script proc) pid (procs_of old)
+      (all_closed (λ proc. proc.status ≡ None → IsAtCall script proc) pid (procs_of old)
       (λ proc at up. let here : IsAtCall script proc = at up in record { stands = here.stands; rests = here.rests }) kept.calls);
   bound = bound;
   places = subst (λ n. most_nodes < n) (sym long) kept.places;
+  chain = chain;
   caches = caches;
   size = ap (λ (h : Heap). h.heap) closes.changes.beside ∙ kept.size;
 }
   where
-    is : processes heap old.procs ≡ map (shut pid) (procs_of old)
+    is : processes heap old.procs ≡ map (closed_at pid) (procs_of old)
     is = shut_procs old.heap heap old.procs pid kept.holds closes
+
+-- ---- and then sleeps in no open
+
+-- a process that has closed all, and sleeps in none then, is silent
+pub silent_then : (pid : ℕ) (was : Proc) (procs : List Proc) → AllByRecursion (λ p. p.pid ≡ pid → p ≡ was) procs
+    → map (replaced pid (silent was)) (map (closed_at pid) procs) ≡ map (shut pid) procs
+silent_then pid was [] only = refl
+silent_then pid was (proc ∷ procs) only =
+    ap (λ p. p ∷ map (replaced pid (silent was)) (map (closed_at pid) procs)) (by_pid (eqb_tells proc.pid pid))
+    ∙ ap (λ rest. shut pid proc ∷ rest) (silent_then pid was procs only.1)
+  where
+    by_pid : (((proc.pid == pid) ≡ true) × (proc.pid ≡ pid)) ⊎ (((proc.pid == pid) ≡ false) × (proc.pid ≢ pid)) → replaced pid (silent was) (closed_at pid proc) ≡ shut pid proc
+    by_pid (inl own) =
+        ap (λ n. cond (n == pid) (silent was) (closed_at pid proc)) (closed_pid pid proc)
+        ∙ ap (λ b. cond b (silent was) (closed_at pid proc)) own.0
+        ∙ ap silent (sym (only.0 own.1))
+        ∙ sym (ap (λ b. cond b (silent proc) proc) own.0)
+    by_pid (inr other) =
+        ap (λ n. cond (n == pid) (silent was) (closed_at pid proc)) (closed_pid pid proc)
+        ∙ ap (λ b. cond b (silent was) (cond b (closed_all proc) proc)) other.0
+        ∙ sym (ap (λ b. cond b (silent proc) proc) other.0)

@@ -31,7 +31,7 @@ use Rattle.posix_defs.specs.declared.turner.Turned.TheVariants.{Done}
 use Rattle.prog_ctl.specs.Runnable.{Rests, Stands}
 use Rattle.memfs_ops.specs.FileTree.{Stands as TreeStands}
 use Rattle.proc_files.specs.Holders.{holders, openings, times}
-use Rattle.proc_files.proofs.Openings.{same_nodes}
+use Rattle.proc_files.proofs.Openings.{all_same, same_nodes}
 use Rattle.proc_table.specs.Accounting.{HasAccount}
 use Rattle.proc_table.specs.Changes.{child_proc, forked_as, is_full_at, replaced}
 use Rattle.open_laws.specs.Sharing.{after_shares, share_all}
@@ -155,7 +155,7 @@ forked_world script world pid = record world { plain = with_child script world.p
 
 -- The table has made a child.
 module _ (script : Script) (old mid : Objects) (pid child : ℕ) (control : Control) (kept : AreKept script old) (runs : Runs old pid control)
-    (moves : TableMoves (sharing old.heap mid.heap) old.procs mid.heap mid.procs) (tree : mid.tree ≡ old.tree) (names : mid.names ≡ old.names) (shared : HasShared old mid runs.proc)
+    (moves : TableMoves (sharing old.heap mid.heap) old.procs mid.heap mid.procs) (tree : mid.tree ≡ old.tree) (names : mid.names ≡ old.names) (fifos : mid.fifos ≡ old.fifos) (shared : HasShared old mid runs.proc)
     (forked : IsForked old.heap old.procs mid.heap mid.procs pid child) (copies : HasCopies old.heap mid.heap forked.parent (child_proc forked.parent child forked.nodes forked.leaves)) where
   same_parent : forked.parent ≡ runs.proc
   same_parent = some_same (proc_of (procs_of old) pid) forked.parent runs.proc forked.parent_is runs.found
@@ -169,7 +169,7 @@ module _ (script : Script) (old mid : Objects) (pid child : ℕ) (control : Cont
 
   pub kept_forked : AreKept script mid
   kept_forked =
-      kept_with script (sharing old.heap mid.heap) old.procs old.tree old.names mid (keeps_shared script old mid kept) tree names moves leaves_forked
+      kept_with script (sharing old.heap mid.heap) old.procs old.tree old.names old.fifos mid (keeps_shared script old mid kept) tree names fifos moves leaves_forked
       (owners_shared script old mid runs.proc (child_proc forked.parent child forked.nodes forked.leaves) kept shared
       (subst (λ (p : Proc). HasCopies old.heap mid.heap p (child_proc forked.parent child forked.nodes forked.leaves)) same_parent copies) leaves_forked moves)
       (subst (AllByRecursion (λ proc. length proc.nodes ≡ 4)) (sym forked.processes_are)
@@ -193,11 +193,11 @@ module _ (script : Script) (old mid : Objects) (pid child : ℕ) (control : Cont
 
 -- The child goes on at another control.
 module _ (script : Script) (old mid moved : Objects) (pid child : ℕ) (control next : Control) (kept : AreKept script old) (runs : Runs old pid control)
-    (moves : TableMoves (sharing old.heap mid.heap) old.procs mid.heap mid.procs) (tree : mid.tree ≡ old.tree) (names : mid.names ≡ old.names) (shared : HasShared old mid runs.proc)
+    (moves : TableMoves (sharing old.heap mid.heap) old.procs mid.heap mid.procs) (tree : mid.tree ≡ old.tree) (names : mid.names ≡ old.names) (fifos : mid.fifos ≡ old.fifos) (shared : HasShared old mid runs.proc)
     (forked : IsForked old.heap old.procs mid.heap mid.procs pid child) (copies : HasCopies old.heap mid.heap forked.parent (child_proc forked.parent child forked.nodes forked.leaves))
     (number : child ≡ old.procs.last + 1) (turned : MovesOn mid child next moved) where
   pub between : AreKept script mid
-  between = kept_forked script old mid pid child control kept runs moves tree names shared forked copies
+  between = kept_forked script old mid pid child control kept runs moves tree names fifos shared forked copies
 
   abbrev pub now : Proc
   now = record turned.proc { control = next }
@@ -209,7 +209,7 @@ module _ (script : Script) (old mid moved : Objects) (pid child : ℕ) (control 
   own = proc_has_pid (procs_of mid) child turned.proc turned.found
 
   apart : pid ≢ child
-  apart = made_before script old mid pid child control kept runs moves tree names shared forked copies number
+  apart = made_before script old mid pid child control kept runs moves tree names fifos shared forked copies number
 
   pub kept_child : Stands script next → Rests script next → AreKept script moved
   kept_child stands rests = kept_moved script mid moved child next between turned stands rests
@@ -365,7 +365,7 @@ module _ (script : Script) (old mid moved pinned : Objects) (pid child directory
         let more : entered_pins (others_by (procs_of old)) directory n ≡ others_by (procs_of pinned) n =
         ap (λ d. entered_pins (others_by (procs_of old)) d n) (sym works_there) ∙ entered_by_one (procs_of old) heir runs_there n
         ∙ ap (λ nodes. count n (root ∷ but_root nodes)) (sym directories) in
-        let opened : openings (with_heir files pid) n ≡ openings files n = ap (times n) (same_nodes (with_heir files pid) files files.descriptions) in
+        let opened : openings (with_heir files pid) n ≡ openings files n = ap (times n) (same_nodes (with_heir files pid) files files.descriptions (all_same (with_heir files pid) files files.descriptions refl)) in
         omega (arith, all, more, opened)
 
     tree_forked : (next : Plain) → next.files ≡ with_heir files pid → IsTable pinned.heap pinned.procs next.table → TreeStands pinned.heap pinned.tree tree (pins_in next)

@@ -1,5 +1,5 @@
 -- Processes that end one after another.
-use Rattle.std.specs.Prelude.{ℕ, ◌≡◌, ◌==◌, ◌<◌, false, if◌then◌else◌, List, [], ◌∷◌, count_by}
+use Rattle.std.specs.Prelude.{ℕ, ◌≡◌, ◌==◌, ◌<◌, false, if◌then◌else◌, List, [], ◌∷◌, None, count_by}
 use Rattle.kheap_slabs.specs.declared.objects.Proc.{Proc}
 use Rattle.open_laws.specs.Placed.{Numbers}
 use Rattle.posix_defs.specs.Files.State.{Files}
@@ -18,9 +18,13 @@ pub record IsLowestBehind (procs : List Proc) (pid found : ℕ) : Type 0 where
   pub alive : IsAlive procs found
   pub lowest : (q : ℕ) → pid < q → q < found → is_running procs q ≡ false
 
--- the process of that pid has nothing open any more
+-- a process that has nothing open any more, and sleeps in no open
+abbrev pub silent : Proc → Proc
+silent proc = record (closed_all proc) { opening = None }
+
+-- the process of that pid is so
 abbrev pub shut : ℕ → Proc → Proc
-shut pid proc = if proc.pid == pid then closed_all proc else proc
+shut pid proc = if proc.pid == pid then silent proc else proc
 
 -- the account after these processes have lost their memory in turn
 abbrev pub cleared_in_turn : Frames → List ℕ → Frames

@@ -62,7 +62,7 @@ module _ (script : Script) (objects : Objects) (heap : Heap) (pid : ℕ) (contro
   mid = record { heap = heap; procs = objects.procs; tree = objects.tree; names = objects.names; fifos = objects.fifos }
 
   moves : OpenMoves objects mid
-  moves = moves_opened objects mid pid kept.holds refl refl refl (alive_who_runs objects pid control runs) changes listed owners names
+  moves = moves_opened objects mid pid kept.holds refl refl refl refl kept.chain (alive_who_runs objects pid control runs) changes listed owners names
 
   pub kept_then : AreKept script mid
   kept_then = kept_opened script objects mid kept moves

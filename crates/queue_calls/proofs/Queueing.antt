@@ -4,16 +4,17 @@ use Rattle.std.specs.List.{AllByRecursion}
 use Rattle.std.specs.Prelude.{IsSome}
 use Rattle.kabi_types.specs.declared.scripts.Control.{Control}
 use Rattle.kabi_types.specs.declared.scripts.Script.{Script}
+use Rattle.fifo_nodes.proofs.ChainLemmas.{chain_kept}
 use Rattle.kheap_slabs.specs.declared.objects.Proc.{Proc}
 use Rattle.kheap_slabs.specs.Heap.{Heap}
+use Rattle.pipe_ends.specs.Links.{KeepsLinks}
 use Rattle.posix_defs.specs.Account.{Account}
 use Rattle.posix_defs.specs.ByPid.{at_pid}
 use Rattle.posix_defs.specs.Calls.Opened.{opened_at}
 use Rattle.posix_defs.specs.Control.{settled}
 use Rattle.posix_defs.specs.Plain.{Plain, at_start}
-use Rattle.posix_defs.specs.Reaching.{is_on_node}
 use Rattle.posix_defs.specs.World.{World}
-use Rattle.proc_numbers.specs.Found.{IsOffNodes}
+use Rattle.proc_numbers.specs.Found.{IsOffNodes, is_in_tree}
 use Rattle.proc_files.specs.Names.{name_of}
 use Rattle.proc_files.proofs.Bindings.{bound_on}
 use Rattle.proc_numbers.specs.Standing.{IsKept, StandsFor as QueuesStandFor}
@@ -45,7 +46,7 @@ has_key script objects pid kept alive = alive_listed objects.heap objects.procs 
 
 -- what a number is open on is no node of the machine either
 pub off_world : (script : Script) (objects : Objects) (world : World) (pid : ℕ) (fd : ℤ) → StandsFor script objects world → IsOffNodes objects.heap objects.procs pid fd
-    → is_on_node world.plain.files (opened_at world.plain.files pid fd) ≡ false
+    → is_in_tree (opened_at world.plain.files pid fd) ≡ false
 off_world script objects world pid fd stands off =
     off_in stands.files.numbers objects.heap objects.procs world.plain.files pid fd (listed_in script objects stands.kept) stands.kept.owners stands.files.opened off
 
@@ -61,30 +62,33 @@ queues_stand script objects world stands = record {
 
 -- ---- what they leave
 
--- A heap but for descriptions, nodes, pages, pipes, sockets, chunks, and how high it was.
+-- A heap but for descriptions, nodes, pages, pipes, sockets, chunks, and how high it was; the pipes of FIFOs stand as they stood.
 pub record LeavesRest (old new : Heap) : Type 0 where
   pub procs : new.procs ≡ old.procs
   pub vnodes : new.vnodes ≡ old.vnodes
   pub names : new.names ≡ old.names
   pub blocks : new.blocks ≡ old.blocks
   pub size : new.heap ≡ old.heap
+  pub links : KeepsLinks old new
 
-pub leaves_rest : (old new : Heap) → new ≡ record old { nodes = new.nodes; pages = new.pages; pipes = new.pipes; chunks = new.chunks; socks = new.socks; high = new.high } → LeavesRest old new
-leaves_rest old new beside = record {
+pub leaves_rest : (old new : Heap) → new ≡ record old { nodes = new.nodes; pages = new.pages; pipes = new.pipes; chunks = new.chunks; socks = new.socks; high = new.high } → KeepsLinks old new → LeavesRest old new
+leaves_rest old new beside links = record {
   procs = ap (λ (h : Heap). h.procs) beside;
   vnodes = ap (λ (h : Heap). h.vnodes) beside;
   names = ap (λ (h : Heap). h.names) beside;
   blocks = ap (λ (h : Heap). h.blocks) beside;
   size = ap (λ (h : Heap). h.heap) beside;
+  links = links;
 }
 
-pub leaves_more : (old new : Heap) → new ≡ record old { pipes = new.pipes; chunks = new.chunks; socks = new.socks; high = new.high } → LeavesRest old new
-leaves_more old new beside = record {
+pub leaves_more : (old new : Heap) → new ≡ record old { pipes = new.pipes; chunks = new.chunks; socks = new.socks; high = new.high } → KeepsLinks old new → LeavesRest old new
+leaves_more old new beside links = record {
   procs = ap (λ (h : Heap). h.procs) beside;
   vnodes = ap (λ (h : Heap). h.vnodes) beside;
   names = ap (λ (h : Heap). h.names) beside;
   blocks = ap (λ (h : Heap). h.blocks) beside;
   size = ap (λ (h : Heap). h.heap) beside;
+  links = links;
 }
 
 module _ (script : Script) (old : Objects) (new : Heap) (is : IsKept new old.procs) (rest : LeavesRest old.heap new) (names : (key : ℕ) → name_of new.socks key ≡ name_of old.heap.socks key) where
@@ -105,6 +109,7 @@ module _ (script : Script) (old : Objects) (new : Heap) (is : IsKept new old.pro
     calls = subst (λ (procs : List (Option Proc)). AreAtCalls script (procs_at procs old.procs.listed)) (sym rest.procs) kept.calls;
     bound = bound_on (name_of old.heap.socks) (name_of new.socks) old.names kept.bound names;
     places = kept.places;
+    chain = chain_kept old.heap new old.fifos rest.links kept.chain;
     caches = caches_on old.heap new old.tree old.tree refl caches kept.caches;
     size = rest.size ∙ kept.size;
   }

@@ -1,6 +1,7 @@
 -- What an answer of a call that goes by what is open leaves of the machine, where that is no node.
-use Rattle.std.proofs.Common.{◌≡◌, ℕ, ◌+◌, ◌-◌, ◌≤◌, ◌++◌, ◌==◌, ◌&&◌, ℤ, pos, Bool, true, false, cond, List, drop, take, Option, None, Some, is_some, refl, ap, sym, ◌∙◌, arith, inl, inr}
-use Rattle.std.specs.Prelude.{nat_le}
+use Rattle.std.proofs.Common.{◌≡◌, ℕ, zero, suc, ◌+◌, ◌-◌, ◌≤◌, ◌++◌, ◌==◌, ◌&&◌, ℤ, pos, Bool, true, false, cond, List, [], ◌∷◌, drop, take, Option, None, Some, is_some, unwrap_or, refl, ap, sym, ◌∙◌, arith, inl, inr}
+use Rattle.std.specs.Prelude.{nat_le, slice_index_or, slice_set}
+use Rattle.std.specs.Option.{option_and_then}
 use Rattle.std.proofs.lemmas.Bool.Decides.{eqb_tells, leb_tells}
 use Rattle.kabi_types.specs.Arguments.{count_of, is_minus_one}
 use Rattle.kabi_types.specs.declared.errnos.Errno.TheVariants.{EAGAIN, EBADF, EFAULT, EISDIR, ENOTCONN, EPIPE}
@@ -18,10 +19,11 @@ use Rattle.posix_defs.specs.Family.{IsFamily}
 use Rattle.posix_defs.specs.Files.Descriptions.{Target, OnNode, OnPipe, OnSocket, may_read, may_write}
 use Rattle.posix_defs.specs.Files.State.{Files, node_of, pipe_at, with_pipe, with_sockets}
 use Rattle.posix_defs.specs.Memory.{Memory, is_mapped_range, stored}
-use Rattle.posix_defs.specs.Pipe.{Moving, Moves, Blocks, Fails, Pipe, after_read, after_write, free_in, not_now, pipe_read, pipe_write, whole}
+use Rattle.posix_defs.specs.Pipe.{Moving, Moves, Blocks, Fails, Pipe, after_read, after_write, fifo_of, free_in, new_pipe, not_now, pipe_read, pipe_write, whole}
 use Rattle.posix_defs.specs.Plain.{Plain, with_files}
 use Rattle.posix_defs.specs.Process.{memory_of}
-use Rattle.posix_defs.specs.Reaching.{is_on_node}
+use Rattle.proc_files.proofs.Openings.{same_nodes}
+use Rattle.proc_numbers.specs.Found.{is_in_tree, number_in}
 use Rattle.posix_defs.specs.Socket.{Stage, Idle, Listening, Connected, is_connected, is_shut_read, peer_of}
 use Rattle.posix_defs.specs.Sockets.{Sockets, after_read as socket_after_read, after_write as socket_after_write, free_at, sent_to, sock_read, sock_write, socket_at, stage_at, write_in_stage, write_to, write_within}
 use Rattle.posix_defs.specs.World.{directories_of}
@@ -114,6 +116,24 @@ socket_within sockets place nonblock m k = by_stage (stage_at sockets place)
     by_stage (Listening waiting) e = cc
     by_stage (Connected peer shut_read shut_write) e = by_shut shut_write peer e
 
+-- a pipe that becomes another of the same FIFO, or of none, leaves which node each target has
+fifo_kept : (o : Option Pipe) (pipe : Pipe) → pipe.node ≡ (unwrap_or o new_pipe).node → option_and_then fifo_of (Some pipe) ≡ option_and_then fifo_of o
+fifo_kept None pipe same = ap (λ n. cond (n == 0) None (Some n)) same
+fifo_kept (Some was) pipe same = ap (λ n. cond (n == 0) None (Some n)) same
+
+set_fifo : (pipes : List (Option Pipe)) (place : ℕ) (pipe : Pipe) → pipe.node ≡ (unwrap_or (slice_index_or pipes place None) new_pipe).node → (at : ℕ)
+    → option_and_then fifo_of (slice_index_or (slice_set pipes place (Some pipe)) at None) ≡ option_and_then fifo_of (slice_index_or pipes at None)
+set_fifo [] place pipe same at = refl
+set_fifo (first ∷ pipes) zero pipe same zero = fifo_kept first pipe same
+set_fifo (first ∷ pipes) zero pipe same (suc at) = refl
+set_fifo (first ∷ pipes) (suc place) pipe same zero = refl
+set_fifo (first ∷ pipes) (suc place) pipe same (suc at) = set_fifo pipes place pipe same at
+
+repiped : (files : Files) (place : ℕ) (pipe : Pipe) → pipe.node ≡ (pipe_at files place).node → (what : Target) → node_of (with_pipe files place (Some pipe)) what ≡ node_of files what
+repiped files place pipe same (OnNode number) = refl
+repiped files place pipe same (OnPipe at) = set_fifo files.pipes place pipe same at
+repiped files place pipe same (OnSocket sock) = refl
+
 module _ (Parts : ℕ → Type 0) (script : Script) (plain : Plain) (pid : ℕ) where
   abbrev Left : Answer → Type 0
   Left answer = Leaves Parts plain answer
@@ -140,13 +160,17 @@ module _ (Parts : ℕ → Type 0) (script : Script) (plain : Plain) (pid : ℕ) 
       }
 
   -- a pipe with other bytes leaves them
-  in_pipe : (place : ℕ) (pipe : Pipe) → LeavesNodes plain.files (with_pipe plain.files place (Some pipe))
-  in_pipe place pipe = record { tree = refl; opens = same_opened plain.files (with_pipe plain.files place (Some pipe)) refl; names = λ at. refl }
+  in_pipe : (place : ℕ) (pipe : Pipe) → pipe.node ≡ (pipe_at plain.files place).node → LeavesNodes plain.files (with_pipe plain.files place (Some pipe))
+  in_pipe place pipe same = record {
+    tree = refl;
+    opens = same_nodes (with_pipe plain.files place (Some pipe)) plain.files plain.files.descriptions (λ at d there. repiped plain.files place pipe same d.target);
+    names = λ at. refl;
+  }
 
   -- and so do sockets with other bytes
   in_sockets : (sockets : Sockets) → ((place : ℕ) → (socket_at sockets place).node ≡ (socket_at plain.files.sockets place).node)
       → LeavesNodes plain.files (with_sockets plain.files sockets)
-  in_sockets sockets named = record { tree = refl; opens = same_opened plain.files (with_sockets plain.files sockets) refl; names = named }
+  in_sockets sockets named = record { tree = refl; opens = same_opened plain.files (with_sockets plain.files sockets) refl refl; names = named }
 
   read_named : (place k at : ℕ) → (socket_at (socket_after_read plain.files.sockets place k) at).node ≡ (socket_at plain.files.sockets at).node
   read_named place k at =
@@ -165,12 +189,12 @@ module _ (Parts : ℕ → Type 0) (script : Script) (plain : Plain) (pid : ℕ) 
       let revents = revents_of plain.files pid entries in
       choose ((hits_of revents == 0) && is_minus_one timeout) Blocked _ tt (tells (Polled (record { hits = hits_of revents; revents = revents })))
 
-  module _ (fd : ℤ) (off : is_on_node plain.files (opened_at plain.files pid fd) ≡ false) where
+  module _ (fd : ℤ) (off : is_in_tree (opened_at plain.files pid fd) ≡ false) where
     -- what is open is open on a pipe or a socket
     on_queue : (opened : Opened) (on : Target) (X : Target → Type 0) → opened_at plain.files pid fd ≡ Some opened → opened.is.target ≡ on
         → ((place : ℕ) → X (OnPipe place)) → ((place : ℕ) → X (OnSocket place)) → X on
     on_queue opened (OnNode number) X is at by_pipe by_socket =
-        absurd (let both : true ≡ false = sym (ap (is_on_node plain.files) is ∙ ap (λ what. is_some (node_of plain.files what)) at) ∙ off in cc)
+        absurd (let both : true ≡ false = sym (ap is_in_tree is ∙ ap (λ what. is_some (number_in what)) at) ∙ off in cc)
     on_queue opened (OnPipe place) X is at by_pipe by_socket = by_pipe place
     on_queue opened (OnSocket place) X is at by_pipe by_socket = by_socket place
 
@@ -179,7 +203,7 @@ module _ (Parts : ℕ → Type 0) (script : Script) (plain : Plain) (pid : ℕ) 
     from_pipe : (place : ℕ) (addr : ℤ) (moving : Moving) → Left (read_from_pipe script plain pid place addr moving)
     from_pipe place addr (Moves k) =
         let pipe = pipe_at plain.files place in
-        puts (with_pipe plain.files place (Some (after_read pipe k))) addr (take k pipe.bytes) (in_pipe place (after_read pipe k))
+        puts (with_pipe plain.files place (Some (after_read pipe k))) addr (take k pipe.bytes) (in_pipe place (after_read pipe k) refl)
     from_pipe place addr Blocks = tt
     from_pipe place addr (Fails errno) = tells (Fail errno)
 
@@ -232,7 +256,7 @@ module _ (Parts : ℕ → Type 0) (script : Script) (plain : Plain) (pid : ℕ) 
         → (moving : Moving) → pipe_write (pipe_at plain.files place) nonblock n (n - done) ≡ moving
         → Left (write_queue script plain pid nonblock n done (put_in_pipe plain.files place bytes) moving)
     to_pipe place n done nonblock bytes parts (Moves k) is =
-        put_k (put_in_pipe plain.files place bytes k) n done k nonblock (in_pipe place (after_write (pipe_at plain.files place) bytes k)) parts (pipe_within (pipe_at plain.files place) nonblock n (n - done) k is) (k == n - done) refl
+        put_k (put_in_pipe plain.files place bytes k) n done k nonblock (in_pipe place (after_write (pipe_at plain.files place) bytes k) refl) parts (pipe_within (pipe_at plain.files place) nonblock n (n - done) k is) (k == n - done) refl
     to_pipe place n done nonblock bytes parts Blocks is = tt
     to_pipe place n done nonblock bytes parts (Fails errno) is = choose (done == 0) _ _ (tells (Fail errno)) (tells (Val (pos done)))
 

@@ -10,7 +10,7 @@ use Rattle.posix_defs.specs.Files.Descriptions.{OnPipe, ReadOnly, WriteOnly, des
 use Rattle.posix_defs.specs.Files.Descriptors.{Two, descriptor_at, descriptor_of, lowest_free, lowest_free_from, two_lowest_free}
 use Rattle.posix_defs.specs.Files.State.{described_as, descriptors_of, with_open}
 use Rattle.posix_defs.specs.Plain.{Plain}
-use Rattle.proc_files.proofs.Openings.{nodes_set}
+use Rattle.proc_files.proofs.Openings.{all_same, nodes_set}
 use Rattle.store_objects.proofs.Leaving.{LeavesNodes, files_in, nodes_behind, opened_there, same_opened}
 
 -- what an answer leads to leaves the nodes
@@ -33,7 +33,7 @@ module _ (script : Script) (plain : Plain) (pid : ℕ) where
 
   duplicated_stay : (opened : Opened) (o : Option ℕ) → Stay plain (duplicated script plain pid opened o)
   duplicated_stay opened None = nothing
-  duplicated_stay opened (Some fd) = record { tree = refl; opens = same_opened plain.files (shared_at plain.files pid opened fd) refl; names = λ place. refl }
+  duplicated_stay opened (Some fd) = record { tree = refl; opens = same_opened plain.files (shared_at plain.files pid opened fd) refl refl; names = λ place. refl }
 
   pub dup_stay : (fd : ℤ) → Stay plain (dup script plain pid fd)
   unfolding dup
@@ -48,7 +48,7 @@ module _ (script : Script) (plain : Plain) (pid : ℕ) where
     tree = refl;
     opens =
         let now = cloexec_set (has_flag arg 1) (descriptor_at (descriptors_of plain.files pid) fd) in
-        same_opened plain.files (with_open plain.files pid fd now) refl;
+        same_opened plain.files (with_open plain.files pid fd now) refl refl;
     names = λ place. refl;
   }
   controlled_stay fd (suc (suc (suc zero))) arg opened there = nothing
@@ -56,7 +56,8 @@ module _ (script : Script) (plain : Plain) (pid : ℕ) where
     tree = refl;
     opens =
         let now = with_status opened.is arg in
-        nodes_set (described_as plain.files opened.place now) plain.files plain.files.descriptions opened.place opened.is now there refl;
+        nodes_set (described_as plain.files opened.place now) plain.files plain.files.descriptions opened.place opened.is now
+        (all_same (described_as plain.files opened.place now) plain.files plain.files.descriptions refl) there refl;
     names = λ place. refl;
   }
   controlled_stay fd (suc (suc (suc (suc (suc n))))) arg opened there = nothing

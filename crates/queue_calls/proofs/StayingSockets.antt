@@ -2,6 +2,7 @@
 use Rattle.std.proofs.Common.{◌≡◌, ◌++◌, ℕ, ℤ, ◌+◌, [], ◌∷◌, length, Option, None, Some, is_some, refl, ◌∙◌}
 use Rattle.kabi_types.specs.declared.errnos.Errno.{Errno}
 use Rattle.kabi_types.specs.declared.scripts.Script.{Script}
+use Rattle.proc_files.proofs.Openings.{all_same}
 use Rattle.store_objects.proofs.Leaving.{new_named, nodes_behind, pair_named, same_named, same_opened}
 use Rattle.queue_calls.proofs.Staying.{Stay, on_opened}
 use Rattle.posix_defs.specs.Answer.{Answer}
@@ -24,7 +25,8 @@ module _ (script : Script) (plain : Plain) (pid : ℕ) where
       by_free None = record { tree = refl; opens = refl; names = λ place. refl }
       by_free (Some fd) = record {
         tree = refl;
-        opens = nodes_behind (socketed plain.files pid fd) plain.files plain.files.descriptions (description_of (length plain.files.sockets)) refl;
+        opens = nodes_behind (socketed plain.files pid fd) plain.files plain.files.descriptions (description_of (length plain.files.sockets)) refl
+            (all_same (socketed plain.files pid fd) plain.files plain.files.descriptions refl);
         names = new_named plain.files.sockets;
       }
 
@@ -41,7 +43,8 @@ module _ (script : Script) (plain : Plain) (pid : ℕ) where
             let files = paired plain.files pid two in
             let one = description_of (length plain.files.sockets) in
             let other = description_of (length plain.files.sockets + 1) in
-            nodes_behind files files (plain.files.descriptions ++ Some one ∷ []) other refl ∙ nodes_behind files plain.files plain.files.descriptions one refl;
+            nodes_behind files files (plain.files.descriptions ++ Some one ∷ []) other refl (λ at d there. refl)
+            ∙ nodes_behind files plain.files plain.files.descriptions one refl (all_same files plain.files plain.files.descriptions refl);
         names = pair_named plain.files.sockets;
       }
 
@@ -57,7 +60,7 @@ module _ (script : Script) (plain : Plain) (pid : ℕ) where
   -- and has its faults, or leaves other sockets with the same names
   by_fault : (fault : Option Errno) (sockets : Sockets) → ((place : ℕ) → (socket_at sockets place).node ≡ (socket_at plain.files.sockets place).node)
       → Stay plain (unless_fault script plain pid fault (resocketed script plain pid sockets))
-  by_fault None sockets named = record { tree = refl; opens = same_opened plain.files (with_sockets plain.files sockets) refl; names = named }
+  by_fault None sockets named = record { tree = refl; opens = same_opened plain.files (with_sockets plain.files sockets) refl refl; names = named }
   by_fault (Some errno) sockets named = record { tree = refl; opens = refl; names = λ place. refl }
 
   pub listen_stays : (fd : ℤ) → Stay plain (listen script plain pid fd)
@@ -90,7 +93,8 @@ module _ (script : Script) (plain : Plain) (pid : ℕ) where
       by_answer listener None (Refuses errno) = same
       by_answer listener (Some fd) (Takes taken) = record {
         tree = refl;
-        opens = nodes_behind (accepted plain.files pid listener fd taken) plain.files plain.files.descriptions (description_of taken) refl;
+        opens = nodes_behind (accepted plain.files pid listener fd taken) plain.files plain.files.descriptions (description_of taken) refl
+            (all_same (accepted plain.files pid listener fd taken) plain.files plain.files.descriptions refl);
         names =
             same_named plain.files.sockets listener
             (record (socket_at plain.files.sockets listener) { stage = without_first (stage_at plain.files.sockets listener) }) refl;

@@ -4,7 +4,7 @@ use Rattle.std.specs.Prelude.{count_by}
 use Rattle.std.proofs.lemmas.List.Sums.{sum_by-cons}
 use Rattle.kabi_types.specs.declared.scripts.Script.{Script}
 use Rattle.kheap_slabs.specs.Heap.{IsWellFormed, live_bytes}
-use Rattle.posix_defs.specs.Files.Descriptions.{Description, Descriptions, OnNode, OnPipe, OnSocket, Target}
+use Rattle.posix_defs.specs.Files.Descriptions.{Description, Descriptions}
 use Rattle.posix_defs.specs.Files.State.{Files, beside, node_of, nodes_among}
 use Rattle.posix_defs.specs.Process.{how_many}
 use Rattle.posix_defs.specs.World.{World, live_of}
@@ -25,7 +25,7 @@ opened_few : (files : Files) (n : ℕ) (descriptions : Descriptions) → count n
 opened_few files n [] = omega arith
 opened_few files n (None ∷ rest) =
     let later = opened_few files n rest in let all = sum_by-cons (λ (o : Option Description). one_if (is_some o)) None rest in omega (arith, later, all)
-opened_few files n (Some description ∷ rest) = by_target description.target (opened_few files n rest)
+opened_few files n (Some description ∷ rest) = by_node (node_of files description.target) (opened_few files n rest)
   where
     some_more : count_by is_some (Some description ∷ rest) ≡ 1 + count_by is_some rest
     some_more = sum_by-cons (λ (o : Option Description). one_if (is_some o)) (Some description) rest
@@ -34,11 +34,10 @@ opened_few files n (Some description ∷ rest) = by_target description.target (o
     at_most true = omega arith
     at_most false = omega arith
 
-    by_target : (on : Target) → count n (nodes_among files rest) ≤ count_by is_some rest → count n (beside (node_of files on) (nodes_among files rest)) ≤ count_by is_some (Some description ∷ rest)
-    by_target (OnNode number) later =
+    by_node : (on : Option ℕ) → count n (nodes_among files rest) ≤ count_by is_some rest → count n (beside on (nodes_among files rest)) ≤ count_by is_some (Some description ∷ rest)
+    by_node (Some number) later =
         let all = whole n number (nodes_among files rest) in let one = at_most (number == n) in let more = some_more in omega (arith, later, all, one, more)
-    by_target (OnPipe place) later = let more = some_more in omega (arith, later, more)
-    by_target (OnSocket place) later = let more = some_more in omega (arith, later, more)
+    by_node None later = let more = some_more in omega (arith, later, more)
 
 module _ (script : Script) (objects : Objects) (world : World) (stands : StandsFor script objects world) (well : IsWellFormed objects.heap) where
   -- a heap has room for so many

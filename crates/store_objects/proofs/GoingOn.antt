@@ -13,7 +13,7 @@ use Rattle.posix_defs.specs.ByPid.{at_pid, with_pid}
 use Rattle.posix_defs.specs.Control.{after, settled}
 use Rattle.posix_defs.specs.Memory.{Frames}
 use Rattle.posix_defs.specs.Plain.{Plain, at_start, control_of, last_pid, with_control}
-use Rattle.posix_defs.specs.Files.State.{Files}
+use Rattle.posix_defs.specs.Files.State.{Files, with_opening}
 use Rattle.posix_defs.specs.World.{World}
 use Rattle.prog_ctl.specs.Runnable.{Rests, Stands}
 use Rattle.proc_table.specs.Changes.{replaced}
@@ -22,7 +22,8 @@ use Rattle.proc_numbers.specs.Having.{HaveDescriptors}
 use Rattle.proc_table.specs.Procs.{numbers_in, proc_of}
 use Rattle.kheap_slabs.specs.Leaves.{HoldLeaves}
 use Rattle.proc_table.proofs.LeafEnds.{hold_turned}
-use Rattle.proc_table.proofs.OpenLemmas.{have_turned}
+use Rattle.proc_table.proofs.OpenLemmas.{have_asleep, have_turned}
+use Rattle.proc_table.specs.Opening.{opening_in}
 use Rattle.proc_table.specs.Accounting.{HasAccount}
 use Rattle.proc_table.specs.Standing.{IsTable}
 use Rattle.proc_table.specs.Table.{TableView, processes}
@@ -145,12 +146,12 @@ module _ (script : Script) (old new : Objects) (pid : ℕ) (change : Proc → Pr
       (by_procs old.heap number (procs_of old) old.procs.last files (rising_in script old kept) have)))
 
   -- or it sleeps in another open
-  pub descriptors_slept : changes.proc.pid ≡ pid → (files : Files) (number : ℕ → ℕ) → HaveDescriptors (numbers_in old.heap) number (procs_of old) old.procs.last files
+  pub descriptors_slept : (files : Files) (number : ℕ → ℕ) → HaveDescriptors (numbers_in old.heap) number (procs_of old) old.procs.last files
       → HaveDescriptors (numbers_in new.heap) number (procs_of new) new.procs.last (with_opening files pid (opening_in became))
-  descriptors_slept own files number have =
+  descriptors_slept files number have =
       subst (λ (procs : TableView). HaveDescriptors (numbers_in new.heap) number (processes new.heap procs) procs.last (with_opening files pid (opening_in became))) (sym changes.same)
       (by_pids new.heap number (processes new.heap old.procs) old.procs.last (with_opening files pid (opening_in became))
-      (have_turned_asleep old.heap new.heap old.procs pid changes.key changes.proc became number files kept.holds changes.turns
+      (have_asleep old.heap new.heap old.procs pid changes.key changes.proc became number files kept.holds changes.turns
       (by_procs old.heap number (procs_of old) old.procs.last files (rising_in script old kept) have)))
 
   pub account_changed : (frames : Frames) → HasAccount old.heap old.procs frames → HasAccount new.heap new.procs frames

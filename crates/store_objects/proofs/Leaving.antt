@@ -9,7 +9,7 @@ use Rattle.posix_defs.specs.Files.Descriptors.{Descriptor}
 use Rattle.posix_defs.specs.Files.State.{Files, beside, node_of, nodes_among, opened_nodes}
 use Rattle.posix_defs.specs.Socket.{Socket, connected_to, new_socket}
 use Rattle.posix_defs.specs.Sockets.{Sockets, socket_at, with_new, with_pair, with_socket}
-use Rattle.proc_files.proofs.Openings.{same_node, same_nodes}
+use Rattle.proc_files.proofs.Openings.{OpenTheSame, all_same, same_nodes}
 use Rattle.socket_laws.proofs.SocketTable.{with-length}
 
 -- The tree is the same, and so are which nodes are open and which node each socket is bound to.
@@ -45,17 +45,18 @@ opened_there files (Some descriptor) opened e = by_description (description_at f
     by_description (Some description) is e =
         subst (λ (one : Opened). description_at files.descriptions one.place ≡ Some one.is) (same description e) is
 
--- the same descriptions open the same nodes
-pub same_opened : (files next : Files) → next.descriptions ≡ files.descriptions → opened_nodes next ≡ opened_nodes files
-same_opened files next same = ap (nodes_among next) same ∙ same_nodes next files files.descriptions
+-- the same descriptions open the same nodes, where pipes are the same
+pub same_opened : (files next : Files) → next.descriptions ≡ files.descriptions → next.pipes ≡ files.pipes → opened_nodes next ≡ opened_nodes files
+same_opened files next same pipes = ap (nodes_among next) same ∙ same_nodes next files files.descriptions (all_same next files files.descriptions pipes)
 
 -- and so they do where one of what has no node came behind them
-pub nodes_behind : (one other : Files) (list : Descriptions) (made : Description) → node_of one made.target ≡ None → nodes_among one (list ++ Some made ∷ []) ≡ nodes_among other list
-nodes_behind one other [] made none = ap (λ o. beside o []) none
-nodes_behind one other (None ∷ list) made none = nodes_behind one other list made none
-nodes_behind one other (Some d ∷ list) made none =
-    ap (λ o. beside o (nodes_among one (list ++ Some made ∷ []))) (same_node one other d.target)
-    ∙ ap (beside (node_of other d.target)) (nodes_behind one other list made none)
+pub nodes_behind : (one other : Files) (list : Descriptions) (made : Description) → node_of one made.target ≡ None → OpenTheSame one other list
+    → nodes_among one (list ++ Some made ∷ []) ≡ nodes_among other list
+nodes_behind one other [] made none each = ap (λ o. beside o []) none
+nodes_behind one other (None ∷ list) made none each = nodes_behind one other list made none (λ place. each (suc place))
+nodes_behind one other (Some d ∷ list) made none each =
+    ap (λ o. beside o (nodes_among one (list ++ Some made ∷ []))) (each zero d refl)
+    ∙ ap (beside (node_of other d.target)) (nodes_behind one other list made none (λ place. each (suc place)))
 
 -- ---- names of sockets
 

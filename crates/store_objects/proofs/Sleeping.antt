@@ -82,7 +82,7 @@ module _ (script : Script) (old new : Objects) (pid : ℕ) (opening : Option Hal
     };
     memory = account_changed script old new pid (sleeping opening) kept changes world.account.frames stands.memory;
     files = files_moved old new world.plain.files next.plain.files world.account world.account (moves_changed script old new pid (sleeping opening) kept changes)
-        refl refl refl refl refl (λ number have. descriptors_slept script old new pid (sleeping opening) kept changes own world.plain.files number have) stands.files;
+        refl refl refl refl refl (λ number have. descriptors_slept script old new pid (sleeping opening) kept changes world.plain.files number have) stands.files;
     tree = tree_on old new world next
         (record { tree = changes.tree; names = changes.names; caches = moved_caches old.heap new.heap old.procs new.procs (moves_changed script old new pid (sleeping opening) kept changes) })
         refl refl refl refl stands.tree;

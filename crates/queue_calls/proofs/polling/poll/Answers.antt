@@ -21,7 +21,7 @@ returns-clause-does c =
     let entries = c.args.entries.now in
     let told = c.poll-told.result in
     subst (λ t. Performs script old pid (call.Poll c.args.timeout entries) (λ plain. poll script plain pid c.args.timeout entries) t new) (sym c.go_on_done.ensures.told)
-    (performs script old old.heap (is_kept script old c.requires.kept) (leaves_rest old.heap old.heap refl) (λ key. refl) pid (call.Poll c.args.timeout entries) (λ moved. ⊥) new
+    (performs script old old.heap (is_kept script old c.requires.kept) (leaves_rest old.heap old.heap refl (λ key. refl)) (λ key. refl) pid (call.Poll c.args.timeout entries) (λ moved. ⊥) new
     (λ plain. poll script plain pid c.args.timeout entries) told
     (λ numbers plain account stands.
     subst (λ z. Leads script numbers old.heap old.procs plain account pid (call.Poll z entries) (poll script plain pid z entries) told) (to_z-of_z w64 c.args.timeout c.ranges.timeout)

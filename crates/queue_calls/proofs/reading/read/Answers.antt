@@ -26,13 +26,13 @@ go_on_done-requires-clause-kept c =
     let some = c.requires.stands in
     let names = names_read c.args.script.now c.args.objects.now c.read-told.new.heap c.args.caller.now.place.pid _ _ _ c.read-told.result (c.read-told.ensures.leads c.args.script.now) c.requires.stands
     c.requires.off in
-    kept_mid c.args.script.now c.args.objects.now c.read-told.new.heap c.read-told.ensures.kept (leaves_rest c.args.objects.now.heap c.read-told.new.heap c.read-told.ensures.beside) names some.1.kept
+    kept_mid c.args.script.now c.args.objects.now c.read-told.new.heap c.read-told.ensures.kept (leaves_rest c.args.objects.now.heap c.read-told.new.heap c.read-told.ensures.beside c.read-told.ensures.links) names some.1.kept
 
 pub go_on_done-requires-clause-runs : goal.go_on_done-requires-clause-runs
 go_on_done-requires-clause-runs c =
     let names = names_read c.args.script.now c.args.objects.now c.read-told.new.heap c.args.caller.now.place.pid _ _ _ c.read-told.result (c.read-told.ensures.leads c.args.script.now) c.requires.stands
     c.requires.off in
-    runs_mid c.args.script.now c.args.objects.now c.read-told.new.heap c.read-told.ensures.kept (leaves_rest c.args.objects.now.heap c.read-told.new.heap c.read-told.ensures.beside) names
+    runs_mid c.args.script.now c.args.objects.now c.read-told.new.heap c.read-told.ensures.kept (leaves_rest c.args.objects.now.heap c.read-told.new.heap c.read-told.ensures.beside c.read-told.ensures.links) names
     c.args.caller.now.place.pid c.args.caller.now.control c.requires.runs
 
 pub returns-clause-paid : goal.returns-clause-paid
@@ -51,7 +51,7 @@ returns-clause-does c =
     let names = names_read c.args.script.now c.args.objects.now c.read-told.new.heap c.args.caller.now.place.pid _ _ _ c.read-told.result (c.read-told.ensures.leads c.args.script.now) c.requires.stands
     c.requires.off in
     subst (λ t. Performs script old pid (call.Read c.args.on.now.fd c.args.addr c.args.n) (λ plain. read script plain pid c.args.on.now.fd c.args.addr c.args.n) t new) (sym c.go_on_done.ensures.told)
-    (performs script old heap c.read-told.ensures.kept (leaves_rest old.heap heap c.read-told.ensures.beside) names pid (call.Read c.args.on.now.fd c.args.addr c.args.n) (λ moved. ⊥) new
+    (performs script old heap c.read-told.ensures.kept (leaves_rest old.heap heap c.read-told.ensures.beside c.read-told.ensures.links) names pid (call.Read c.args.on.now.fd c.args.addr c.args.n) (λ moved. ⊥) new
     (λ plain. read script plain pid c.args.on.now.fd c.args.addr c.args.n) told
     (λ numbers plain account stands.
     of_three (λ fd addr n. Leads script numbers heap old.procs plain account pid (call.Read fd addr n) (read script plain pid fd addr n) told) _ _ _ c.args.on.now.fd c.args.addr c.args.n

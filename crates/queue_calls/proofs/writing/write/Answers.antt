@@ -6,6 +6,7 @@ use Rattle.kheap_laws.proofs.PaidLemmas.{IsPaid-nothing, IsPaid-trans}
 use Rattle.kabi_types.specs.declared.scripts.Script.{Script}
 use Rattle.kheap_slabs.specs.Heap.{Heap}
 use Rattle.open_laws.specs.Placed.{Numbers}
+use Rattle.pipe_ends.specs.Links.{KeepsLinks}
 use Rattle.posix_defs.specs.Account.{Account}
 use Rattle.posix_defs.specs.Calls.Writing.{write_ignoring}
 use Rattle.posix_defs.specs.Plain.{Plain}
@@ -38,14 +39,14 @@ do_part-requires-clause-kept c =
     let names = names_written c.args.script.now c.args.objects.now c.write-told.new.heap c.args.caller.now.place.pid _ _ _ c.args.done c.write-told.result
     (c.write-told.ensures.leads c.args.script.now) c.requires.stands
     c.requires.off in
-    (c.args.script.now, kept_mid c.args.script.now c.args.objects.now c.write-told.new.heap c.write-told.ensures.kept (leaves_more c.args.objects.now.heap c.write-told.new.heap c.write-told.ensures.beside) names some.1.kept)
+    (c.args.script.now, kept_mid c.args.script.now c.args.objects.now c.write-told.new.heap c.write-told.ensures.kept (leaves_more c.args.objects.now.heap c.write-told.new.heap c.write-told.ensures.beside c.write-told.ensures.links) names some.1.kept)
 
 pub do_part-requires-clause-runs : goal.do_part-requires-clause-runs
 do_part-requires-clause-runs c =
     let names = names_written c.args.script.now c.args.objects.now c.write-told.new.heap c.args.caller.now.place.pid _ _ _ c.args.done c.write-told.result
     (c.write-told.ensures.leads c.args.script.now) c.requires.stands
     c.requires.off in
-    runs_mid c.args.script.now c.args.objects.now c.write-told.new.heap c.write-told.ensures.kept (leaves_more c.args.objects.now.heap c.write-told.new.heap c.write-told.ensures.beside) names
+    runs_mid c.args.script.now c.args.objects.now c.write-told.new.heap c.write-told.ensures.kept (leaves_more c.args.objects.now.heap c.write-told.new.heap c.write-told.ensures.beside c.write-told.ensures.links) names
     c.args.caller.now.place.pid c.args.caller.now.control c.requires.runs
 
 -- a part is less than the bytes that are left
@@ -75,14 +76,14 @@ go_on_done-requires-clause-kept c =
     let names = names_written c.args.script.now c.args.objects.now c.write-told.new.heap c.args.caller.now.place.pid _ _ _ c.args.done c.write-told.result
     (c.write-told.ensures.leads c.args.script.now) c.requires.stands
     c.requires.off in
-    kept_mid c.args.script.now c.args.objects.now c.write-told.new.heap c.write-told.ensures.kept (leaves_more c.args.objects.now.heap c.write-told.new.heap c.write-told.ensures.beside) names some.1.kept
+    kept_mid c.args.script.now c.args.objects.now c.write-told.new.heap c.write-told.ensures.kept (leaves_more c.args.objects.now.heap c.write-told.new.heap c.write-told.ensures.beside c.write-told.ensures.links) names some.1.kept
 
 pub go_on_done-requires-clause-runs : goal.go_on_done-requires-clause-runs
 go_on_done-requires-clause-runs c =
     let names = names_written c.args.script.now c.args.objects.now c.write-told.new.heap c.args.caller.now.place.pid _ _ _ c.args.done c.write-told.result
     (c.write-told.ensures.leads c.args.script.now) c.requires.stands
     c.requires.off in
-    runs_mid c.args.script.now c.args.objects.now c.write-told.new.heap c.write-told.ensures.kept (leaves_more c.args.objects.now.heap c.write-told.new.heap c.write-told.ensures.beside) names
+    runs_mid c.args.script.now c.args.objects.now c.write-told.new.heap c.write-told.ensures.kept (leaves_more c.args.objects.now.heap c.write-told.new.heap c.write-told.ensures.beside c.write-told.ensures.links) names
     c.args.caller.now.place.pid c.args.caller.now.control c.requires.runs
 
 pub returns-in-Part-clause-kept : goal.returns-in-Part-clause-kept
@@ -92,7 +93,7 @@ returns-in-Part-clause-kept c =
     (c.write-told.ensures.leads c.args.script.now) c.requires.stands
     c.requires.off in
     c.do_part.ensures.kept c.args.script.now
-    (kept_mid c.args.script.now c.args.objects.now c.write-told.new.heap c.write-told.ensures.kept (leaves_more c.args.objects.now.heap c.write-told.new.heap c.write-told.ensures.beside) names some.1.kept)
+    (kept_mid c.args.script.now c.args.objects.now c.write-told.new.heap c.write-told.ensures.kept (leaves_more c.args.objects.now.heap c.write-told.new.heap c.write-told.ensures.beside c.write-told.ensures.links) names some.1.kept)
 
 pub returns-in-Part-clause-paid : goal.returns-in-Part-clause-paid
 returns-in-Part-clause-paid c =
@@ -106,14 +107,14 @@ returns-in_default-clause-paid c =
 
 -- what it leads to, whatever was told
 leads : (script : Script) (old new : Objects) (heap : Heap) (pid : ℕ) (fd addr n as_fd as_addr as_n : ℤ) (done : ℕ) (told : Turned) → as_fd ≡ fd → as_addr ≡ addr → as_n ≡ n
-    → (kept : IsKept heap old.procs) → (beside : heap ≡ record old.heap { pipes = heap.pipes; chunks = heap.chunks; socks = heap.socks; high = heap.high })
+    → (kept : IsKept heap old.procs) → (beside : heap ≡ record old.heap { pipes = heap.pipes; chunks = heap.chunks; socks = heap.socks; high = heap.high }) → KeepsLinks old.heap heap
     → ((key : ℕ) → name_of heap.socks key ≡ name_of old.heap.socks key) → IsOffNodes old.heap old.procs pid fd
     → ((numbers : Numbers) (plain : Plain) (account : Account) → QueuesStandFor numbers old.heap old.procs plain account
     → Leads script numbers heap old.procs plain account pid (call.Write as_fd as_addr as_n done) (write_ignoring script plain pid as_fd as_addr as_n done) told)
     → Follows script (record { heap = heap; procs = old.procs; tree = old.tree; names = old.names; fifos = old.fifos }) pid (λ moved. done + moved ≤ count_of n) told new
     → Performs script old pid (call.Write fd addr n done) (λ plain. write_ignoring script plain pid fd addr n done) told new
-leads script old new heap pid fd addr n as_fd as_addr as_n done told first second third kept beside names off each follows =
-    performs script old heap kept (leaves_more old.heap heap beside) names pid (call.Write fd addr n done) (λ moved. done + moved ≤ count_of n) new
+leads script old new heap pid fd addr n as_fd as_addr as_n done told first second third kept beside links names off each follows =
+    performs script old heap kept (leaves_more old.heap heap beside links) names pid (call.Write fd addr n done) (λ moved. done + moved ≤ count_of n) new
     (λ plain. write_ignoring script plain pid fd addr n done) told
     (λ numbers plain account stands.
     of_three (λ x y z. Leads script numbers heap old.procs plain account pid (call.Write x y z done) (write_ignoring script plain pid x y z done) told) as_fd as_addr as_n fd addr n
@@ -133,7 +134,7 @@ returns-in-Part-clause-does c =
     subst (λ t. Performs script old pid (call.Write c.args.on.now.fd c.args.addr c.args.n c.args.done) (λ plain. write_ignoring script plain pid c.args.on.now.fd c.args.addr c.args.n c.args.done) t new)
     (c.in-Part.is ∙ sym c.do_part.ensures.told)
     (leads script old new c.write-told.new.heap pid c.args.on.now.fd c.args.addr c.args.n _ _ _ c.args.done c.write-told.result
-    refl (to_z-of_z w64 c.args.addr c.ranges.addr) (to_z-of_z w64 c.args.n c.ranges.n) c.write-told.ensures.kept c.write-told.ensures.beside names c.requires.off
+    refl (to_z-of_z w64 c.args.addr c.ranges.addr) (to_z-of_z w64 c.args.n c.ranges.n) c.write-told.ensures.kept c.write-told.ensures.beside c.write-told.ensures.links names c.requires.off
     (c.write-told.ensures.leads script)
     (follows_part script (record { heap = c.write-told.new.heap; procs = old.procs; tree = old.tree; names = old.names; fifos = old.fifos }) pid (λ moved. c.args.done + moved ≤ count_of c.args.n) c.write-told.result new c.in-Part.moved
     c.in-Part.is (c.do_part.ensures.goes script)))
@@ -150,7 +151,7 @@ returns-in_default-clause-does c =
     subst (λ t. Performs script old pid (call.Write c.args.on.now.fd c.args.addr c.args.n c.args.done) (λ plain. write_ignoring script plain pid c.args.on.now.fd c.args.addr c.args.n c.args.done) t new)
     (sym c.go_on_done.ensures.told)
     (leads script old new c.write-told.new.heap pid c.args.on.now.fd c.args.addr c.args.n _ _ _ c.args.done c.write-told.result
-    refl (to_z-of_z w64 c.args.addr c.ranges.addr) (to_z-of_z w64 c.args.n c.ranges.n) c.write-told.ensures.kept c.write-told.ensures.beside names c.requires.off
+    refl (to_z-of_z w64 c.args.addr c.ranges.addr) (to_z-of_z w64 c.args.n c.ranges.n) c.write-told.ensures.kept c.write-told.ensures.beside c.write-told.ensures.links names c.requires.off
     (c.write-told.ensures.leads script)
     (follows_done script (record { heap = c.write-told.new.heap; procs = old.procs; tree = old.tree; names = old.names; fifos = old.fifos }) pid (λ moved. c.args.done + moved ≤ count_of c.args.n) c.write-told.result new
     c.go_on_done.ensures.goes (λ moved is some. c.in_default.not-Part moved is)))
