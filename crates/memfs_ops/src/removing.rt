@@ -164,7 +164,7 @@ impl FileTree {
         Ok(socket_freed(node, &inode))
     }
 
-    /// Whether a node that is cached stays without a name: a file does as long as someone holds it.
+    /// Whether a node that is cached stays without a name: a file and a FIFO do as long as someone holds them.
     pub(crate) fn stays_open(&self, heap: &KHeap, node: u32, inode: &Inode) -> bool
         requires stands { (tree : Tree) × (pins : ℕ → ℕ) × Stands heap.now self.now tree pins
             × IsInodeAt tree node inode.now }
