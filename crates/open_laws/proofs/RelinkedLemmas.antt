@@ -120,8 +120,8 @@ module _ (old new : Heap) (relinked : AreRelinked old new) where
   node_relinked (target.Pipe key) = go (object old.pipes key) refl
     where
       none : (o : Option HeldPipe) → object new.pipes key ≡ o → object old.pipes key ≡ None → o ≡ None
-      none None is no = refl
-      none (Some pipe) is no = absurd (let was = relinked_back old new key pipe relinked is in let there = was.1 in cc)
+      none None is gone = refl
+      none (Some pipe) is gone = absurd (let was = relinked_back old new key pipe relinked is in let there = was.1 in cc)
 
       go : (o : Option HeldPipe) → object old.pipes key ≡ o → option_and_then fifo_in (object new.pipes key) ≡ option_and_then fifo_in (object old.pipes key)
       go None is = ap (option_and_then fifo_in) (none (object new.pipes key) refl is ∙ sym is)
