@@ -113,7 +113,7 @@ module _ (script : Script) (old : Objects) (heap : Heap) (fs : TreeView) (table 
   mid = record { heap = heap; procs = old.procs; tree = fs; names = table; fifos = fifos }
 
   pub moves : FileMoves old mid
-  moves = moves_holding old mid pid refl changes kept.holds (alive_who_runs old pid control runs) listed owners chain bound places (keeps_some mid some)
+  moves = moves_holding old mid pid refl changes kept.holds (alive_who_runs old pid control runs) listed owners bound places (keeps_some mid some) chain
 
   pub kept_mid : AreKept script mid
   kept_mid = kept_turned script old mid kept moves
