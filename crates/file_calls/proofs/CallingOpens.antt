@@ -58,7 +58,8 @@ use Rattle.store_objects.specs.FileWorlds.{HasTurned, LeavesCached, turned_in}
 use Rattle.store_objects.proofs.Answered.{answered_holding, turned_files}
 use Rattle.store_objects.proofs.Forgetting.{forgotten}
 use Rattle.store_objects.proofs.FileMoving.{kept_turned, runs_turned}
-use Rattle.store_objects.proofs.Serving.{serves, serves_begun}
+use Rattle.store_objects.proofs.Beginning.{serves_begun}
+use Rattle.store_objects.proofs.Serving.{serves}
 use Rattle.store_objects.proofs.Staying.{memory_holding, moves_holding}
 
 -- ---- what calls ask
