@@ -6,6 +6,7 @@ pub mod ChangeLemmas
 pub mod PaysLemmas
 pub mod WriteLemmas
 pub mod OpenLemmas
+pub mod OpenedFifo
 pub mod EvictLemmas
 pub mod BootLemmas
 pub mod PurseLemmas
