@@ -20,7 +20,7 @@ is_held pins number = nat_lt 0 (pins number)
 abbrev pub TellsHeld : (ℕ → ℕ) → (ℕ → Bool) → Type 0
 TellsHeld pins test = (number : ℕ) → number ≢ root → test number ≡ is_held pins number
 
--- a test tells of each file whether someone holds it
+-- a test tells of each file and FIFO whether someone holds it
 abbrev pub TellsOpened : Tree → (ℕ → ℕ) → (ℕ → Bool) → Type 0
 TellsOpened tree pins test = (number : ℕ) → is_directory tree number ≡ false → is_socket tree number ≡ false → test number ≡ is_held pins number
 

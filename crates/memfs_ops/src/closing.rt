@@ -1,4 +1,4 @@
-//! Nodes that are closed: who holds one lets it go, and a file without a name goes with the last that holds it.
+//! Nodes that are closed: who holds one lets it go, and one without a name goes with the last that holds it.
 ghost use Rattle.std.specs.Prelude.{◌≡◌, ◌≢◌, ℕ, ◌-◌, ◌<◌, ◌==◌, []};
 ghost use Rattle.kheap_slabs.specs.Objects.{InUse};
 ghost use Rattle.kheap_slabs.specs.Paid.{HasFills, TakesNothing};
@@ -19,7 +19,7 @@ use kabi_types::Inode;
 use kheap_slabs::{KHeap, Purse};
 
 impl FileTree {
-    /// One less holds a node that is held. With the last that holds it a file goes that has no links.
+    /// One less holds a node that is held. With the last that holds it a node goes that has no links.
     ///
     /// Blocks are asked for in that case alone, and those that were filled go before it ends: a purse that had filled nothing
     /// is then as it was. See [close](https://pubs.opengroup.org/onlinepubs/9699919799/functions/close.html).
