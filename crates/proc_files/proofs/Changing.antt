@@ -93,7 +93,7 @@ holding_then old mid new kept pid first second =
     }
 
 -- a number is closed
-pub holding_closed : (old new : Heap) (kept : TableView) (pid fd : ℕ) → ClosesHolding old new kept pid fd → ChangesHolding old new kept pid
+unfoldable pub holding_closed : (old new : Heap) (kept : TableView) (pid fd : ℕ) → ClosesHolding old new kept pid fd → ChangesHolding old new kept pid
 holding_closed old new kept pid fd closes =
     let one = closes.closes in
     record {

@@ -16,7 +16,7 @@ use Rattle.posix_defs.specs.Files.Descriptions.{Description}
 use Rattle.posix_defs.specs.Files.Closing.{after_close}
 use Rattle.posix_defs.specs.Files.State.{Files, opens}
 use Rattle.posix_defs.specs.IsTree.{IsTree}
-use Rattle.posix_defs.specs.PathCalls.{is_socket_kind, kind_in}
+use Rattle.posix_defs.specs.PathCalls.{is_fifo_kind, is_socket_kind, kind_in}
 use Rattle.posix_defs.specs.Tree.{Node, Tree, is_directory, is_directory_in, links_at, links_in, node_at, root, with_node}
 use Rattle.posix_defs.specs.TreeChanges.{closed}
 use Rattle.proc_numbers.specs.Having.{ClosesNumber, HaveOpen}
@@ -47,6 +47,7 @@ open_as tree after description number same it = record {
   unnamed = ap (λ (o : Option Node). is_socket_kind (kind_in o)) same ∙ it.unnamed;
   reads = λ directory. it.reads (sym (ap is_directory_in same) ∙ directory);
   between = λ directory. it.between (sym (ap is_directory_in same) ∙ directory);
+  no_fifo = λ target. ap (λ (o : Option Node). is_fifo_kind (kind_in o)) same ∙ it.no_fifo target;
 }
 
 module _ (numbers : Numbers) (others : ℕ → ℕ) (new : Heap) (kept : TableView) (now : TreeView) (files next : Files) (is_tree : IsTree files.tree) (nodes : AreOpenNodes files)

@@ -112,6 +112,7 @@ unfolding unchanged
 not_marked h kept pid fd it = record { changes = unchanged h kept pid it; becomes = refl }
 
 pub marked_closes : (old new : Heap) (kept : TableView) (pid fd : ℕ) → ClosesHolding old new kept pid fd → ClosesIf old new kept pid fd true
+unfolding holding_closed
 marked_closes old new kept pid fd closes =
     let one = closes.closes in
     record { changes = holding_closed old new kept pid fd closes; becomes = ap (λ (h : Heap). numbers_in h one.now) closes.caches ∙ one.numbers }

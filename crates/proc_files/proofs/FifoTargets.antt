@@ -1,5 +1,5 @@
 -- What descriptions are open on is there, and of an end of a FIFO's pipe the machine has the FIFO that the heap has.
-use Rattle.std.proofs.Common.{◌≡◌, ℕ, zero, suc, ◌+◌, ◌==◌, ◌++◌, Bool, true, false, cond, List, [], ◌∷◌, set, length, Option, None, Some, is_some, unwrap_or, refl, ap, sym, ◌∙◌, subst}
+use Rattle.std.proofs.Common.{◌≡◌, ℕ, zero, suc, ◌+◌, ◌==◌, ◌&&◌, ◌++◌, Bool, true, false, cond, List, [], ◌∷◌, set, length, Option, None, Some, is_some, unwrap_or, refl, ap, sym, ◌∙◌, subst}
 use Rattle.std.specs.Prelude.{slice_index_or, slice_set}
 use Rattle.std.specs.Option.{option_and_then, option_map}
 use Rattle.kheap_slabs.specs.Objects.{InUse, object}
@@ -15,7 +15,7 @@ use Rattle.open_laws.specs.Owned.{HasItsOwners, IsThereFor}
 use Rattle.open_laws.specs.Piped.{ArePiped}
 use Rattle.open_laws.specs.Placed.{Numbers}
 use Rattle.open_laws.proofs.DropLemmas.{description_in}
-use Rattle.pipe_ends.specs.Standing.{StandsFor}
+use Rattle.pipe_ends.specs.Standing.{IsPipeAt, StandsFor}
 use Rattle.posix_defs.specs.Files.Descriptions.{Description, Descriptions, OnNode, OnPipe, OnSocket, Target, description_at}
 use Rattle.posix_defs.specs.Files.State.{Files, node_of, pipe_there}
 use Rattle.posix_defs.specs.Pipe.{Pipe, after_close, fifo_of, new_pipe, while_open, with_end, without_reader, without_writer}
@@ -44,6 +44,15 @@ node_placed numbers h files are key used =
     ap (option_and_then fifo_of) pipe.1
     ∙ held_fifo held.0 pipe.0 (stands_fifo h key pipe.0 stands.0 held.0 stands.1 held.1)
     ∙ sym (ap (option_and_then fifo_in) held.1)
+
+-- what is told of a pipe's FIFO
+pub pipe_node : (h : Heap) (key : ℕ) (told : Option ℕ) → IsPipeAt h key → ((pipe : Pipe) (at : ℕ) → StandsFor h key pipe at → told ≡ fifo_of pipe) → node_in h.pipes (held_target.Pipe key) ≡ told
+pipe_node h key told (pipe, at, stands) tells =
+    ap (option_and_then fifo_in) stands.there ∙ sym (held_fifo stands.held pipe stands.node) ∙ sym (tells pipe at stands)
+
+pub pipe_placed : (numbers : Numbers) (h : Heap) (files : Files) → ArePiped numbers h files.pipes → (key : ℕ) (told : Option ℕ) → IsPipeAt h key
+    → ((pipe : Pipe) (at : ℕ) → StandsFor h key pipe at → told ≡ fifo_of pipe) → node_of files (OnPipe (numbers.pipes key)) ≡ told
+pipe_placed numbers h files are key told there tells = node_placed numbers h files are key (ap is_some there.2.there) ∙ pipe_node h key told there tells
 
 -- the node of a target that is there
 pub node_same : (numbers : Numbers) (h : Heap) (files : Files) → ArePiped numbers h files.pipes → (access : HeldAccess) (what : HeldTarget) → IsThereFor h access what

@@ -227,7 +227,7 @@ module _ (old : Heap) (kept : TableView) (fs : TreeView) (key number : ℕ) (des
       it = open_node numbers others old kept fs files hold key number desc is on
 
       opened_now : (other : ℕ) → other ≡ number → IsOpenNode files.tree now other
-      opened_now other same = subst (IsOpenNode files.tree now) (sym same) (record { used = it.used; unnamed = it.unnamed; reads = it.reads; between = between })
+      opened_now other same = subst (IsOpenNode files.tree now) (sym same) (record { used = it.used; unnamed = it.unnamed; reads = it.reads; between = between; no_fifo = it.no_fifo })
 
       node_so : (one other : ℕ) → Some one ≡ Some other → other ≡ one
       node_so one other e = cc

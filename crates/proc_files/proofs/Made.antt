@@ -2,19 +2,20 @@
 use Rattle.std.proofs.Common.{◌≡◌, ◌≢◌, ℕ, ◌≤◌, Bool, true, false, cond, List, Option, Some, Result, Ok, Err, is_some, refl, sym, ap, subst, ◌∙◌, arith, inl, inr}
 use Rattle.std.proofs.lemmas.Bool.{cases_eq, false≢true}
 use Rattle.kabi_types.specs.declared.errnos.Errno.{Errno}
+use Rattle.kabi_types.specs.declared.inodes.DirEntry.{DirEntry}
 use Rattle.kabi_types.specs.declared.errnos.Errno.TheVariants.{ENOENT}
 use Rattle.posix_defs.specs.DiskFormat.{table_nodes}
 use Rattle.posix_defs.specs.IsTree.{IsTree}
-use Rattle.posix_defs.specs.PathCalls.{bind_led, bind_path, is_socket, is_socket_kind, kind_in}
+use Rattle.posix_defs.specs.PathCalls.{bind_led, bind_path, is_fifo, is_fifo_kind, is_socket, is_socket_kind, kind_in, kind_of_content}
 use Rattle.posix_defs.specs.Paths.{IsLed, resolve}
-use Rattle.posix_defs.specs.Tree.{Node, SocketName, Tree, is_directory, is_directory_in, is_in_use, with_node}
+use Rattle.posix_defs.specs.Tree.{Content, Directory, Fifo, File, Node, SocketName, Tree, is_directory, is_directory_content, is_directory_in, is_in_use, node_at, with_node}
 use Rattle.posix_defs.specs.TreeChanges.{entry_put, make, with_new}
 use Rattle.posix_defs.specs.declared.walked.Walked.{Walked}
 use Rattle.posix_defs.specs.declared.walked.Walked.TheVariants as walked
 use Rattle.posix_defs.proofs.TreeNodes.{directory_in_use, free_is}
 use Rattle.tree_laws.proofs.PathLeads.{path_led}
 use Rattle.tree_laws.proofs.TreeKeeps.{made_is}
-use Rattle.tree_laws.proofs.TreeSteps.{added, relisted}
+use Rattle.tree_laws.proofs.TreeSteps.{Relisted, added, relisted}
 
 -- A node that was free is a socket's name; of every other one nothing is other.
 pub record MakesName (old new : Tree) (made : ℕ) : Type 0 where
@@ -26,6 +27,26 @@ pub record MakesName (old new : Tree) (made : ℕ) : Type 0 where
   pub used : (number : ℕ) → is_in_use old number ≡ true → is_in_use new number ≡ true
   pub directories : (number : ℕ) → number ≢ made → is_directory new number ≡ is_directory old number
   pub sockets : (number : ℕ) → number ≢ made → is_socket new number ≡ is_socket old number
+  pub fifos : (number : ℕ) → number ≢ made → is_fifo new number ≡ is_fifo old number
+
+-- a directory is no FIFO
+pub directory_no_fifo : (o : Option Node) → is_directory_in o ≡ true → is_fifo_kind (kind_in o) ≡ false
+directory_no_fifo None e = refl
+directory_no_fifo (Some node) e = by_content node.content e
+  where
+    by_content : (content : Content) → is_directory_content content ≡ true → is_fifo_kind (kind_of_content content) ≡ false
+    by_content (File bytes) is = refl
+    by_content (Directory parent entries) is = refl
+    by_content SocketName is = refl
+    by_content Fifo is = absurd (false≢true is)
+
+-- what is listed anew stays a FIFO or none
+pub relisted_fifos : (old new : Tree) (dir : ℕ) (entries : List DirEntry) → Relisted old new dir entries → is_directory old dir ≡ true → (number : ℕ) → is_fifo new number ≡ is_fifo old number
+relisted_fifos old new dir entries listed is_dir number = elim (cases_eq number dir) [
+  | inl same ↦
+      ap (is_fifo new) same ∙ directory_no_fifo (node_at new dir) (listed.directories dir ∙ is_dir) ∙ sym (directory_no_fifo (node_at old dir) is_dir) ∙ sym (ap (is_fifo old) same)
+  | inr off ↦ ap (λ (o : Option Node). is_fifo_kind (kind_in o)) (listed.others number off)
+]
 
 -- what is in use isn't the one that was made
 pub used_apart : (old new : Tree) (made : ℕ) → MakesName old new made → (number : ℕ) → is_in_use old number ≡ true → number ≢ made
@@ -57,6 +78,9 @@ module _ (tree : Tree) (is : IsTree tree) (dir : ℕ) (is_dir : is_directory tre
         ];
         directories = λ number off. listed.directories number ∙ ap is_directory_in (add.others number off);
         sockets = λ number off. listed.sockets number ∙ ap (λ (o : Option Node). is_socket_kind (kind_in o)) (add.others number off);
+        fifos = λ number off.
+            relisted_fifos between (with_new tree made dir name SocketName) dir _ listed (ap is_directory_in (add.others dir apart) ∙ is_dir) number
+            ∙ ap (λ (o : Option Node). is_fifo_kind (kind_in o)) (add.others number off);
       })
 
 same_made : (errno : Errno) (made : ℕ) (next : Tree) → ◌≡◌ {A = Result (ℕ × Tree) Errno} (Err errno) (Ok (made, next)) → ⊥

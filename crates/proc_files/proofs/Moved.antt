@@ -26,6 +26,7 @@ use Rattle.proc_table.specs.Standing.{IsTable}
 use Rattle.proc_table.specs.Table.{TableView, processes, with_procs}
 use Rattle.proc_table.proofs.LawLemmas.{elsewhere_account, elsewhere_holds, elsewhere_table}
 use Rattle.proc_numbers.specs.Having.{AreListed, HaveOpen}
+use Rattle.proc_numbers.proofs.Listing.{openings_on}
 use Rattle.proc_numbers.proofs.NumberCloses.{listed_on}
 use Rattle.proc_numbers.specs.Standing.{IsKept}
 use Rattle.proc_files.specs.Seeking.{MovesDesc, moved}
@@ -81,7 +82,7 @@ module _ (old : Heap) (key : ℕ) (desc : Desc) (offset : ℕ) (is : object old.
   have_moved numbers kept files have = record {
     list = set have.list (numbers.descs key) (Some (counted_in numbers now));
     opened = open_moved numbers have.list files have.opened;
-    descriptors = record { each = have.descriptors.each; made = have.descriptors.made; openings = have.descriptors.openings };
+    descriptors = record { each = have.descriptors.each; made = have.descriptors.made; openings = openings_on old with_it kept files.openings refl have.descriptors.openings };
   }
 
 module _ (old new : Heap) (key : ℕ) (desc : Desc) (offset : ℕ) (is : object old.descs key ≡ Some desc) (e : MovesDesc old new key desc offset) where

@@ -8,16 +8,16 @@ use Rattle.kheap_slabs.specs.Heap.{Heap}
 use Rattle.memfs_ops.specs.Fetching.{IsFile}
 use Rattle.memfs_ops.specs.FileTree.{IsUsed, Pays, Stands, TreeView}
 use Rattle.posix_defs.specs.Files.Descriptions.{Description, may_write}
-use Rattle.posix_defs.specs.PathCalls.{is_socket, is_socket_kind, kind_in}
-use Rattle.posix_defs.specs.Tree.{Content, Directory, File, Node, SocketName, Tree, is_directory, is_directory_in, is_in_use, node_at}
+use Rattle.posix_defs.specs.PathCalls.{is_fifo, is_fifo_kind, is_socket, is_socket_kind, kind_in}
+use Rattle.posix_defs.specs.Tree.{Content, Directory, Fifo, File, Node, SocketName, Tree, is_directory, is_directory_in, is_in_use, node_at}
 use Rattle.proc_table.specs.Table.{TableView}
 use Rattle.proc_files.specs.Holding.{HoldSome}
 use Rattle.proc_files.specs.Holders.{holders, IsOpenNode}
 use Rattle.proc_files.specs.Reading.{HoldsDirectory, HoldsFile}
-use Rattle.proc_files.proofs.Holding.{open_held, open_node}
+use Rattle.proc_files.proofs.Holding.{on_there, open_held, open_node}
 
-pub is_file : (tree : Tree) (number : ℕ) → is_in_use tree number ≡ true → is_socket tree number ≡ false → is_directory tree number ≡ false → IsFile tree number
-is_file tree number used unnamed file = by_node (node_at tree number) refl
+pub is_file : (tree : Tree) (number : ℕ) → is_in_use tree number ≡ true → is_socket tree number ≡ false → is_fifo tree number ≡ false → is_directory tree number ≡ false → IsFile tree number
+is_file tree number used unnamed no_fifo file = by_node (node_at tree number) refl
   where
     by_content : (node : Node) (content : Content) → node.content ≡ content → node_at tree number ≡ Some node → IsFile tree number
     by_content node (File bytes) holds there = record { links = node.links; bytes = bytes; there = there ∙ ap (λ c. Some (record { links = node.links; content = c })) holds }
@@ -25,6 +25,9 @@ is_file tree number used unnamed file = by_node (node_at tree number) refl
         let both : false ≡ true = sym file ∙ ap is_directory_in there ∙ ap (λ c. is_directory_in (Some (record { links = node.links; content = c }))) holds in cc)
     by_content node SocketName holds there = absurd (
         let both : false ≡ true = sym unnamed ∙ ap (λ (o : Option Node). is_socket_kind (kind_in o)) there ∙ ap (λ c. is_socket_kind (kind_in (Some (record { links = node.links; content = c })))) holds in cc)
+
+    by_content node Fifo holds there = absurd (
+        let both : false ≡ true = sym no_fifo ∙ ap (λ (o : Option Node). is_fifo_kind (kind_in o)) there ∙ ap (λ c. is_fifo_kind (kind_in (Some (record { links = node.links; content = c })))) holds in cc)
 
     by_node : (o : Option Node) → node_at tree number ≡ o → IsFile tree number
     by_node None none = absurd (let both : true ≡ false = sym used ∙ ap is_some none in cc)
@@ -41,7 +44,7 @@ module _ (h : Heap) (kept : TableView) (fs now : TreeView) (some : HoldSome h ke
   pub holds_file : is_directory some.files.tree number ≡ false → HoldsFile h now number
   holds_file file =
       let it = open_node some.numbers some.others h kept fs some.files some.hold key number desc is on in
-      record { tree = some.files.tree; pins = holders some.others some.files; stands = its_tree; held = its_held; is_file = is_file some.files.tree number it.used it.unnamed file }
+      record { tree = some.files.tree; pins = holders some.others some.files; stands = its_tree; held = its_held; is_file = is_file some.files.tree number it.used it.unnamed (it.no_fifo (on_there some.numbers some.others h kept fs some.files some.hold key number desc is on)) file }
 
   pub holds_directory : is_directory some.files.tree number ≡ true → HoldsDirectory h now number
   holds_directory directory = record { tree = some.files.tree; pins = holders some.others some.files; stands = its_tree; held = its_held; is_dir = directory }

@@ -79,7 +79,7 @@ module _ (script : Script) (numbers : Numbers) (plain : Plain) (pid : ℕ) (fd :
   -- a number that isn't open
   pub fstat_bad : opened_at plain.files pid fd ≡ None → fstat script plain pid fd ≡ failed script plain pid EBADF
   unfolding fstat
-  fstat_bad none = ap (answer_on script plain pid (λ opened. replied script plain pid (Stat (info_of plain.files.tree opened.is.target)))) none
+  fstat_bad none = ap (answer_on script plain pid (λ opened. replied script plain pid (Stat (info_of plain.files opened.is.target)))) none
 
   pub lseek_bad : (offset whence : ℤ) → opened_at plain.files pid fd ≡ None → lseek script plain pid fd offset whence ≡ failed script plain pid EBADF
   unfolding lseek
@@ -88,9 +88,9 @@ module _ (script : Script) (numbers : Numbers) (plain : Plain) (pid : ℕ) (fd :
 
   module _ (it : Found) (found : opened_at plain.files pid fd ≡ Some (opened_in numbers it)) where
     -- one that is
-    pub fstat_is : fstat script plain pid fd ≡ replied script plain pid (Stat (info_of plain.files.tree (target_in numbers it.desc.target)))
+    pub fstat_is : fstat script plain pid fd ≡ replied script plain pid (Stat (info_of plain.files (target_in numbers it.desc.target)))
     unfolding fstat
-    fstat_is = ap (answer_on script plain pid (λ opened. replied script plain pid (Stat (info_of plain.files.tree opened.is.target)))) found
+    fstat_is = ap (answer_on script plain pid (λ opened. replied script plain pid (Stat (info_of plain.files opened.is.target)))) found
 
     lseek_is : (offset whence : ℤ) → lseek script plain pid fd offset whence ≡ seek_target script plain pid (opened_in numbers it) offset (count_of whence) (target_in numbers it.desc.target)
     unfolding lseek

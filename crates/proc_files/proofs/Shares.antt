@@ -1,5 +1,5 @@
 -- A number names a description that is open: heap, table, tree and names go on standing for files.
-use Rattle.std.proofs.Common.{◌≡◌, ◌≤◌, ℕ, ◌+◌, List, Option, ap, subst, sym, arith}
+use Rattle.std.proofs.Common.{◌≡◌, ◌≤◌, ℕ, ◌+◌, List, Option, refl, ap, subst, sym, arith}
 use Rattle.kheap_slabs.specs.declared.objects.Sock.{Sock}
 use Rattle.kheap_slabs.specs.Heap.{Heap, live_bytes}
 use Rattle.memfs_ops.specs.FileTree.{TreeView}
@@ -11,7 +11,7 @@ use Rattle.proc_numbers.specs.Having.{HaveOpen}
 use Rattle.proc_files.specs.Holding.{CachesStay}
 use Rattle.proc_files.specs.Holders.{holders, times}
 use Rattle.proc_files.proofs.Holding.{same_pins, stands_on}
-use Rattle.proc_files.proofs.Openings.{same_nodes}
+use Rattle.proc_files.proofs.Openings.{all_same, same_nodes}
 use Rattle.proc_files.specs.Names.{AreBound, name_of}
 use Rattle.proc_files.specs.NameHolding.{HoldNames}
 use Rattle.kheap_laws.proofs.PaidLemmas.{IsPaid-bytes}
@@ -36,7 +36,7 @@ hold_named numbers others old new kept fs names files pid fd descriptor beside h
     opened = have;
     tree =
         same_pins new fs files.tree (holders others files) (holders others (with_open files pid fd descriptor))
-        (λ n. ap (λ nodes. others n + times n nodes) (same_nodes files (with_open files pid fd descriptor) files.descriptions))
+        (λ n. ap (λ nodes. others n + times n nodes) (same_nodes files (with_open files pid fd descriptor) files.descriptions (all_same files (with_open files pid fd descriptor) files.descriptions refl)))
         (stands_on old new fs files.tree (holders others files) (caches_shared old new beside) hold.held.tree);
     nodes = hold.held.nodes;
     beside = hold.held.beside;

@@ -42,6 +42,7 @@ module _ (numbers : Numbers) (others : ℕ → ℕ) (old mid : Heap) (kept : Tab
           unnamed = makes.sockets number apart ∙ it.unnamed;
           reads = λ directory. it.reads (sym (makes.directories number apart) ∙ directory);
           between = λ directory. it.between (sym (makes.directories number apart) ∙ directory);
+          no_fifo = λ target. makes.fifos number apart ∙ it.no_fifo target;
         };
     beside = record {
       root = hold.beside.root;

@@ -41,7 +41,7 @@ use Rattle.proc_files.proofs.Moved.{moved_account, moved_fronts, moved_kept, mov
 use Rattle.proc_files.proofs.Written.{hold_written, resize_kinds, write_ends, write_kinds}
 
 same_kinds : (tree : Tree) → HasSameKinds tree tree
-same_kinds tree = record { used = λ number. refl; directories = λ number. refl; sockets = λ number. refl }
+same_kinds tree = record { used = λ number. refl; directories = λ number. refl; sockets = λ number. refl; fifos = λ number. refl }
 
 ok_same : {X : Type 0} (one other : X) → ◌≡◌ {A = Result X Errno} (Ok one) (Ok other) → one ≡ other
 ok_same one other e = cc

@@ -10,8 +10,8 @@ use Rattle.open_laws.specs.Placed.{Numbers}
 use Rattle.posix_defs.specs.DiskFormat.{blocks_of, greatest_size}
 use Rattle.posix_defs.specs.FileBytes.{resized}
 use Rattle.posix_defs.specs.Files.State.{Files, with_tree}
-use Rattle.posix_defs.specs.PathCalls.{is_socket_kind, kind_in, kind_of_content}
-use Rattle.posix_defs.specs.Tree.{Content, Directory, File, Node, SocketName, Tree, is_directory_content, is_directory_in, node_at}
+use Rattle.posix_defs.specs.PathCalls.{is_fifo_kind, is_socket_kind, kind_in, kind_of_content}
+use Rattle.posix_defs.specs.Tree.{Content, Directory, Fifo, File, Node, SocketName, Tree, is_directory_content, is_directory_in, node_at}
 use Rattle.posix_defs.specs.TreeChanges.{blocks_for, resize, with_bytes, with_bytes_in, write}
 use Rattle.posix_defs.proofs.TreeNodes.{seen_same}
 use Rattle.proc_table.specs.Table.{TableView}
@@ -29,11 +29,19 @@ same_directory : (change : List ℕ → List ℕ) (content : Content) → is_dir
 same_directory change (File bytes) = refl
 same_directory change (Directory parent entries) = refl
 same_directory change SocketName = refl
+same_directory change Fifo = refl
 
 same_kind : (change : List ℕ → List ℕ) (content : Content) → is_socket_kind (kind_of_content (with_bytes_in change content)) ≡ is_socket_kind (kind_of_content content)
 same_kind change (File bytes) = refl
 same_kind change (Directory parent entries) = refl
 same_kind change SocketName = refl
+same_kind change Fifo = refl
+
+same_fifo : (change : List ℕ → List ℕ) (content : Content) → is_fifo_kind (kind_of_content (with_bytes_in change content)) ≡ is_fifo_kind (kind_of_content content)
+same_fifo change (File bytes) = refl
+same_fifo change (Directory parent entries) = refl
+same_fifo change SocketName = refl
+same_fifo change Fifo = refl
 
 module _ (tree : Tree) (number : ℕ) (change : List ℕ → List ℕ) where
   abbrev there : Option Node
@@ -51,11 +59,16 @@ module _ (tree : Tree) (number : ℕ) (change : List ℕ → List ℕ) where
   socket_there None = refl
   socket_there (Some node) = same_kind change node.content
 
+  fifo_there : (o : Option Node) → is_fifo_kind (kind_in (option_map {T = Node} (λ node. record node { content = with_bytes_in change node.content }) o)) ≡ is_fifo_kind (kind_in o)
+  fifo_there None = refl
+  fifo_there (Some node) = same_fifo change node.content
+
   pub bytes_kinds : HasSameKinds tree (with_bytes tree number change)
   bytes_kinds = record {
     used = seen_same is_some tree number there (used_there (node_at tree number));
     directories = seen_same is_directory_in tree number there (directory_there (node_at tree number));
     sockets = seen_same (λ o. is_socket_kind (kind_in o)) tree number there (socket_there (node_at tree number));
+    fifos = seen_same (λ o. is_fifo_kind (kind_in o)) tree number there (fifo_there (node_at tree number));
   }
 
 pub write_kinds : (tree : Tree) (number at : ℕ) (bytes : List ℕ) (count : ℕ) (after : Tree) → write tree number at bytes ≡ Ok (count, after) → HasSameKinds tree after
@@ -95,6 +108,7 @@ hold_written numbers others old new kept fs now files tree hold caches kinds sta
         unnamed = kinds.sockets number ∙ it.unnamed;
         reads = λ directory. it.reads (sym (kinds.directories number) ∙ directory);
         between = λ directory. it.between (sym (kinds.directories number) ∙ directory);
+        no_fifo = λ target. kinds.fifos number ∙ it.no_fifo target;
       };
   beside = record {
     root = hold.beside.root;

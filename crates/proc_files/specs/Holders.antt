@@ -1,8 +1,8 @@
 -- Who holds the nodes of a tree: descriptions, directories that are worked in, and sockets that have names.
 use Rattle.std.specs.Prelude.{ℕ, ◌+◌, ◌%◌, ◌==◌, ◌<◌, ◌≤◌, ◌≡◌, ◌≢◌, true, false, List, Option, None, Some, count_by}
-use Rattle.posix_defs.specs.Files.Descriptions.{Description, ReadOnly, description_at}
+use Rattle.posix_defs.specs.Files.Descriptions.{Description, OnNode, ReadOnly, description_at}
 use Rattle.posix_defs.specs.Files.State.{Files, node_of, opened_nodes}
-use Rattle.posix_defs.specs.PathCalls.{is_socket}
+use Rattle.posix_defs.specs.PathCalls.{is_fifo, is_socket}
 use Rattle.posix_defs.specs.SocketLinks.{WaitsFor}
 use Rattle.posix_defs.specs.Sockets.{socket_at}
 use Rattle.posix_defs.specs.Tree.{Tree, is_directory, is_in_use, root}
@@ -30,12 +30,14 @@ pub record HoldDirectories (others : ℕ → ℕ) (tree : Tree) : Type 0 where
 
 -- ---- what is open
 
--- What a description opens is a file or a FIFO, or a directory for reading alone, in which its offset stands between two entries.
+-- What a description opens is a file or a FIFO, or a directory for reading alone, in which its offset stands between two entries. A FIFO
+-- is open by its ends alone.
 pub record IsOpenNode (tree : Tree) (description : Description) (number : ℕ) : Type 0 where
   pub used : is_in_use tree number ≡ true
   pub unnamed : is_socket tree number ≡ false
   pub reads : is_directory tree number ≡ true → description.access ≡ ReadOnly
   pub between : is_directory tree number ≡ true → description.offset % 32 ≡ 0
+  pub no_fifo : description.target ≡ OnNode number → is_fifo tree number ≡ false
 
 -- each description of a node opens one so, an end of a FIFO too
 abbrev pub AreOpenNodes : Files → Type 0

@@ -9,7 +9,7 @@ use Rattle.open_laws.specs.Described.{node_in}
 use Rattle.open_laws.specs.Placed.{Numbers}
 use Rattle.pipe_ends.specs.Standing.{IsPipeAt}
 use Rattle.posix_defs.specs.Files.State.{Files}
-use Rattle.posix_defs.specs.PathCalls.{is_socket}
+use Rattle.posix_defs.specs.PathCalls.{is_fifo, is_socket}
 use Rattle.posix_defs.specs.Tree.{Tree, is_directory, is_in_use}
 use Rattle.proc_numbers.specs.Having.{HaveOpen}
 use Rattle.proc_table.specs.Table.{TableView}
@@ -43,6 +43,7 @@ pub record HasSameKinds (old new : Tree) : Type 0 where
   pub used : (number : ℕ) → is_in_use new number ≡ is_in_use old number
   pub directories : (number : ℕ) → is_directory new number ≡ is_directory old number
   pub sockets : (number : ℕ) → is_socket new number ≡ is_socket old number
+  pub fifos : (number : ℕ) → is_fifo new number ≡ is_fifo old number
 
 -- the node that a target has is held, that of a FIFO too
 abbrev pub IsHeldIn : Heap → TreeView → Target → Type 0

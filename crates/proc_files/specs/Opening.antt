@@ -104,6 +104,7 @@ pub record LeadsTo (tree next : Tree) (node : ℕ) (access : Access) : Type 0 wh
   pub used : (number : ℕ) → is_in_use tree number ≡ true → is_in_use next number ≡ true
   pub directories : (number : ℕ) → is_in_use tree number ≡ true → is_directory next number ≡ is_directory tree number
   pub sockets : (number : ℕ) → is_in_use tree number ≡ true → is_socket next number ≡ is_socket tree number
+  pub fifos : (number : ℕ) → is_in_use tree number ≡ true → is_fifo next number ≡ is_fifo tree number
   pub there : is_in_use next node ≡ true
   pub unnamed : is_socket next node ≡ false
   pub reads : is_directory next node ≡ true → access ≡ ReadOnly
