@@ -68,12 +68,12 @@ is_waiting (call.OpenFile path flags) wait e = go (argument_fault (call.OpenFile
     go (Some errno) wrong none = cc
 is_waiting _ wait e = cc
 
--- a call that waits for nothing never blocks
-IsWrongOpen : Call → Type 0
+-- the call is an open with a wrong operand
+abbrev IsWrongOpen : Call → Type 0
 IsWrongOpen which = (path : List ℕ) × (flags : ℤ) × (errno : Errno) × (which ≡ call.OpenFile path flags) × (argument_fault (call.OpenFile path flags) ≡ Some errno)
 
+-- a call that waits for nothing never blocks: it is such an open, or one that never does
 waits_not : (which : Call) → None ≡ wait_of which → (may_block which ≡ false) ⊎ IsWrongOpen which
-unfolding IsWrongOpen
 waits_not (call.Waitpid pid options) e = cc
 waits_not (call.Read fd addr n) e = cc
 waits_not (call.Write fd addr n done) e = cc
@@ -83,13 +83,11 @@ waits_not (call.OpenFile path flags) e = go (argument_fault (call.OpenFile path 
   where
     go : (fault : Option Errno) → argument_fault (call.OpenFile path flags) ≡ fault → None ≡ cond (is_none fault) (Some OtherSide) None
         → (may_block (call.OpenFile path flags) ≡ false) ⊎ IsWrongOpen (call.OpenFile path flags)
-    unfolding IsWrongOpen
     go None right same = cc
     go (Some errno) wrong none = inr (path, flags, errno, refl, wrong)
 waits_not _ e = inl refl
 
 pub goes_on : (script : Script) (plain : Plain) (pid : ℕ) (which : Call) → None ≡ wait_of which → blocks (machine script plain pid which) ≡ false
-unfolding IsWrongOpen
 goes_on script plain pid which none = elim (waits_not which none) [
   | inl never ↦ go never (machine script plain pid which) refl
   | inr wrong ↦

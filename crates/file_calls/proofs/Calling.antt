@@ -6,10 +6,12 @@ use Rattle.kabi_types.specs.declared.scripts.Control.{Control}
 use Rattle.kabi_types.specs.declared.scripts.Script.{Script}
 use Rattle.kabi_types.specs.declared.replies.Reply.{Reply}
 use Rattle.kheap_slabs.specs.declared.objects.Sock.{Sock}
+use Rattle.fifo_nodes.proofs.ChainLemmas.{chain_kept}
 use Rattle.kheap_slabs.specs.Heap.{Heap, IsWellFormed}
 use Rattle.memfs_ops.specs.FileTree.{TreeView}
 use Rattle.open_laws.specs.Owned.{HasItsOwners}
 use Rattle.open_laws.specs.Placed.{Numbers}
+use Rattle.pipe_ends.proofs.LinkLemmas.{links_same}
 use Rattle.posix_defs.specs.Account.{Account}
 use Rattle.posix_defs.specs.Answer.{Answer}
 use Rattle.posix_defs.specs.Memory.{Frames}
@@ -105,6 +107,7 @@ moves_on : (script : Script) (old : Objects) (heap : Heap) (fs : TreeView) → L
 moves_on script old heap fs others kept keeps is =
     moves_elsewhere old (mid_of old heap fs) refl others.procs is
     (subst (λ (socks : List (Option Sock)). AreBound (name_of socks) old.names) (sym others.socks) kept.bound) refl keeps others.size
+    (chain_kept old.heap heap old.fifos (links_same old.heap heap others.pipes) kept.chain)
 
 -- ---- a call that moves bytes
 

@@ -2,6 +2,8 @@
 use Rattle.std.proofs.Common.{◌≡◌, ℕ, ◌<◌, ◌≤◌, ◌&&◌, ◌||◌, ℤ, true, false, List, [], length, Option, None, Result, Ok, Err, OnOk, cond, is_none, is_some, refl, ap, sym, ◌∙◌, subst, arith}
 use Rattle.std.specs.Option.{option_map}
 use Rattle.std.specs.Prelude.{IsOk, IsSome}
+use Rattle.fifo_nodes.proofs.ChainLemmas.{chain_kept}
+use Rattle.pipe_ends.proofs.LinkLemmas.{links_same}
 use Rattle.kabi_types.specs.Arguments.{argument_fault}
 use Rattle.kabi_types.specs.PathParts.{components}
 use Rattle.kabi_types.specs.declared.calls.Call.{Call}
@@ -189,6 +191,7 @@ module _ (script : Script) (old : Objects) (heap : Heap) (fs : TreeView) (names 
       moves_elsewhere old mid refl same_procs
       (record { holds = holds_elsewhere old mid refl same_procs kept.holds named.listed named.owners; listed = named.listed; owners = named.owners })
       it.holds.bound named.places (it.files.tree, holders (others_in world.plain) it.files, it.holds.held.tree) (ap (λ (h : Heap). h.heap) named.changes)
+      (chain_kept old.heap heap old.fifos (links_same old.heap heap (ap (λ (h : Heap). h.pipes) named.changes)) kept.chain)
 
   pub kept_named : AreKept script mid
   kept_named = kept_turned script old mid named.world.1.kept moves

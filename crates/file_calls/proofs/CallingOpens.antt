@@ -58,7 +58,8 @@ use Rattle.store_objects.specs.FileWorlds.{HasTurned, LeavesCached, turned_in}
 use Rattle.store_objects.proofs.Answered.{answered_holding, turned_files}
 use Rattle.store_objects.proofs.Forgetting.{forgotten}
 use Rattle.store_objects.proofs.FileMoving.{kept_turned, runs_turned}
-use Rattle.store_objects.proofs.Serving.{serves, serves_begun}
+use Rattle.store_objects.proofs.Beginning.{serves_begun}
+use Rattle.store_objects.proofs.Serving.{serves}
 use Rattle.store_objects.proofs.Staying.{memory_holding, moves_holding}
 
 -- ---- what calls ask
@@ -113,7 +114,7 @@ module _ (script : Script) (old : Objects) (heap : Heap) (fs : TreeView) (table 
   mid = record { heap = heap; procs = old.procs; tree = fs; names = table; fifos = fifos }
 
   pub moves : FileMoves old mid
-  moves = moves_holding old mid pid refl changes kept.holds (alive_who_runs old pid control runs) listed owners chain bound places (keeps_some mid some)
+  moves = moves_holding old mid pid refl changes kept.holds (alive_who_runs old pid control runs) listed owners bound places (keeps_some mid some) chain
 
   pub kept_mid : AreKept script mid
   kept_mid = kept_turned script old mid kept moves

@@ -81,11 +81,11 @@ but_nodes pid proc = by_pid (proc.pid == pid)
 
 -- ---- the store
 
-module _ (script : Script) (old new : Objects) (pid : ℕ) (same : new.procs ≡ old.procs) (tree : new.tree ≡ old.tree) (names : new.names ≡ old.names)
+module _ (script : Script) (old new : Objects) (pid : ℕ) (same : new.procs ≡ old.procs) (tree : new.tree ≡ old.tree) (names : new.names ≡ old.names) (fifos : new.fifos ≡ old.fifos)
     (are : procs_of new ≡ map (cleared pid) (procs_of old)) (moves : TableMoves old.heap old.procs new.heap new.procs) where
   pub kept_forgotten : AreKept script old → AreKept script new
   kept_forgotten kept =
-      kept_on script old new kept tree names moves
+      kept_on script old new kept tree names fifos moves
       (subst (HoldLeaves new.heap.leaves) (sym are) (subst (λ leaves. HoldLeaves leaves (map (cleared pid) (procs_of old))) (sym (ap (λ (h : Heap). h.leaves) moves.kept)) (hold_nodes old.heap pid no_nodes (procs_of old) kept.leaves)))
       (subst (AllByRecursion (λ proc. length proc.nodes ≡ 4)) (sym are) (all_cleared (λ proc. length proc.nodes ≡ 4) pid (procs_of old) (λ proc long. refl) kept.groups))
       (subst (AreAtCalls script) (sym are)

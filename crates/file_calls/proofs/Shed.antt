@@ -40,8 +40,8 @@ module _ (script : Script) (old : Objects) (heap : Heap) (fs : TreeView) (table 
   new = record { heap = heap; procs = old.procs; tree = fs; names = table; fifos = fifos }
 
   pub moves_shed : FileMoves old new
-  moves_shed = moves_holding old new pid refl changes kept.holds alive listed owners chain some.hold.bound places
-      (keeps_some new (record { numbers = some.numbers; others = some.others; files = some.files; hold = some.hold.held }))
+  moves_shed = moves_holding old new pid refl changes kept.holds alive listed owners some.hold.bound places
+      (keeps_some new (record { numbers = some.numbers; others = some.others; files = some.files; hold = some.hold.held })) chain
 
   -- The store stands for the worlds in which it has closed them.
   pub stands_shed : QueuesStand old.heap heap → IsWellFormed old.heap

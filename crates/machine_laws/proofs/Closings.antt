@@ -42,7 +42,7 @@ module _ (Who : ℕ → Type 0) (Holds : Files → Type 0) (closed : IsClosedUnd
       go None = holds
       go (Some descriptor) = released_holds (with_open files pid fd None) descriptor.description (closed.shut files pid fd who holds)
 
-  closes_hold : (files : Files) (pid : ℕ) (fds : List ℕ) → Who pid → Holds files → Holds (after_closes files pid fds)
+  pub closes_hold : (files : Files) (pid : ℕ) (fds : List ℕ) → Who pid → Holds files → Holds (after_closes files pid fds)
   closes_hold files pid [] who holds = holds
   closes_hold files pid (fd ∷ fds) who holds = closes_hold (after_close files pid fd) pid fds who (close_holds files pid fd who holds)
 

@@ -52,3 +52,5 @@ pub mod Framing
 pub mod MemoryMoves
 pub mod FrameAnswers
 pub mod Ignoring
+pub mod FifosMade
+pub mod FifoLess

@@ -143,7 +143,7 @@ hung_looks tree dir parent = content_looks tree dir (under parent) directory soc
     fifo SocketName = refl
     fifo Fifo = refl
 
-hung_if_looks : (tree : Tree) (number parent : ℕ) → Looks tree (hung_if_directory tree number parent)
+pub hung_if_looks : (tree : Tree) (number parent : ℕ) → Looks tree (hung_if_directory tree number parent)
 hung_if_looks tree number parent = go (is_directory tree number)
   where
     go : (b : Bool) → Looks tree (cond b (hung tree number parent) tree)
@@ -393,7 +393,7 @@ over_turns tree dir name number to new replaced held opened busy freed used goes
     (λ one free. goes_on tree aimed opened busy freed replaced looks (goes (sym (looks.links replaced) ∙ one) free)) kept)
     (looks_on dropped taken (hung_if_directory taken number to) (entries_look dropped dir (entry_taken name)) (hung_if_looks taken number to)))
 
-to_looks : (tree : Tree) (dir : ℕ) (name : List ℕ) (number to : ℕ) (new : List ℕ) → Looks tree (rename_to tree dir name number to new)
+pub to_looks : (tree : Tree) (dir : ℕ) (name : List ℕ) (number to : ℕ) (new : List ℕ) → Looks tree (rename_to tree dir name number to new)
 to_looks tree dir name number to new = go (dir == to)
   where
     put : Tree

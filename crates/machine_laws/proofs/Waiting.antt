@@ -1,5 +1,6 @@
 -- An open that waits wakes where the other side was opened since.
-use Rattle.std.proofs.Common.{◌≡◌, ℕ, nat_lt, not, ℤ, pos, Bool, true, false, cond, List, None, Some, refl, ap, ◌∙◌}
+use Rattle.std.proofs.Common.{◌≡◌, ℕ, ◌<◌, nat_lt, not, ℤ, pos, Bool, true, false, cond, List, None, Some, refl, ap, ◌∙◌}
+use Rattle.std.proofs.lemmas.Bool.{lt-ltb}
 use Rattle.kabi_types.specs.Arguments.{argument_fault}
 use Rattle.kabi_types.specs.declared.calls.Call.TheVariants.{OpenFile}
 use Rattle.kabi_types.specs.declared.replies.Reply.TheVariants.{Val}
@@ -31,3 +32,20 @@ wakes_so script plain pid path flags opening opened place right waits named on =
     ∙ again_blocks script plain pid path flags opening waits
     ∙ ap (λ o. not (nat_lt opening.seen (others_opened plain.files o))) named
     ∙ ap (λ target. not (nat_lt opening.seen (others_opens plain.files opened.is target))) on
+
+pub again_tells : (script : Script) (plain : Plain) (pid : ℕ) (path : List ℕ) (flags : ℤ) (opening : HalfOpen) → opening_at plain.files pid ≡ Some opening
+    → is_met plain.files pid opening ≡ true → open_file script plain pid path flags ≡ replied script (with_files plain (with_opening plain.files pid None)) pid (Val (pos opening.fd))
+unfolding open_file
+again_tells script plain pid path flags opening waits met = ap (open_by script plain pid path flags) waits
+    ∙ ap (λ b. cond b (replied script (with_files plain (with_opening plain.files pid None)) pid (Val (pos opening.fd))) Blocked) met
+
+-- where the other side was opened since, the descriptor is told
+pub tells_so : (script : Script) (plain : Plain) (pid : ℕ) (path : List ℕ) (flags : ℤ) (opening : HalfOpen) (opened : Opened) (place : ℕ) → argument_fault (OpenFile path flags) ≡ None
+    → opening_at plain.files pid ≡ Some opening → opened_at plain.files pid (pos opening.fd) ≡ Some opened → opened.is.target ≡ OnPipe place
+    → opening.seen < opens_of (pipe_at plain.files place) (not (may_write opened.is.access))
+    → machine script plain pid (OpenFile path flags) ≡ replied script (with_files plain (with_opening plain.files pid None)) pid (Val (pos opening.fd))
+tells_so script plain pid path flags opening opened place right waits named on more =
+    ap (λ fault. unless_wrong script plain pid fault (answer_to script plain pid (OpenFile path flags))) right
+    ∙ again_tells script plain pid path flags opening waits
+    (ap (λ o. nat_lt opening.seen (others_opened plain.files o)) named ∙ ap (λ target. nat_lt opening.seen (others_opens plain.files opened.is target)) on
+    ∙ lt-ltb opening.seen (opens_of (pipe_at plain.files place) (not (may_write opened.is.access))) more)

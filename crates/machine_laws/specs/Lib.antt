@@ -12,3 +12,4 @@ pub mod Own
 pub mod Followed
 pub mod Framed
 pub mod Signals
+pub mod WithoutFifos

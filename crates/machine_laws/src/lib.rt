@@ -23,7 +23,10 @@ pub use ended::{
     every_description_is_named, what_is_open_is_named_in_every_machine,
     who_has_ended_has_nothing_open,
 };
-pub use fifos::{a_fifo_has_one_pipe, an_open_wakes_where_the_other_side_was_opened};
+pub use fifos::{
+    a_fifo_has_one_pipe, an_open_wakes_where_the_other_side_was_opened,
+    without_mkfifo_all_is_as_before,
+};
 pub use frames::{a_shared_frame_is_written_by_nobody, pages_of_a_frame_have_its_bytes};
 pub use halves::who_is_half_done_stands_at_a_write_or_an_open;
 pub use offsets::offsets_in_directories_stand_between_entries;

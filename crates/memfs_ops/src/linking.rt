@@ -1,4 +1,4 @@
-//! Further names of files and sockets.
+//! Further names of files, FIFOs and sockets.
 ghost use Rattle.std.specs.Prelude.{◌≡◌, ℕ, ◌<◌, ◌^◌, true, false, None, Ok};
 ghost use Rattle.std.specs.List.{All};
 ghost use Rattle.kabi_types.specs.Arguments.{path_fault};

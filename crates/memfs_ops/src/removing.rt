@@ -1,4 +1,4 @@
-//! Names that go: those of files and sockets, and of directories without entries.
+//! Names that go: those of files, FIFOs and sockets, and of directories without entries.
 ghost use Rattle.std.specs.Prelude.{◌≡◌, ◌≢◌, ℕ, ◌&&◌, ◌==◌, Bool, Option, List, true, false, not, None, Some, Ok, Err, Result, IsSome};
 ghost use Rattle.std.specs.List.{last_or};
 ghost use Rattle.std.specs.Option.{option_map};
@@ -104,7 +104,7 @@ impl FileTree {
         Ok(())
     }
 
-    /// Takes a name away, and with the last one its node, but for a file that someone holds. Answers the number of a socket's
+    /// Takes a name away, and with the last one its node, but for a file or a FIFO that someone holds. Answers the number of a socket's
     /// name that went. EPERM where it is a directory, ENOENT where the name is free, else the faults of the walk.
     ///
     /// See [unlink](https://pubs.opengroup.org/onlinepubs/9699919799/functions/unlink.html).

@@ -16,7 +16,7 @@ use kheap_slabs::{KHeap, Purse};
 
 impl FileTree {
     /// The program that a file names, by its place in the script: the file begins with `#!`, its name and a newline. EACCES
-    /// where the path leads to a directory or a socket's name, ENOEXEC where the file names none, else the faults of the walk.
+    /// where the path leads to a directory, a socket's name or a FIFO, ENOEXEC where the file names none, else the faults of the walk.
     ///
     /// Where all that is asked for on the way is cached, and what the first 30 bytes of the file are reached by, nothing is read.
     /// What was found is cached afterwards, by its name and its inode, and so is its first block. See

@@ -1,5 +1,5 @@
 -- What a process waits for of its children, behind a change of another process.
-use Rattle.std.proofs.Common.{◌≡◌, ◌≢◌, ℕ, zero, suc, ◌+◌, ◌==◌, ◌&&◌, ◌||◌, ◌≤◌, ℤ, Bool, true, false, if◌then◌else◌, List, [], ◌∷◌, ◌++◌, length, Option, None, Some, slice_get, slice_set, unwrap_or, refl, ap, ap₂, sym, ◌∙◌, inl, inr}
+use Rattle.std.proofs.Common.{◌≡◌, ◌≢◌, ℕ, zero, suc, ◌+◌, ◌==◌, ◌&&◌, ◌||◌, ◌≤◌, ℤ, false, if◌then◌else◌, [], ◌∷◌, ◌++◌, length, Option, None, Some, slice_get, slice_set, unwrap_or, refl, ap, ap₂, sym, inl, inr}
 use Rattle.std.specs.Option.{option_or}
 use Rattle.std.proofs.lemmas.Bool.Decides.{eqb_tells}
 use Rattle.kern_laws.proofs.TablePlaces.{same_in_front, with_other}

@@ -1,5 +1,5 @@
 -- What a call that moves bytes changes: the one queue that its number is open on, and of descriptions nothing but an offset.
-use Rattle.std.proofs.Common.{◌≡◌, ◌≢◌, ℕ, ◌+◌, ◌-◌, ◌≤◌, ◌==◌, ℤ, pos, Bool, true, false, cond, if◌then◌else◌, List, [], ◌∷◌, length, Option, None, Some, Result, Ok, Err, refl, ap, sym, ◌∙◌, subst, inl, inr, unwrap_or, slice_set}
+use Rattle.std.proofs.Common.{◌≡◌, ◌≢◌, ℕ, ◌+◌, ◌-◌, ◌≤◌, ◌==◌, ℤ, pos, Bool, true, false, cond, if◌then◌else◌, length, Option, None, Some, Result, Ok, Err, refl, ap, sym, ◌∙◌, subst, inl, inr, unwrap_or, slice_set}
 use Rattle.std.specs.Prelude.{slice_index_or}
 use Rattle.std.specs.Option.{option_map}
 use Rattle.std.proofs.lemmas.Bool.Decides.{eqb_tells}
@@ -17,17 +17,17 @@ use Rattle.posix_defs.proofs.SignalLemmas.{of_write}
 use Rattle.posix_defs.specs.Answer.{Answer, Blocked, Done, Ended, Part, replied}
 use Rattle.posix_defs.specs.Calls.Opened.{Opened, answer_on, on_open, opened_at}
 use Rattle.posix_defs.specs.Calls.Reading.{is_directory_target, of_bytes, read, read_from_pipe, read_from_socket, read_target}
-use Rattle.posix_defs.specs.Calls.Writing.{bytes_left, did_part, place_of_write, put_in_pipe, put_in_queue, put_in_socket, stopped, write, write_ignoring, write_queue, write_target, wrote}
+use Rattle.posix_defs.specs.Calls.Writing.{bytes_left, did_part, place_of_write, put_in_pipe, put_in_queue, put_in_socket, write, write_ignoring, write_queue, write_target, wrote}
 use Rattle.posix_defs.specs.Files.Descriptions.{Target, OnNode, OnPipe, OnSocket, at_offset, may_read, may_write}
-use Rattle.posix_defs.specs.Files.State.{Files, described_as, descriptors_of, pipe_at, with_pipe, with_sockets, with_tree}
-use Rattle.posix_defs.specs.Machine.{answer_to, machine, unless_wrong}
+use Rattle.posix_defs.specs.Files.State.{Files, descriptors_of, pipe_at, with_pipe, with_sockets, with_tree}
+use Rattle.posix_defs.specs.Machine.{machine, unless_wrong}
 use Rattle.posix_defs.specs.Memory.{Memory, is_mapped_range, stored}
 use Rattle.posix_defs.specs.PathCalls.{read_node}
 use Rattle.posix_defs.specs.Pipe.{Moving, Moves, Blocks, Fails, Pipe, after_read, after_write, new_pipe, opens_of, pipe_read, pipe_write}
 use Rattle.posix_defs.specs.Plain.{Plain, with_files}
 use Rattle.posix_defs.specs.Process.{Table, memory_of, process_at, remembering, with_memory}
 use Rattle.posix_defs.specs.Socket.{is_connected}
-use Rattle.posix_defs.specs.Sockets.{Sockets, after_read as socket_after_read, sock_read, sock_write, socket_at, stage_at}
+use Rattle.posix_defs.specs.Sockets.{Sockets, sock_read, sock_write, stage_at}
 use Rattle.posix_defs.specs.Tree.{Tree}
 use Rattle.posix_defs.specs.TreeChanges.{write as tree_write}
 use Rattle.waking_laws.specs.Waking.{meet, moves_through, target_at}

@@ -1,9 +1,7 @@
 -- Behind a turn that passes by each other process lives, and its next call blocks where it would have before.
-use Rattle.std.proofs.Common.{◌≡◌, ◌≢◌, ℕ, ◌≤◌, ℤ, pos, negsuc, Bool, true, false, Option, None, Some, is_some, unwrap_or, length, refl, ap, sym, ◌∙◌, subst}
-use Rattle.std.specs.Option.{option_map}
+use Rattle.std.proofs.Common.{◌≡◌, ◌≢◌, ℕ, ◌≤◌, Bool, true, false, unwrap_or, length, refl, ap, sym, ◌∙◌, subst}
 use Rattle.kabi_types.specs.declared.calls.Call.{Call}
 use Rattle.kabi_types.specs.declared.errnos.Errno.{Errno}
-use Rattle.kabi_types.specs.declared.replies.Reply.{Reply}
 use Rattle.kabi_types.specs.declared.replies.Reply.TheVariants as reply
 use Rattle.kabi_types.specs.declared.scripts.Control.{Control}
 use Rattle.kabi_types.specs.declared.scripts.Script.{Script}
@@ -12,28 +10,24 @@ use Rattle.kern_laws.proofs.Families.{alive_there}
 use Rattle.kern_laws.proofs.TablePlaces.{was_made}
 use Rattle.machine_laws.specs.Own.{IsLeftAlone}
 use Rattle.machine_laws.proofs.Alone.{answers_leave_alone}
-use Rattle.machine_laws.proofs.Tables.{at_other, true_false}
+use Rattle.machine_laws.proofs.Tables.{at_other}
 use Rattle.machine_laws.specs.Described.{AreDescribed}
 use Rattle.machine_laws.specs.FileSteps.{LeadsTo}
 use Rattle.machine_laws.specs.Reached.{IsReached}
-use Rattle.machine_laws.proofs.Naming.{by_named}
 use Rattle.machine_laws.proofs.Reaches.{reached_keeps}
 use Rattle.posix_defs.specs.Answer.{Answer, Blocked, Done, Ended, Part}
-use Rattle.posix_defs.specs.Calls.Opened.{Opened, opened_at, opened_by}
 use Rattle.posix_defs.specs.Control as program
-use Rattle.posix_defs.specs.Files.Descriptions.{Description, description_at}
-use Rattle.posix_defs.specs.Files.Descriptors.{Descriptor, descriptor_at, descriptor_of}
-use Rattle.posix_defs.specs.Files.State.{Files, descriptors_of, opening_at, pipe_at}
+use Rattle.posix_defs.specs.Files.State.{descriptors_of, opening_at, pipe_at}
 use Rattle.posix_defs.specs.Machine.{machine}
 use Rattle.posix_defs.specs.Pipe.{opens_of}
-use Rattle.posix_defs.specs.Plain.{Plain, answered, at_start, call_of, control_of, with_control}
-use Rattle.posix_defs.specs.Process.{is_alive, is_alive_in, memory_in}
+use Rattle.posix_defs.specs.Plain.{Plain, at_start, call_of, control_of, with_control}
+use Rattle.posix_defs.specs.Process.{is_alive, is_alive_in}
 use Rattle.posix_defs.specs.Turn.{Tells, TurnsTo, TurnsWhere}
 use Rattle.posix_defs.specs.World.{World}
 use Rattle.posix_defs.specs.declared.turner.Turned.{Turned}
 use Rattle.posix_defs.specs.declared.turner.Turned.TheVariants as turned
 use Rattle.waking_laws.specs.Waking.{StaysAsItWas, awaited, no_fifo, passes_by, wakes_nobody}
-use Rattle.waking_laws.proofs.Kin.{SameKin, same_table}
+use Rattle.waking_laws.proofs.Kin.{same_table}
 use Rattle.waking_laws.proofs.QuietCalls.{IsQuiet, QuietIf, quiet_answer, same_files}
 use Rattle.waking_laws.proofs.QuietFiles.{KeepsDescribed}
 use Rattle.waking_laws.proofs.Seeing.{blocks_alike}

@@ -8,7 +8,6 @@ use Rattle.kabi_types.specs.Arguments.{argument_fault, count_of, is_minus_one, p
 use Rattle.kabi_types.specs.declared.calls.Call.{Call}
 use Rattle.kabi_types.specs.declared.calls.Call.TheVariants as call
 use Rattle.kabi_types.specs.declared.errnos.Errno.{Errno}
-use Rattle.kabi_types.specs.declared.replies.Reply.{Reply}
 use Rattle.kabi_types.specs.declared.replies.StatInfo.{StatInfo}
 use Rattle.kabi_types.specs.declared.short_lists.PollEntry.{PollEntry}
 use Rattle.kabi_types.specs.declared.scripts.Script.{Script}
@@ -17,29 +16,28 @@ use Rattle.machine_laws.proofs.FifoPlaces.{fifo_at_is, not_zero}
 use Rattle.machine_laws.proofs.Leading.{leads_on}
 use Rattle.machine_laws.proofs.Places.{naming, there_within}
 use Rattle.machine_laws.proofs.Stepping.{end_at}
-use Rattle.posix_defs.specs.Answer.{Answer, Blocked, Done, Ended, Part, failed, replied}
+use Rattle.posix_defs.specs.Answer.{Answer, Blocked, Done, Ended, Part}
 use Rattle.posix_defs.specs.Calls.OnDescriptors.{dup, duplicated, shared_at}
 use Rattle.posix_defs.specs.Calls.OnFiles.{description_for, end_opened, fifo_at, fifo_fault, fifo_pipe, fifo_waits, fstat, ftruncate, greatest_offset, is_between_entries, is_met, lseek, open_at, open_by, open_end, open_file, opened_node_as, opening_of, origin, resized_to, seek_target, seek_to, truncate_target}
 use Rattle.posix_defs.specs.Calls.OnNames.{chdir, freed_in, is_busy, link, made_node, mkdir, mkfifo, rename, renamed, retreed, rmdir, stat, told_of, unlink, works_from}
 use Rattle.posix_defs.specs.Calls.OnPipes.{pipe, piped, piped_under}
-use Rattle.posix_defs.specs.Calls.OnSockets.{bind, bind_at, description_of, bound_to, on_socket, socket, socket_target, socketed, socketed_under, unless_fault}
-use Rattle.posix_defs.specs.Calls.Opened.{Opened, answer_on, if_readable, if_writable, moved_to, on_open, opened_at}
+use Rattle.posix_defs.specs.Calls.OnSockets.{bind, bind_at, description_of, bound_to, socket, socket_target, socketed, socketed_under, unless_fault}
+use Rattle.posix_defs.specs.Calls.Opened.{Opened, answer_on, on_open, opened_at}
 use Rattle.posix_defs.specs.Calls.Polling.{hits_of, poll, revents_of}
-use Rattle.posix_defs.specs.Calls.Reading.{list_directory, list_target, of_bytes, pread, pread_target, readdir}
+use Rattle.posix_defs.specs.Calls.Reading.{list_target, of_bytes, pread, pread_target, readdir}
 use Rattle.posix_defs.specs.Calls.Writing.{bytes_left, pwrite, pwrite_target, wrote_at}
 use Rattle.posix_defs.specs.Files.Descriptors.{Two, lowest_free, two_lowest_free}
 use Rattle.posix_defs.specs.Files.Descriptions.{Description, Target, OnNode, OnPipe, OnSocket, ReadOnly, WriteOnly, access_of, at_offset, has_flag, may_read, may_write, new_description, o_cloexec}
-use Rattle.posix_defs.specs.Files.SocketNames.{after_freeing}
 use Rattle.posix_defs.specs.Files.State.{Files, HalfOpen, described_as, descriptors_of, opened_as, opening_at, opens, pipe_at, with_heir, with_opening, with_pipes, with_sockets, with_tree}
 use Rattle.posix_defs.specs.Files.Whole.{is_open}
-use Rattle.posix_defs.specs.Forking.{child_of, fork, is_full, with_child}
+use Rattle.posix_defs.specs.Forking.{fork, is_full}
 use Rattle.posix_defs.specs.Machine.{answer_to, machine, unless_wrong}
 use Rattle.posix_defs.specs.Memory.{Memory, is_mapped_range, lowest_run, stored, with_pages, without_pages}
-use Rattle.posix_defs.specs.MemoryCalls.{in_range, mapped_from, mmap, munmap, remembered}
+use Rattle.posix_defs.specs.MemoryCalls.{in_range, mapped_from, mmap}
 use Rattle.posix_defs.specs.Needs.{pages_in, pages_touched}
 use Rattle.posix_defs.specs.PathCalls.{bind_path, enter_path, is_fifo, link_path, list_node, read_node, mkdir_path, mkfifo_path, open_path, rename_path, rmdir_path, stat_path, unlink_path}
 use Rattle.posix_defs.specs.Pipe.{Pipe, new_pipe, unopened, with_end}
-use Rattle.posix_defs.specs.Plain.{Plain, answered, with_files, with_table}
+use Rattle.posix_defs.specs.Plain.{Plain}
 use Rattle.posix_defs.specs.Process.{Ignores, Process, directory_of, ignores_of, ignoring, memory_of, process_at, remembering, with_memory, working_in}
 use Rattle.posix_defs.specs.Signals.{sig_ign, signal, with_disposition}
 use Rattle.posix_defs.specs.Socket.{bind_fault}

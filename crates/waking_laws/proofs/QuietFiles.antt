@@ -1,16 +1,16 @@
 -- Changes of files that leave queues as they are, and of each description all but its offset.
-use Rattle.std.proofs.Common.{◌≡◌, ℕ, zero, suc, ◌+◌, ℤ, Bool, true, false, cond, List, [], ◌∷◌, ◌++◌, length, Option, None, Some, map, is_some, refl, ap, sym, ◌∙◌, subst, inl, inr, unwrap_or, slice_set}
+use Rattle.std.proofs.Common.{◌≡◌, ℕ, zero, suc, ◌+◌, Bool, true, false, cond, List, [], ◌∷◌, ◌++◌, length, Option, None, Some, map, refl, ap, sym, ◌∙◌, subst, inl, inr, unwrap_or, slice_set}
 use Rattle.std.specs.Prelude.{slice_index_or}
 use Rattle.std.specs.Option.{option_map}
 use Rattle.std.proofs.lemmas.List.{get_or_append_left, get_or-set_same, get_or-set_other}
 use Rattle.std.proofs.lemmas.Bool.Decides.{eqb_tells}
 use Rattle.machine_laws.proofs.Places.{there_within}
-use Rattle.posix_defs.specs.Files.Descriptions.{Access, Description, Descriptions, Target, description_at}
+use Rattle.posix_defs.specs.Files.Descriptions.{Description, description_at}
 use Rattle.posix_defs.specs.Files.SocketNames.{after_freeing, none_bound_to, unnamed}
-use Rattle.posix_defs.specs.Files.State.{Files, described_as, is_number, opened_as, pipe_at, with_open, with_pipes, with_sockets}
+use Rattle.posix_defs.specs.Files.State.{Files, described_as, is_number, opened_as, pipe_at, with_pipes}
 use Rattle.posix_defs.specs.Pipe.{Pipe, new_pipe}
-use Rattle.posix_defs.specs.Socket.{Socket, Stage, new_socket}
-use Rattle.posix_defs.specs.Sockets.{Sockets, sock_at, socket_at, stage_at, with_name, with_new, with_socket}
+use Rattle.posix_defs.specs.Socket.{Socket, new_socket}
+use Rattle.posix_defs.specs.Sockets.{Sockets, sock_at, socket_at, with_name, with_new, with_socket}
 use Rattle.waking_laws.proofs.Seeing.{SameSockets}
 
 -- a description that is open on the same and for the same, and waits or doesn't as before

@@ -1,13 +1,12 @@
 -- Of two machines that a process sees as the same, its next call blocks in both or in neither.
-use Rattle.std.proofs.Common.{◌≡◌, ℕ, pos, negsuc, ℤ, ◌+◌, ◌-◌, ◌==◌, ◌&&◌, ◌||◌, not, nat_lt, min, Bool, true, false, if◌then◌else◌, List, [], ◌∷◌, length, map, Option, None, Some, is_some, Result, Ok, Err, refl, ap, ap₂, sym, subst, ◌∙◌}
+use Rattle.std.proofs.Common.{◌≡◌, ℕ, pos, negsuc, ℤ, ◌+◌, ◌-◌, ◌==◌, ◌&&◌, ◌||◌, not, nat_lt, min, Bool, true, false, if◌then◌else◌, List, [], ◌∷◌, length, map, Option, None, Some, is_some, Result, Ok, Err, refl, ap, ap₂, sym, ◌∙◌}
 use Rattle.std.specs.List.{AllByRecursion}
 use Rattle.std.specs.Option.{option_map}
 use Rattle.kabi_types.specs.Arguments.{argument_fault, count_of, is_minus_one}
 use Rattle.kabi_types.specs.declared.calls.Call.{Call}
 use Rattle.kabi_types.specs.declared.calls.Call.TheVariants as call
 use Rattle.kabi_types.specs.declared.errnos.Errno.{Errno}
-use Rattle.kabi_types.specs.declared.errnos.Errno.TheVariants.{EBADF, ECHILD, EFAULT, EISDIR, ENOTCONN, EPIPE}
-use Rattle.kabi_types.specs.declared.replies.Reply.{Reply}
+use Rattle.kabi_types.specs.declared.errnos.Errno.TheVariants.{ECHILD, EFAULT, EISDIR, EPIPE}
 use Rattle.kabi_types.specs.declared.replies.Reply.TheVariants.{Polled, Val}
 use Rattle.kabi_types.specs.declared.short_lists.PollEntry.{PollEntry}
 use Rattle.kabi_types.specs.declared.scripts.Script.{Script}
@@ -19,11 +18,11 @@ use Rattle.posix_defs.specs.Control as program
 use Rattle.posix_defs.specs.Calls.OnFiles.{end_awaits, end_opened, fifo_fault, fifo_pipe, fifo_waits, is_met, open_at, open_by, open_end, open_fifo, open_file, open_node, opened_node_as, opening_of, others_opened, others_opens}
 use Rattle.posix_defs.specs.Calls.OnSockets.{accept, accept_at, accepted_under, socket_target}
 use Rattle.posix_defs.specs.Calls.Opened.{Opened, answer_on, opened_at}
-use Rattle.posix_defs.specs.Calls.Polling.{hits_of, poll, polled, polled_at, polled_node, polled_opened, polled_target, revents_of}
+use Rattle.posix_defs.specs.Calls.Polling.{hits_of, poll, polled, polled_at, polled_opened, polled_target, revents_of}
 use Rattle.posix_defs.specs.Calls.Reading.{is_directory_target, of_bytes, read, read_from_pipe, read_from_socket, read_target, unless_directory}
 use Rattle.posix_defs.specs.Calls.Writing.{bytes_left, did_part, put_in_socket, put_in_pipe, write, write_ignoring, write_queue, write_target, wrote}
 use Rattle.posix_defs.specs.Files.Descriptors.{lowest_free}
-use Rattle.posix_defs.specs.Files.Descriptions.{Access, Target, OnNode, OnPipe, OnSocket, may_read, may_write}
+use Rattle.posix_defs.specs.Files.Descriptions.{Target, OnNode, OnPipe, OnSocket, may_read, may_write}
 use Rattle.posix_defs.specs.Files.State.{Files, HalfOpen, descriptors_of, opening_at, pipe_at, with_opening}
 use Rattle.posix_defs.specs.Machine.{blocks, machine, unless_wrong, would_block}
 use Rattle.posix_defs.specs.Memory.{is_mapped_range}
@@ -32,7 +31,7 @@ use Rattle.posix_defs.specs.Plain.{Plain, call_of, control_of, with_files}
 use Rattle.posix_defs.specs.PathCalls.{is_fifo, open_path}
 use Rattle.posix_defs.specs.Process.{directory_of, memory_of}
 use Rattle.posix_defs.specs.Socket.{Accepting, Stage, Idle, Listening, Connected, Takes, Waits, Refuses, accept as accept_in, is_connected, is_shut_read, is_shut_write}
-use Rattle.posix_defs.specs.Sockets.{Sockets, free_at, polled_connected, polled_in_stage, read_connected, read_in_stage, sock_polled, sock_read, sock_write, socket_at, stage_at, write_in_stage, write_to, write_within, writes_no_more}
+use Rattle.posix_defs.specs.Sockets.{Sockets, free_at, polled_in_stage, read_in_stage, sock_polled, sock_read, sock_write, socket_at, stage_at, write_in_stage, write_within}
 use Rattle.posix_defs.specs.Tree.{Tree, is_directory}
 use Rattle.posix_defs.specs.Waiting.{Exited, any_from, exited_from, is_nohang, not_yet, waited_for, waitpid}
 use Rattle.waking_laws.specs.Waking.{awaited, target_at}

@@ -1,5 +1,5 @@
 -- What a process sees of a machine in which descriptions stay: its numbers are open on what they were open on.
-use Rattle.std.proofs.Common.{◌≡◌, ℕ, ℤ, pos, negsuc, Bool, true, false, List, [], ◌∷◌, Option, None, Some, is_some, refl, ap, sym, ◌∙◌, subst}
+use Rattle.std.proofs.Common.{◌≡◌, ℕ, ℤ, pos, negsuc, Bool, true, List, [], ◌∷◌, Option, None, Some, is_some, refl, ap, sym, subst}
 use Rattle.std.specs.Option.{option_map}
 use Rattle.kabi_types.specs.declared.scripts.Script.{Script}
 use Rattle.machine_laws.proofs.Naming.{by_named}

@@ -1,16 +1,11 @@
-use Rattle.std.proofs.Common.{None, Some, ap, refl, sym, subst, ◌∙◌}
+use Rattle.std.proofs.Common.{Some, ap, sym, subst, ◌∙◌}
 use Rattle.posix_defs.specs.World.{World}
 use Rattle.proc_table.specs.Opening.{half_in}
 use Rattle.store_objects.specs.Standing.{StandsFor, waiting_in}
 use Rattle.store_objects.proofs.Callers.{placed_on}
-use Rattle.store_objects.proofs.GoingOn.{kept_waits, runs_waits, stands_waits}
+use Rattle.store_objects.proofs.Sleeping.{kept_sleeping, runs_sleeping, stands_sleeping}
 use Rattle.file_calls.specs.Opening.{came_in, told_of}
 use Rattle.file_calls.proofs.opening.go_on_opened.Goals as goal
-
--- ---- its number is told
-
-pub returns-in-Ok-Over-clause-told : goal.returns-in-Ok-Over-clause-told
-returns-in-Ok-Over-clause-told c = c.go_on.ensures.told ∙ sym (ap told_of c.in-Ok-Over.is)
 
 -- ---- it waits
 
@@ -19,11 +14,11 @@ wait_in-requires-clause-stored c = c.requires.kept.holds.stored
 
 pub do_part-requires-clause-kept : goal.do_part-requires-clause-kept
 do_part-requires-clause-kept c =
-    (c.args.script.now, kept_waits c.args.script.now c.args.objects.now c.wait_in.new.self c.args.caller.now.place.pid c.args.caller.now.control _ c.requires.kept c.requires.runs c.wait_in.ensures)
+    (c.args.script.now, kept_sleeping c.args.script.now c.args.objects.now c.wait_in.new.self c.args.caller.now.place.pid _ c.requires.kept c.wait_in.ensures)
 
 pub do_part-requires-clause-runs : goal.do_part-requires-clause-runs
 do_part-requires-clause-runs c =
-    runs_waits c.args.objects.now c.wait_in.new.self c.args.caller.now.place.pid c.args.caller.now.control _ c.requires.runs c.wait_in.ensures
+    runs_sleeping c.args.script.now c.args.objects.now c.wait_in.new.self c.args.caller.now.place.pid _ c.requires.kept c.wait_in.ensures c.args.caller.now.control c.requires.runs
 
 pub do_part-requires-clause-placed : goal.do_part-requires-clause-placed
 do_part-requires-clause-placed c = placed_on c.args.objects.now c.wait_in.new.self c.args.caller.now.place c.wait_in.ensures.same c.requires.placed

@@ -1,8 +1,8 @@
 use Rattle.std.proofs.Common.{◌≡◌, Bool, true, false, not, None, sym, ap, ◌∙◌}
 use Rattle.proc_table.specs.Opening.{half_in}
 use Rattle.store_objects.proofs.Callers.{placed_on}
-use Rattle.store_objects.proofs.GoingOn.{kept_waits, runs_waits, stands_waits}
 use Rattle.store_objects.proofs.Keeping.{listed_in}
+use Rattle.store_objects.proofs.Sleeping.{kept_sleeping, runs_sleeping, stands_sleeping}
 use Rattle.file_calls.proofs.Waiting.{serves_asleep, serves_awake}
 use Rattle.file_calls.proofs.opening.open_again.Goals as goal
 
@@ -29,11 +29,11 @@ wait_in-requires-clause-stored c = c.requires.stands.1.kept.holds.stored
 
 pub go_on-requires-clause-kept : goal.go_on-requires-clause-kept
 go_on-requires-clause-kept c =
-    kept_waits c.args.script.now c.args.objects.now c.wait_in.new.self c.args.caller.now.place.pid c.args.caller.now.control None c.requires.stands.1.kept c.requires.runs c.wait_in.ensures
+    kept_sleeping c.args.script.now c.args.objects.now c.wait_in.new.self c.args.caller.now.place.pid None c.requires.stands.1.kept c.wait_in.ensures
 
 pub go_on-requires-clause-runs : goal.go_on-requires-clause-runs
 go_on-requires-clause-runs c =
-    runs_waits c.args.objects.now c.wait_in.new.self c.args.caller.now.place.pid c.args.caller.now.control None c.requires.runs c.wait_in.ensures
+    runs_sleeping c.args.script.now c.args.objects.now c.wait_in.new.self c.args.caller.now.place.pid None c.requires.stands.1.kept c.wait_in.ensures c.args.caller.now.control c.requires.runs
 
 pub go_on-requires-clause-placed : goal.go_on-requires-clause-placed
 go_on-requires-clause-placed c = placed_on c.args.objects.now c.wait_in.new.self c.args.caller.now.place c.wait_in.ensures.same c.requires.placed
@@ -42,5 +42,5 @@ pub returns-clause-does : goal.returns-clause-does
 returns-clause-does c = λ path flags.
     serves_awake c.args.script.now c.args.objects.now c.args.caller.now.place.pid path flags (half_in c.args.opening) c.requires.sleeps c.wait_in.new.self c.go_on.new.objects c.go_on.result
     (λ world stands. sym (c.is_met.ensures stands.files.numbers world.plain.files stands.files.opened) ∙ c.if-not-is_met.false)
-    (λ world stands. stands_waits c.args.script.now c.args.objects.now c.wait_in.new.self c.args.caller.now.place.pid c.args.caller.now.control None world stands c.requires.runs c.wait_in.ensures)
+    (λ world stands. stands_sleeping c.args.script.now c.args.objects.now c.wait_in.new.self c.args.caller.now.place.pid None stands.kept c.wait_in.ensures world stands)
     c.go_on.ensures.told c.go_on.ensures.goes
