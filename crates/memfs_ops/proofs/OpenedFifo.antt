@@ -87,10 +87,10 @@ there_was tree how node number after at is =
 some_link : (tree : Tree) (dir : ℕ) (name : List ℕ) (number : ℕ) → IsTree tree → found tree dir name ≡ Some number → 0 < links_at tree number
 some_link tree dir name number is there = let named = found_named tree dir name number there in omega (arith, named, is.links number)
 
-abbrev WasThere : Tree → ℕ → Tree → Type 0
+abbrev pub WasThere : Tree → ℕ → Tree → Type 0
 WasThere tree number after = (after ≡ tree) × (is_fifo tree number ≡ true) × (0 < links_at tree number)
 
-fifo_led : (tree : Tree) (how : Opening) (led : Walked) (number : ℕ) (after : Tree) → IsTree tree → IsLed tree led → open_led tree how led ≡ Ok (number, after) → is_fifo after number ≡ true
+pub fifo_led : (tree : Tree) (how : Opening) (led : Walked) (number : ℕ) (after : Tree) → IsTree tree → IsLed tree led → open_led tree how led ≡ Ok (number, after) → is_fifo after number ≡ true
     → WasThere tree number after
 fifo_led tree how (walked.Node node) number after is there at fifo =
     let was = there_was tree how node number after at fifo in
