@@ -8,7 +8,7 @@ use Rattle.kabi_types.specs.declared.inodes.DirEntry.{DirEntry}
 use Rattle.posix_defs.specs.DiskFormat.{entry_bytes, greatest_size}
 use Rattle.posix_defs.specs.IsTree.{IsTree}
 use Rattle.posix_defs.specs.PathCalls.{all_entries, bytes_in, bytes_of, list_node, read_node}
-use Rattle.posix_defs.specs.Tree.{Content, Directory, File, Node, Fifo, SocketName, Tree, entries_at, is_directory, node_at, size_of}
+use Rattle.posix_defs.specs.Tree.{Content, Directory, Fifo, File, Node, SocketName, Tree, entries_at, is_directory, node_at, size_of}
 use Rattle.tree_laws.proofs.TreeKeeps.{entries_are, entries_fit}
 
 -- ---- files
