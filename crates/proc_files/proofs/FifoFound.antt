@@ -51,7 +51,7 @@ none_from number from (first ∷ pipes) e at = by_first (is_of_fifo number first
     by_first false is f (suc k) = none_from number (from + 1) pipes f k
 
 -- a pipe stands at a place, which is that of this FIFO
-record StandsAt (files : Files) (node place : ℕ) : Type 0 where
+pub record StandsAt (files : Files) (node place : ℕ) : Type 0 where
   pub pipe : Pipe
   pub is : slice_index_or files.pipes place None ≡ Some pipe
   pub of : pipe.node ≡ node
@@ -63,7 +63,7 @@ of_fifo node (Some pipe) e = elim (eqb_tells pipe.node node) [
   | inr apart ↦ absurd (false≢true (sym apart.0 ∙ e))
 ]
 
-stands_at : (files : Files) (node place : ℕ) → fifo_at files node ≡ Some place → StandsAt files node place
+pub stands_at : (files : Files) (node place : ℕ) → fifo_at files node ≡ Some place → StandsAt files node place
 stands_at files node place e =
     let first = found_from node 0 files.pipes place e in
     let same : first.behind ≡ place = (let is = first.is in omega (arith, is)) in

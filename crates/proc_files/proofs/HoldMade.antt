@@ -10,9 +10,11 @@ use Rattle.memfs_ops.specs.FileTree.{Stands, TreeView, one_more}
 use Rattle.memfs_ops.specs.Opening.{OpenedAs}
 use Rattle.open_laws.specs.Described.{CountedList, uncounted}
 use Rattle.open_laws.specs.Placed.{Numbers}
-use Rattle.posix_defs.specs.Calls.OnFiles.{description_for}
-use Rattle.posix_defs.specs.Files.Descriptions.{Description, Descriptions, OnNode, access_of, description_at, o_cloexec, has_flag}
-use Rattle.posix_defs.specs.Files.State.{Files, beside, node_of, nodes_among, opened_as, with_tree}
+use Rattle.posix_defs.specs.Calls.OnFiles.{description_on}
+use Rattle.posix_defs.specs.Files.Descriptions.{Description, Descriptions, OnNode, Target, access_of, description_at, o_cloexec, has_flag}
+use Rattle.posix_defs.specs.Files.State.{Files, beside, node_of, nodes_among, opened_as, opened_nodes}
+use Rattle.posix_defs.specs.PathCalls.{is_fifo}
+use Rattle.posix_defs.specs.Pipe.{Pipe}
 use Rattle.posix_defs.specs.Tree.{Tree}
 use Rattle.posix_defs.proofs.TreeNodes.{directory_in_use}
 use Rattle.proc_table.specs.Table.{TableView}
@@ -21,10 +23,10 @@ use Rattle.proc_numbers.specs.Having.{HaveOpen}
 use Rattle.proc_numbers.proofs.Sums.{one_if}
 use Rattle.proc_numbers.proofs.Made.{longer}
 use Rattle.proc_files.specs.Holding.{HoldFiles}
-use Rattle.proc_files.specs.Holders.{AreOpenNodes, holders, IsOpenNode, times}
+use Rattle.proc_files.specs.Holders.{AreOpenNodes, HoldDirectories, holders, IsOpenNode, times}
+use Rattle.proc_files.specs.Opening.{LeadsTo}
 use Rattle.proc_files.proofs.Holding.{same_pins}
-use Rattle.proc_files.proofs.Openings.{nodes_made, times_beside, times_cons}
-use Rattle.proc_files.proofs.OpenLeads.{LeadsTo}
+use Rattle.proc_files.proofs.Openings.{OpenTheSame, nodes_made, times_beside, times_cons}
 
 -- ---- the answer of the tree
 
@@ -54,60 +56,69 @@ opened_not h fs tree (Err fault) pins errno is = (ap (λ e. Err e) (fault_of is.
 
 -- ---- a description more
 
-module _ (others : ℕ → ℕ) (files : Files) (next : Tree) (node : ℕ) (flags : ℤ) (pid fd : ℕ) (leads : LeadsTo files.tree next node (access_of flags)) where
+-- a description that opens a node, by its number or by an end of its FIFO, is made where the node is held once more
+module _ (others : ℕ → ℕ) (files : Files) (pipes : List (Option Pipe)) (next : Tree) (node : ℕ) (what : Target) (flags : ℤ) (pid fd : ℕ) (leads : LeadsTo files.tree next node (access_of flags))
+    (same : OpenTheSame (record files { tree = next; pipes = pipes }) files files.descriptions) (on : node_of (record files { tree = next; pipes = pipes }) what ≡ Some node)
+    (no_fifo : (number : ℕ) → what ≡ OnNode number → is_fifo next number ≡ false) where
+  abbrev pub base : Files
+  base = record files { tree = next; pipes = pipes }
+
   abbrev pub after_open : Files
-  after_open = opened_as (with_tree files next) pid fd (has_flag flags o_cloexec) (description_for node flags)
+  after_open = opened_as base pid fd (has_flag flags o_cloexec) (description_on what flags)
 
   pins_then : (n : ℕ) → one_more (holders others files) node n ≡ holders others after_open n
   pins_then n =
-      let made = nodes_made after_open files files.descriptions (description_for node flags) n in
+      let made : times n (opened_nodes after_open) ≡ times n (opened_nodes files) + times n (beside (node_of base what) []) = nodes_made after_open files files.descriptions (description_on what flags) n same in
+      let it : times n (beside (node_of base what) []) ≡ times n (node ∷ []) = ap (λ o. times n (beside o [])) on in
       let one = times_cons n node [] in
       let none : times n [] ≡ 0 = refl in
       elim (cases_eq node n) [
-        | inl same ↦
-            let here : one_if (node == n) ≡ 1 = ap one_if (eq-eqb node n same) in
-            ap (λ b. cond b (holders others files n + 1) (holders others files n)) (eq-eqb node n same) ∙ omega (arith, made, one, none, here)
+        | inl same_node ↦
+            let here : one_if (node == n) ≡ 1 = ap one_if (eq-eqb node n same_node) in
+            ap (λ b. cond b (holders others files n + 1) (holders others files n)) (eq-eqb node n same_node) ∙ omega (arith, made, it, one, none, here)
         | inr apart ↦
             let off : one_if (node == n) ≡ 0 = ap one_if (ne_eqb node n apart) in
-            ap (λ b. cond b (holders others files n + 1) (holders others files n)) (ne_eqb node n apart) ∙ omega (arith, made, one, none, off)
+            ap (λ b. cond b (holders others files n + 1) (holders others files n)) (ne_eqb node n apart) ∙ omega (arith, made, it, one, none, off)
       ]
 
-  it_is_open : IsOpenNode next (description_for node flags) node
-  it_is_open = record { used = leads.there; unnamed = leads.unnamed; reads = leads.reads; between = λ is. refl }
+  it_is_open : IsOpenNode next (description_on what flags) node
+  it_is_open = record { used = leads.there; unnamed = leads.unnamed; reads = leads.reads; between = λ is. refl; no_fifo = no_fifo node }
 
   nodes_then : AreOpenNodes files → AreOpenNodes after_open
-  nodes_then nodes place number d there on = elim (cases_eq place (length files.descriptions)) [
-    | inl same ↦
-        let it : d ≡ description_for node flags =
-        some_same (description_at after_open.descriptions place) d (description_for node flags) there
-        (get_or_at files.descriptions (Some (description_for node flags)) [] None place (sym same)) in
-        let number_is : node ≡ number = number_of number (sym (ap (λ (x : Description). x.target) it) ∙ on) in
+  nodes_then nodes place number d there named = elim (cases_eq place (length files.descriptions)) [
+    | inl last ↦
+        let it : d ≡ description_on what flags =
+        some_same (description_at after_open.descriptions place) d (description_on what flags) there
+        (get_or_at files.descriptions (Some (description_on what flags)) [] None place (sym last)) in
+        let number_is : node ≡ number = number_of number (sym on ∙ sym (ap (λ (x : Description). node_of base x.target) it) ∙ named) in
         subst (λ n. IsOpenNode next d n) number_is (subst (λ (x : Description). IsOpenNode next x node) (sym it) it_is_open)
     | inr apart ↦
-        let was = nodes place number d (sym (longer files.descriptions (Some (description_for node flags)) place apart) ∙ there) on in
+        let before : description_at files.descriptions place ≡ Some d = sym (longer files.descriptions (Some (description_on what flags)) place apart) ∙ there in
+        let was = nodes place number d before (sym (same place d before) ∙ named) in
         record {
           used = leads.used number was.used;
           unnamed = leads.sockets number was.used ∙ was.unnamed;
           reads = λ is. was.reads (sym (leads.directories number was.used) ∙ is);
           between = λ is. was.between (sym (leads.directories number was.used) ∙ is);
+          no_fifo = λ target. leads.fifos number was.used ∙ was.no_fifo target;
         }
   ]
     where
-      number_of : (n : ℕ) → OnNode node ≡ OnNode n → node ≡ n
+      number_of : (n : ℕ) → Some node ≡ Some n → node ≡ n
       number_of n e = cc
 
-  pub hold_made : (numbers now : Numbers) (old new : Heap) (kept : TableView) (fs is : TreeView) → HoldFiles numbers others old kept fs files → HaveOpen now new kept after_open
+  pub hold_made : (now : Numbers) (new : Heap) (kept : TableView) (is : TreeView) → AreOpenNodes files → HoldDirectories others files.tree → HaveOpen now new kept after_open
       → Stands new is next (one_more (holders others files) node) → HoldFiles now others new kept is after_open
-  hold_made numbers now old new kept fs is hold have stands = record {
+  hold_made now new kept is nodes beside have stands = record {
     opened = have;
     tree = same_pins new is next (one_more (holders others files) node) (holders others after_open) pins_then stands;
-    nodes = nodes_then hold.nodes;
+    nodes = nodes_then nodes;
     beside = record {
-      root = hold.beside.root;
+      root = beside.root;
       directories = λ n some.
-          let was = hold.beside.directories n some in
+          let was = beside.directories n some in
           leads.directories n (directory_in_use files.tree n was) ∙ was;
-      few = hold.beside.few;
+      few = beside.few;
     };
   }
 

@@ -8,7 +8,7 @@ use Rattle.kabi_types.specs.declared.inodes.DirEntry.{DirEntry}
 use Rattle.posix_defs.specs.DiskFormat.{entry_bytes, greatest_size}
 use Rattle.posix_defs.specs.IsTree.{IsTree}
 use Rattle.posix_defs.specs.PathCalls.{all_entries, bytes_in, bytes_of, list_node, read_node}
-use Rattle.posix_defs.specs.Tree.{Content, Directory, File, Node, SocketName, Tree, entries_at, is_directory, node_at, size_of}
+use Rattle.posix_defs.specs.Tree.{Content, Directory, Fifo, File, Node, SocketName, Tree, entries_at, is_directory, node_at, size_of}
 use Rattle.tree_laws.proofs.TreeKeeps.{entries_are, entries_fit}
 
 -- ---- files
@@ -17,6 +17,7 @@ bytes_few : (content : Content) → length (bytes_of content) ≤ size_of conten
 bytes_few (File bytes) = omega arith
 bytes_few (Directory parent entries) = omega arith
 bytes_few SocketName = omega arith
+bytes_few Fifo = omega arith
 
 file_few : (tree : Tree) (number : ℕ) → IsTree tree → length (bytes_in (node_at tree number)) ≤ greatest_size
 file_few tree number is = by_node (node_at tree number) refl

@@ -191,16 +191,14 @@ fn open_fifo(
     requires there { IsPlaced procs.now place }
     requires number { fd < most_descriptors }
     requires free { named_at heap.old procs.now place.pid fd ≡ None }
-    requires led { HasLedSome heap.old procs.now tree.old node flags }
-    requires fifo { (numbers : Numbers) (others : ℕ → ℕ) (files : Files) (next : Tree)
-        → HasLed numbers others heap.old procs.now tree.old files next node flags → is_fifo next node ≡ true }
+    requires led { (led : HasLedSome heap.old procs.now tree.old node flags) × (is_fifo led.next node ≡ true) }
     requires pays { CanPay heap.old purse.old }
     requires fills { HasFills heap.old purse.old }
     requires left { 0 < purse.old.left.desc }
     requires left_leaf { 0 < purse.old.left.leaf }
     requires left_pipe { 0 < purse.old.left.pipe }
     ensures answers { (numbers : Numbers) (others : ℕ → ℕ) (script : Script) (plain : Plain) (next : Tree)
-        → HasLed numbers others heap.old procs.now tree.old plain.files next node flags
+        → HasLed numbers others heap.old procs.now tree.old plain.files next node flags → is_fifo next node ≡ true
         → AnswersOpening numbers others heap.old heap.new procs.now tree.new script plain place.pid (plain_open script plain place.pid flags fd node) result }
     ensures listed { AreListed heap.new procs.now }
     ensures owners { HasItsOwners heap.new [] }

@@ -15,7 +15,7 @@ use Rattle.proc_files.specs.Holders.{holders}
 use Rattle.proc_table.specs.Changes.{ended, is_other}
 use Rattle.proc_table.specs.Moves.{TableMoves}
 use Rattle.proc_table.specs.Opening.{HaveOpen as TableOpen}
-use Rattle.proc_table.specs.Procs.{HasClosed, closed_all, numbers_in, proc_of}
+use Rattle.proc_table.specs.Procs.{HasClosed, numbers_in, proc_of}
 use Rattle.proc_table.proofs.OpenLemmas.{have_ended}
 use Rattle.proc_table.proofs.PlaceLemmas.{eqb_other}
 use Rattle.store_objects.specs.declared.objects.Objects.{Objects}
@@ -27,7 +27,7 @@ use Rattle.store_objects.proofs.HeldNodes.{one_if, whole}
 use Rattle.store_objects.proofs.Opening.{by_pids, by_procs, leaves_on}
 use Rattle.store_objects.proofs.Pinning.{pinned_procs}
 use Rattle.store_objects.proofs.WorkPlaces.{away, behind, count, ended_work, holds_it, others_hold}
-use Rattle.process_calls.specs.Endings.{HoldBeside, HoldFilesOf, shut, workers_at}
+use Rattle.process_calls.specs.Endings.{HoldBeside, HoldFilesOf, shut, silent, workers_at}
 use Rattle.process_calls.proofs.Holding.{held_left}
 
 -- what is open goes on where a process ends that has nothing open
@@ -60,9 +60,9 @@ shut_work pid (proc ∷ procs) = by_pid (proc.pid == pid) refl (shut_work pid pr
     others = filter (is_other pid) procs
 
     by_pid : (b : Bool) → (proc.pid == pid) ≡ b → directories_in rest ≡ directories_in others
-        → directories_in (cond (is_other pid (cond b (closed_all proc) proc)) (cond b (closed_all proc) proc ∷ rest) rest)
+        → directories_in (cond (is_other pid (cond b (silent proc) proc)) (cond b (silent proc) proc ∷ rest) rest)
         ≡ directories_in (cond (not b) (proc ∷ others) others)
-    by_pid true e same = ap (λ b. directories_in (cond (not b) (closed_all proc ∷ rest) rest)) e ∙ same
+    by_pid true e same = ap (λ b. directories_in (cond (not b) (silent proc ∷ rest) rest)) e ∙ same
     by_pid false e same = ap (λ b. directories_in (cond (not b) (proc ∷ rest) rest)) e ∙ ap (behind proc) same
 
 -- so all others hold what they held, and it holds its directory no more

@@ -23,7 +23,7 @@ use Rattle.proc_table.proofs.OwnLemmas.{has_it}
 use Rattle.proc_table.proofs.TurnLemmas.{closed_once}
 use Rattle.store_objects.specs.declared.objects.Objects.{Objects}
 use Rattle.process_calls.specs.Endings.{ClearsSome, HoldFilesOf, IsLowestBehind, cleared_in_turn}
-use Rattle.process_calls.proofs.Going.{Remain, none_before, none_then, remain_end}
+use Rattle.process_calls.proofs.Going.{Remain, none_before, none_then, remain_end, remain_same, remain_then}
 use Rattle.store_objects.specs.Objects.{is_running, procs_of}
 use Rattle.store_objects.specs.Trees.{KeptStays}
 use Rattle.store_objects.proofs.Opening.{none_by}
@@ -175,7 +175,7 @@ pub record ClosesOn (start now : Objects) (pid : ℕ) (numbers : Numbers) (files
   pub held : HoldFilesOf numbers now here
   pub same : after_ends_of files (range_with_len 2 (start.procs.last - 1)) ≡ after_ends_of here (range_with_len (pid + 1) more)
   -- what is there was there, and where no description of a node has gone the caches keep the same
-  pub remain : Remain files.descriptions here.descriptions
+  pub remain : Remain files here
   pub stays : ends_node files here ≡ false → KeptStays start.tree now.tree
 
 pub closes_first : (start : Objects) (numbers : Numbers) (files : Files) → HoldFilesOf numbers start files → ClosesOn start start 1 numbers files
@@ -185,7 +185,7 @@ closes_first start numbers files hold = record {
   counts = omega arith;
   held = hold;
   same = refl;
-  remain = λ place d there. there;
+  remain = remain_same files files refl refl;
   stays = λ none. record { kept = refl; reads = refl };
 }
 
@@ -206,7 +206,7 @@ closes_one start mid new pid next numbers files holds last found closes stays on
       ∙ closes_past (next - (pid + 1)) (suc less) (pid + 1) on.here
       (λ q low high. let b = found.behind in unopened numbers mid on.here holds on.held.held.opened q (found.lowest q (omega arith) (omega arith)))
       ∙ ap (λ n. after_ends_of on.here (range_with_len n (suc less))) (let b = found.behind in let c : pid + 1 + (next - (pid + 1)) ≡ next = omega arith in c);
-  remain = λ place d there. on.remain place d (remain_end on.here next place d there);
+  remain = remain_then files on.here (after_end_of on.here next) on.remain (remain_end on.here next);
   stays = λ none.
       kept_then start.tree mid.tree new.tree (on.stays (none_before files on.here (after_end_of on.here next) on.remain (remain_end on.here next) none))
       (stays on.here on.held (none_then files on.here (after_end_of on.here next) on.remain (remain_end on.here next) none));

@@ -308,15 +308,15 @@ module _ (script : Script) (old mid moved : Objects) (pid child : ℕ) (control 
 
 -- The child holds the directory that it works in.
 module _ (script : Script) (old mid moved pinned : Objects) (pid child directory : ℕ) (control next : Control) (kept : AreKept script old) (runs : Runs old pid control)
-    (moves : TableMoves (sharing old.heap mid.heap) old.procs mid.heap mid.procs) (same_tree : mid.tree ≡ old.tree) (same_names : mid.names ≡ old.names) (shared : HasShared old mid runs.proc)
+    (moves : TableMoves (sharing old.heap mid.heap) old.procs mid.heap mid.procs) (same_tree : mid.tree ≡ old.tree) (same_names : mid.names ≡ old.names) (same_fifos : mid.fifos ≡ old.fifos) (shared : HasShared old mid runs.proc)
     (forked : IsForked old.heap old.procs mid.heap mid.procs pid child) (copies : HasCopies old.heap mid.heap forked.parent (child_proc forked.parent child forked.nodes forked.leaves))
     (number : child ≡ old.procs.last + 1) (turned : MovesOn mid child next moved) (at : directory ≡ runs.proc.cwd) (only : OnlyPins moved pinned)
     (lets : (tree : Tree) (pins : ℕ → ℕ) → TreeStands moved.heap moved.tree tree pins → TreeStands pinned.heap pinned.tree tree (entered_pins pins directory)) where
   mid_kept : AreKept script mid
-  mid_kept = between script old mid moved pid child control next kept runs moves same_tree same_names shared forked copies number turned
+  mid_kept = between script old mid moved pid child control next kept runs moves same_tree same_names same_fifos shared forked copies number turned
 
   stays : TreeStays old moved
-  stays = tree_stays script old mid moved pid child control next kept runs moves same_tree same_names shared forked copies number turned
+  stays = tree_stays script old mid moved pid child control next kept runs moves same_tree same_names same_fifos shared forked copies number turned
 
   abbrev heir : Proc
   heir = child_proc forked.parent child forked.nodes forked.leaves
@@ -325,19 +325,19 @@ module _ (script : Script) (old mid moved pinned : Objects) (pid child directory
   further = record turned.proc { control = next }
 
   works_there : heir.cwd ≡ directory
-  works_there = ap (λ (p : Proc). p.cwd) (same_parent script old mid pid child control kept runs moves same_tree same_names shared forked copies) ∙ sym at
+  works_there = ap (λ (p : Proc). p.cwd) (same_parent script old mid pid child control kept runs moves same_tree same_names same_fifos shared forked copies) ∙ sym at
 
   runs_there : heir.status ≡ None
-  runs_there = ap (λ (p : Proc). p.status) (same_parent script old mid pid child control kept runs moves same_tree same_names shared forked copies) ∙ runs.up
+  runs_there = ap (λ (p : Proc). p.status) (same_parent script old mid pid child control kept runs moves same_tree same_names same_fifos shared forked copies) ∙ runs.up
 
   pub kept_pinned : Stands script next → Rests script next → AreKept script pinned
   kept_pinned stands rests =
-      pinned_kept moved pinned only script (kept_child script old mid moved pid child control next kept runs moves same_tree same_names shared forked copies number turned stands rests)
+      pinned_kept moved pinned only script (kept_child script old mid moved pid child control next kept runs moves same_tree same_names same_fifos shared forked copies number turned stands rests)
       (kept.caches.0, entered_pins kept.caches.1 directory, lets kept.caches.0 kept.caches.1 (stands_where old moved kept.caches.0 kept.caches.1 stays kept.caches.2))
 
   pub runs_pinned : Runs pinned pid control
   runs_pinned =
-      let still = runs_still script old mid moved pid child control next kept runs moves same_tree same_names shared forked copies number turned in
+      let still = runs_still script old mid moved pid child control next kept runs moves same_tree same_names same_fifos shared forked copies number turned in
       record { proc = still.proc; found = ap (λ procs. proc_of procs pid) (pinned_procs moved pinned only) ∙ still.found; up = still.up; at_call = still.at_call }
 
   -- one more works in the tree
@@ -394,7 +394,7 @@ module _ (script : Script) (old mid moved pinned : Objects) (pid child directory
       (files_moved mid moved (with_heir plain.files pid) (with_heir plain.files pid) (forked_world script world pid).account (forked_world script world pid).account
       (moves_then script mid moved child next mid_kept turned) refl refl refl refl refl
       (descriptors_moved script mid moved child next (with_heir plain.files pid) mid_kept turned at_call.0 at_call.1)
-      (opens_forked script old mid moved pid child control next kept runs moves same_tree same_names shared forked copies number turned plain.files world.account (forked_world script world pid).account refl refl stands.files)) in
+      (opens_forked script old mid moved pid child control next kept runs moves same_tree same_names same_fifos shared forked copies number turned plain.files world.account (forked_world script world pid).account refl refl stands.files)) in
       let caches = kept_then old.tree moved.tree pinned.tree (kept_where old moved stays) (pinned_stays moved pinned only) in
       record {
         valid = stands.valid;
@@ -404,7 +404,7 @@ module _ (script : Script) (old mid moved pinned : Objects) (pid child directory
           last = ap (λ k. k.last) only.procs ∙ ap (λ k. k.last) turned.same ∙ forked.last ∙ number ∙ ap (λ n. n + 1) stands.processes.last
               ∙ sym (length-append plain.controls (after script (control_of plain pid) (Val (pos 0)) ∷ []));
           controls = λ q it found up.
-              controls_then script old mid moved pid child control next kept runs moves same_tree same_names shared forked copies number turned plain stands.processes leads q it
+              controls_then script old mid moved pid child control next kept runs moves same_tree same_names same_fifos shared forked copies number turned plain stands.processes leads q it
               (ap (λ procs. proc_of procs q) (sym (pinned_procs moved pinned only)) ∙ found) up;
         };
         memory = pinned_account moved pinned only (after_fork world.account.frames pid)

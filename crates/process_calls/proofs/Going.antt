@@ -24,14 +24,14 @@ pub record Remain (was is : Files) : Type 0 where
   pub there : (place : ℕ) (d : Description) → description_at is.descriptions place ≡ Some d → description_at was.descriptions place ≡ Some d
   pub nodes : (what : Target) → is_some (node_of is what) ≡ true → is_some (node_of was what) ≡ true
 
-remain_then : (was mid is : Files) → Remain was mid → Remain mid is → Remain was is
+pub remain_then : (was mid is : Files) → Remain was mid → Remain mid is → Remain was is
 remain_then was mid is first second = record {
   there = λ place d there. first.there place d (second.there place d there);
   nodes = λ what some. first.nodes what (second.nodes what some);
 }
 
 -- where pipes and descriptions are the same
-remain_same : (was is : Files) → is.descriptions ≡ was.descriptions → is.pipes ≡ was.pipes → Remain was is
+pub remain_same : (was is : Files) → is.descriptions ≡ was.descriptions → is.pipes ≡ was.pipes → Remain was is
 remain_same was is descriptions pipes = record {
   there = λ place d there. ap (λ (list : Descriptions). description_at list place) (sym descriptions) ∙ there;
   nodes = λ what some. ap is_some (sym (same_node is was pipes what)) ∙ some;

@@ -24,7 +24,7 @@ use Rattle.store_objects.proofs.WorkPlaces.{away, left_others}
 use Rattle.process_calls.specs.Endings.{HoldBeside}
 
 -- a table that moves on leaves what caches have in the heap
-table_caches : (old new : Heap) (was now : TableView) → TableMoves old was new now → CachesStay old new
+pub table_caches : (old new : Heap) (was now : TableView) → TableMoves old was new now → CachesStay old new
 table_caches old new was now moves = record {
   vnodes = ap (λ (h : Heap). h.vnodes) moves.kept;
   names = ap (λ (h : Heap). h.names) moves.kept;

@@ -10,14 +10,14 @@ use Rattle.proc_files.proofs.opening.describe.Goals as goal
 pub returns-clause-makes : goal.returns-clause-makes
 returns-clause-makes c =
     let key = c.insert_desc.result in
-    let made : c.desc_on.result ≡ desc_on c.args.node c.args.flags = subst (λ z. c.desc_on.result ≡ desc_on c.args.node z) (to_z-of_z w64 c.args.flags c.ranges.flags) c.desc_on.ensures in
+    let made : c.desc_on.result ≡ desc_on c.args.target c.args.flags = subst (λ z. c.desc_on.result ≡ desc_on c.args.target z) (to_z-of_z w64 c.args.flags c.ranges.flags) c.desc_on.ensures in
     let kept = c.insert_desc.ensures.kept ∙ ap (λ d. record c.args.heap.now { descs = put c.args.heap.now.descs key d; high = c.insert_desc.new.self.high }) made in
-    let there : object (put c.args.heap.now.descs key (desc_on c.args.node c.args.flags)) key ≡ Some (desc_on c.args.node c.args.flags) =
+    let there : object (put c.args.heap.now.descs key (desc_on c.args.target c.args.flags)) key ≡ Some (desc_on c.args.target c.args.flags) =
     ap (λ (h : Heap). object h.descs key) (sym kept) ∙ c.insert_desc.ensures.stored ∙ ap (λ d. Some d) made in
     record {
       vacant = c.insert_desc.ensures.vacant;
       within =
-          subst (λ n. key < n) (length-set c.args.heap.now.descs key (Some (desc_on c.args.node c.args.flags)))
-          (InUse-within (put c.args.heap.now.descs key (desc_on c.args.node c.args.flags)) key (ap is_some there));
+          subst (λ n. key < n) (length-set c.args.heap.now.descs key (Some (desc_on c.args.target c.args.flags)))
+          (InUse-within (put c.args.heap.now.descs key (desc_on c.args.target c.args.flags)) key (ap is_some there));
       kept = kept;
     }

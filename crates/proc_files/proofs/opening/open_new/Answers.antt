@@ -5,7 +5,9 @@ use Rattle.kheap_slabs.specs.Purse.{Purse}
 use Rattle.desc_table.specs.Copying.{spends_leaves}
 use Rattle.proc_numbers.proofs.NumberRooms.{spends_so}
 use Rattle.kheap_laws.proofs.PaidLemmas.{IsPaid-trans, CanPay-kept}
-use Rattle.posix_defs.specs.Calls.OnFiles.{description_for}
+use Rattle.open_laws.specs.Described.{target_in}
+use Rattle.pipe_ends.proofs.LinkLemmas.{links_same}
+use Rattle.posix_defs.specs.Calls.OnFiles.{description_on}
 use Rattle.posix_defs.specs.Files.Descriptions.{has_flag, o_cloexec}
 use Rattle.posix_defs.specs.Files.State.{with_open}
 use Rattle.proc_numbers.specs.Having.{HaveOpen}
@@ -15,12 +17,12 @@ use Rattle.proc_numbers.proofs.NumberOpens.{changes_named}
 use Rattle.proc_numbers.proofs.Changes.{changes_after, opening}
 use Rattle.proc_numbers.proofs.Made.{used_apart}
 use Rattle.proc_files.specs.Opening.{MakesDesc, described_more, desc_on, with_desc}
-use Rattle.proc_files.proofs.Makes.{given, have_made, made_listed, made_owners, spent_fills, stays}
+use Rattle.proc_files.proofs.Makes.{given, made_listed, spent_fills, stays}
 use Rattle.proc_files.proofs.opening.open_new.Goals as goal
 
 pub open_one-requires-clause-listed : goal.open_one-requires-clause-listed
 open_one-requires-clause-listed c =
-    made_listed c.args.heap.now c.describe-desc.new.heap c.describe-desc.result c.args.node _ c.describe-desc.ensures.makes c.args.procs.now c.requires.listed
+    made_listed c.args.heap.now c.describe-desc.new.heap c.describe-desc.result c.args.target _ c.describe-desc.ensures.makes c.args.procs.now c.requires.listed
 
 pub open_one-requires-clause-free : goal.open_one-requires-clause-free
 open_one-requires-clause-free c = ap (λ (h : Heap). named_at h c.args.procs.now c.args.place.pid c.args.fd) c.describe-desc.ensures.makes.kept ∙ c.requires.free
@@ -29,29 +31,31 @@ pub returns-clause-opened : goal.returns-clause-opened
 returns-clause-opened c = λ numbers files have.
     let flags = to_z-of_z w64 c.args.flags c.ranges.flags in
     let key = c.describe-desc.result in
-    let makes : MakesDesc c.args.heap.now c.describe-desc.new.heap key c.args.node c.args.flags =
-    subst (λ z. MakesDesc c.args.heap.now c.describe-desc.new.heap key c.args.node z) flags c.describe-desc.ensures.makes in
+    let makes : MakesDesc c.args.heap.now c.describe-desc.new.heap key c.args.target c.args.flags =
+    subst (λ z. MakesDesc c.args.heap.now c.describe-desc.new.heap key c.args.target z) flags c.describe-desc.ensures.makes in
     let then = with_desc numbers files key in
-    let made = have_made c.args.heap.now c.describe-desc.new.heap key c.args.node c.args.flags makes numbers files c.args.procs.now [] c.requires.listed c.requires.owners have in
+    let more = described_more files (description_on (target_in numbers c.args.target) c.args.flags) in
     record {
       now = then;
       keeps = record {
-        descs = λ other used. stays numbers.descs key (length files.descriptions) other (used_apart c.args.heap.now.descs key (desc_on c.args.node c.args.flags) makes.vacant makes.within other used);
+        descs = λ other used. stays numbers.descs key (length files.descriptions) other (used_apart c.args.heap.now.descs key (desc_on c.args.target c.args.flags) makes.vacant makes.within other used);
         pipes = λ other used. refl;
         socks = λ other used. refl;
         frames = refl;
       };
       have =
-          subst (λ b. HaveOpen then c.open_one.new.heap c.args.procs.now
-          (with_open (described_more files (description_for c.args.node c.args.flags)) c.args.place.pid c.args.fd (Some (record { description = length files.descriptions; cloexec = b })))) (c.has_flag.ensures ∙ ap (λ z. has_flag z o_cloexec) flags)
-          (subst (λ place. HaveOpen then c.open_one.new.heap c.args.procs.now
-          (with_open (described_more files (description_for c.args.node c.args.flags)) c.args.place.pid c.args.fd (Some (record { description = place; cloexec = c.has_flag.result })))) (given numbers.descs key (length files.descriptions))
-          (c.open_one.ensures.opened then (described_more files (description_for c.args.node c.args.flags)) made));
+          subst (λ b. HaveOpen then c.open_one.new.heap c.args.procs.now (with_open more c.args.place.pid c.args.fd (Some (record { description = length files.descriptions; cloexec = b }))))
+          (c.has_flag.ensures ∙ ap (λ z. has_flag z o_cloexec) flags)
+          (subst (λ place. HaveOpen then c.open_one.new.heap c.args.procs.now (with_open more c.args.place.pid c.args.fd (Some (record { description = place; cloexec = c.has_flag.result }))))
+          (given numbers.descs key (length files.descriptions))
+          (c.open_one.ensures.opened then more (have c.describe-desc.new.heap key makes)));
     }
 
 pub returns-clause-owners : goal.returns-clause-owners
 returns-clause-owners c =
-    c.open_one.ensures.owners [] (made_owners c.args.heap.now c.describe-desc.new.heap c.describe-desc.result c.args.node _ c.describe-desc.ensures.makes [] c.requires.owners)
+    let makes : MakesDesc c.args.heap.now c.describe-desc.new.heap c.describe-desc.result c.args.target c.args.flags =
+    subst (λ z. MakesDesc c.args.heap.now c.describe-desc.new.heap c.describe-desc.result c.args.target z) (to_z-of_z w64 c.args.flags c.ranges.flags) c.describe-desc.ensures.makes in
+    c.open_one.ensures.owners [] (c.requires.wants c.describe-desc.new.heap c.describe-desc.result makes)
 
 pub returns-clause-changes : goal.returns-clause-changes
 returns-clause-changes c =
@@ -59,7 +63,8 @@ returns-clause-changes c =
     let mid = c.describe-desc.new.heap in
     changes_after c.args.heap.now mid c.open_one.new.heap c.args.procs.now c.args.place.pid (ap (λ (h : Heap). h.procs) makes.kept)
     (subst (λ (h : Heap). h ≡ opening c.args.heap.now h) (sym makes.kept) refl)
-    (changes_named mid c.open_one.new.heap c.args.procs.now c.args.place.pid c.args.fd _ (made_listed c.args.heap.now mid c.describe-desc.result c.args.node _ makes c.args.procs.now c.requires.listed) c.open_one.ensures.names)
+    (links_same c.args.heap.now mid (ap (λ (h : Heap). h.pipes) makes.kept))
+    (changes_named mid c.open_one.new.heap c.args.procs.now c.args.place.pid c.args.fd _ (made_listed c.args.heap.now mid c.describe-desc.result c.args.target _ makes c.args.procs.now c.requires.listed) c.open_one.ensures.names)
 
 pub returns-clause-stay : goal.returns-clause-stay
 returns-clause-stay c =
