@@ -1,4 +1,4 @@
-use Rattle.std.proofs.Common.{Some, ap, sym, subst, ◌∙◌}
+use Rattle.std.proofs.Common.{Some, Ok, ap, sym, subst, ◌∙◌}
 use Rattle.posix_defs.specs.World.{World}
 use Rattle.proc_table.specs.Opening.{half_in}
 use Rattle.store_objects.specs.Standing.{StandsFor, waiting_in}
@@ -30,6 +30,6 @@ returns-in-Ok-Waits-clause-kept c =
 
 pub returns-in-Ok-Waits-clause-goes : goal.returns-in-Ok-Waits-clause-goes
 returns-in-Ok-Waits-clause-goes c = λ world stands.
-    subst (λ came. StandsFor c.args.script.now c.do_part.new.objects (came_in c.args.script.now world c.args.caller.now.place.pid came)) (sym c.in-Ok-Waits.is)
+    subst (λ came. StandsFor c.args.script.now c.do_part.new.objects (came_in c.args.script.now world c.args.caller.now.place.pid came)) (sym (c.in-Ok-Waits.is ∙ ap (λ opened. Ok opened) c.in-Ok-Waits.field-0-is))
     (c.do_part.ensures.goes c.args.script.now (waiting_in world c.args.caller.now.place.pid (Some (half_in c.in-Ok-Waits.opening)))
     (stands_sleeping c.args.script.now c.args.objects.now c.wait_in.new.self c.args.caller.now.place.pid _ c.requires.kept c.wait_in.ensures world stands))
