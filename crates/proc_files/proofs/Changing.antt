@@ -66,6 +66,22 @@ caches_after old mid new kept pid it e = record {
   beside = ap (λ (h : Heap). holding h new) e ∙ ap (λ (h : Heap). holding h new) it.beside;
 }
 
+-- and where pipes and chunks have changed before
+pub pipes_before : (old mid new : Heap) (kept : TableView) (pid : ℕ) → mid ≡ record old { pipes = mid.pipes; chunks = mid.chunks; high = mid.high } → ChangesHolding mid new kept pid
+    → ChangesHolding old new kept pid
+pipes_before old mid new kept pid e it =
+    let same : mid.procs ≡ old.procs = ap (λ (h : Heap). h.procs) e in
+    record {
+      key = it.key;
+      proc = it.proc;
+      now = it.now;
+      named = it.named;
+      there = ap (λ (p : List (Option Proc)). object p it.key) (sym same) ∙ it.there;
+      same = it.same;
+      procs = it.procs ∙ ap (λ (p : List (Option Proc)). put p it.key it.now) same;
+      beside = it.beside ∙ ap (λ (h : Heap). holding h new) e;
+    }
+
 pub set_again : {X : Type 0} (xs : List X) (i : ℕ) (a b : X) → set (set xs i a) i b ≡ set xs i b
 set_again [] i a b = refl
 set_again (x ∷ xs) zero a b = refl

@@ -2,6 +2,7 @@
 use Rattle.std.proofs.Common.{◌≡◌, ◌≢◌, ◌⊎◌, ℕ, ◌+◌, ◌<◌, ◌==◌, ◌&&◌, ◌++◌, ℤ, Bool, true, false, not, cond, List, [], ◌∷◌, set, length, count_by, Option, None, Some, IsSome, is_some, unwrap_or, slice_index_or, slice_set, refl, sym, ap, subst, ◌∙◌, arith, eq-eqb, ne_eqb, inl, inr}
 use Rattle.std.proofs.lemmas.Bool.{cases_eq}
 use Rattle.std.proofs.lemmas.List.{get_or_at, get_or_past}
+use Rattle.chunk_queue.specs.Chained.{place_of}
 use Rattle.chunk_queue.proofs.HeldLemmas.{HasBytes-same}
 use Rattle.fifo_nodes.specs.Chain.{HasNoPipe, IsChain, IsFifoAt, OpensEnd}
 use Rattle.kheap_laws.proofs.OnceLemmas.{Contains-single}
@@ -11,9 +12,17 @@ use Rattle.kheap_slabs.specs.declared.objects.Access.TheVariants as mode
 use Rattle.kheap_slabs.specs.declared.objects.Desc.{Desc}
 use Rattle.kheap_slabs.specs.declared.objects.Descriptor.{Descriptor as HeldDescriptor}
 use Rattle.kheap_slabs.specs.declared.objects.Pipe.{Pipe as HeldPipe}
+use Rattle.kheap_slabs.specs.declared.objects.QueueParts.{QueueParts}
 use Rattle.kheap_slabs.specs.declared.objects.Sock.{Sock}
 use Rattle.kheap_slabs.specs.declared.objects.Target.{Target}
 use Rattle.kheap_slabs.specs.declared.objects.Target.TheVariants as target
+use Rattle.kabi_types.specs.declared.classes.Class.TheVariants as class
+use Rattle.kabi_types.specs.Counts.{with_count}
+use Rattle.kheap_slabs.specs.Purse.{Purse}
+use Rattle.kheap_slabs.specs.declared.objects.Block.{Block}
+use Rattle.kheap_slabs.specs.declared.objects.Name.{Name}
+use Rattle.kheap_slabs.specs.declared.objects.Vnode.{Vnode}
+use Rattle.kheap_slabs.specs.Paid.{AreFills, HasFills}
 use Rattle.kheap_slabs.specs.Heap.{Heap}
 use Rattle.kheap_slabs.specs.Owners.{OwnsItsObjects}
 use Rattle.open_laws.specs.Described.{AreDescribed, CountedList, access_in, counted_in, target_in}
@@ -36,10 +45,12 @@ use Rattle.proc_table.proofs.PlaceLemmas.{some_same}
 use Rattle.proc_numbers.specs.Having.{AreListed, HaveOpen}
 use Rattle.proc_numbers.specs.Naming.{named_at, places_of}
 use Rattle.proc_numbers.specs.PipeOpening.{KeepsNumbers}
+use Rattle.proc_numbers.specs.Queues.{QueuesStand}
 use Rattle.proc_numbers.proofs.Listing.{openings_on}
 use Rattle.proc_numbers.proofs.Made.{counted_on, longer, none_counted}
 use Rattle.proc_numbers.proofs.NumberNames.{desc_named}
 use Rattle.proc_numbers.proofs.Sums.{one_if}
+use Rattle.usock_core.specs.Standing.{queue_in}
 use Rattle.usock_core.proofs.HeldLemmas.{held_moved}
 use Rattle.usock_core.proofs.StandingLemmas.{held_on}
 use Rattle.proc_files.specs.Opening.{HaveWanting, MakesDesc, WantsDesc, desc_on, mode_of}
@@ -91,13 +102,13 @@ pub record EndHas (numbers : Numbers) (old mid : Heap) (kept : TableView) (files
   pub have : HaveOpen now mid kept (with_fifo files place (with_end (fifo_there files node place) writing))
 
 module _ (old mid : Heap) (first : Option ℕ) (node : ℕ) (writing : Bool) (pipe : ℕ) (opens : OpensEnd old mid node writing pipe) (chain : IsChain mid first) where
-  same_descs : mid.descs ≡ old.descs
+  pub same_descs : mid.descs ≡ old.descs
   same_descs = ap (λ (h : Heap). h.descs) opens.others.kept
 
-  same_procs : mid.procs ≡ old.procs
+  pub same_procs : mid.procs ≡ old.procs
   same_procs = ap (λ (h : Heap). h.procs) opens.others.kept
 
-  same_socks : mid.socks ≡ old.socks
+  pub same_socks : mid.socks ≡ old.socks
   same_socks = ap (λ (h : Heap). h.socks) opens.others.kept
 
   pub other_pipe : (other : ℕ) → other ≢ pipe → object mid.pipes other ≡ object old.pipes other
@@ -113,7 +124,7 @@ module _ (old mid : Heap) (first : Option ℕ) (node : ℕ) (writing : Bool) (pi
     | inr apart ↦ chain.alone key pipe at.link opens.is_its.link (ap link_of (other_pipe key apart) ∙ at.there) opens.is_its.there (at.same ∙ sym opens.is_its.same)
   ]
 
-  there_before : (other : ℕ) → InUse old.pipes other → InUse mid.pipes other
+  pub there_before : (other : ℕ) → InUse old.pipes other → InUse mid.pipes other
   there_before other used = elim (cases_eq other pipe) [
     | inl same ↦ let it = held_here mid node pipe opens.is_its in subst (InUse mid.pipes) (sym same) (ap is_some it.1)
     | inr apart ↦ subst IsSome (sym (other_pipe other apart)) used
@@ -278,6 +289,51 @@ module _ (old mid : Heap) (first : Option ℕ) (node : ℕ) (writing : Bool) (pi
       → WantsDesc mid (target.Pipe pipe) flags
   wants_end owners owned more flags writes single next key makes = owners_then [] owners owned more flags writes single next key makes
 
+  -- ---- what queues have
+
+  -- the bytes of all pipes stay
+  pub queues_more : (numbers : Numbers) (files : Files) → IsFound numbers old files node → QueuesStand old mid
+  queues_more numbers files is = record {
+    pipes = λ key held at some. by_key key held at some (cases_eq key pipe);
+    socks = λ key used. ap (λ (s : List (Option Sock)). queue_in (object s key)) same_socks;
+  }
+    where
+      here : (held : HeldPipe) → object mid.pipes pipe ≡ Some held → 0 < held.queue.len → IsFound numbers old files node
+          → (was : HeldPipe) × (object old.pipes pipe ≡ Some was) × (place_of was.queue ≡ place_of held.queue)
+      here held at some (found place key first_at plain e is placed stands fifo) =
+          let same = had_it key fifo in
+          let stands_so : StandsFor old pipe plain first_at = subst (λ k. StandsFor old k plain first_at) same stands in
+          let more = opens.had plain first_at stands_so (subst (IsFifoAt old node) same fifo) in
+          let it : more.held ≡ held = some_same (object mid.pipes pipe) more.held held more.there at in
+          let place_same : stands_so.held.queue.place ≡ held.queue.place = stands_so.place ∙ sym more.place ∙ ap (λ (p : HeldPipe). p.queue.place) it in
+          let len_same : stands_so.held.queue.len ≡ held.queue.len = stands_so.len ∙ sym (more.len ∙ ap length (bytes_stay plain)) ∙ ap (λ (p : HeldPipe). p.queue.len) it in
+          (stands_so.held, stands_so.there, same_place stands_so.held.queue held.queue place_same len_same)
+        where
+          bytes_stay : (plain : Pipe) → (with_end plain writing).bytes ≡ plain.bytes
+          bytes_stay plain = by_side writing
+            where
+              by_side : (b : Bool) → (with_end plain b).bytes ≡ plain.bytes
+              by_side true = refl
+              by_side false = refl
+
+          same_place : (one other : QueueParts) → one.place ≡ other.place → one.len ≡ other.len → place_of one ≡ place_of other
+          same_place one other place len = ap (λ p. record { place = p; len = one.len }) place ∙ ap (λ n. record { place = other.place; len = n }) len
+      here held at some (missing e none) = absurd (
+          let made = (opens.made none).1 in
+          let it : made.held ≡ held = some_same (object mid.pipes pipe) made.held held made.there at in
+          let empty : held.queue.len ≡ 0 = sym (ap (λ (p : HeldPipe). p.queue.len) it) ∙ made.len ∙ ap length (no_bytes writing) in
+          omega (arith, empty, some))
+        where
+          no_bytes : (b : Bool) → (with_end (unopened node) b).bytes ≡ []
+          no_bytes true = refl
+          no_bytes false = refl
+
+      by_key : (key : ℕ) (held : HeldPipe) → object mid.pipes key ≡ Some held → 0 < held.queue.len → (key ≡ pipe) ⊎ (key ≢ pipe)
+          → (was : HeldPipe) × (object old.pipes key ≡ Some was) × (place_of was.queue ≡ place_of held.queue)
+      by_key key held at some (inl same) =
+          subst (λ k. (was : HeldPipe) × (object old.pipes k ≡ Some was) × (place_of was.queue ≡ place_of held.queue)) (sym same) (here held (ap (object mid.pipes) (sym same) ∙ at) some is)
+      by_key key held at some (inr apart) = (held, sym (other_pipe key apart) ∙ at, refl)
+
   -- ---- what is open
 
   module _ (kept : TableView) (hand : List ℕ) (owners : HasItsOwners old hand) (numbers : Numbers) (files : Files) (have : HaveOpen numbers old kept files) where
@@ -377,3 +433,24 @@ module _ (old mid : Heap) (first : Option ℕ) (node : ℕ) (writing : Bool) (pi
         named_there pid fd held at =
             subst (λ (d : List (Option Desc)). InUse d held.desc) (sym same_descs)
             (ap is_some (desc_named old kept hand listed owners pid fd held (ap (λ (h : Heap). named_at h kept pid fd) (sym opens.others.kept) ∙ at)).1)
+
+-- numbers that are kept, one after another
+pub keeps_then : (old mid : Heap) (numbers between now : Numbers) → mid.descs ≡ old.descs → mid.socks ≡ old.socks → ((other : ℕ) → InUse old.pipes other → InUse mid.pipes other) → KeepsNumbers old numbers between
+    → KeepsNumbers mid between now → KeepsNumbers old numbers now
+keeps_then old mid numbers between now descs socks pipes first second = record {
+  descs = λ key used. second.descs key (subst (λ (d : List (Option Desc)). InUse d key) (sym descs) used) ∙ first.descs key used;
+  pipes = λ key used. second.pipes key (pipes key used) ∙ first.pipes key used;
+  socks = λ key used. second.socks key (subst (λ (s : List (Option Sock)). InUse s key) (sym socks) used) ∙ first.socks key used;
+  frames = second.frames ∙ first.frames;
+}
+
+-- a purse that pays for a pipe alone keeps what it has filled
+pub pipe_fills : (old new : Heap) (before after : Purse) → new.vnodes ≡ old.vnodes → new.names ≡ old.names → new.blocks ≡ old.blocks
+    → after ≡ record before { left = with_count before.left class.Pipe after.left.pipe } → HasFills old before → HasFills new after
+pipe_fills old new before after vnodes names blocks spent fills =
+    subst (HasFills new) (sym spent)
+    (record {
+      vnodes = subst (λ (v : List (Option Vnode)). AreFills v before.vnodes before.left.vnode before.need.vnode) (sym vnodes) fills.vnodes;
+      names = subst (λ (v : List (Option Name)). AreFills v before.names before.left.name before.need.name) (sym names) fills.names;
+      blocks = subst (λ (v : List (Option Block)). AreFills v before.blocks before.left.block before.need.block) (sym blocks) fills.blocks;
+    })

@@ -13,6 +13,7 @@ use Rattle.open_laws.specs.Piped.{ArePiped}
 use Rattle.open_laws.specs.Placed.{Numbers}
 use Rattle.pipe_ends.specs.Links.{Link, link_at, link_in, link_of}
 use Rattle.pipe_ends.specs.Standing.{StandsFor}
+use Rattle.pipe_ends.proofs.StandingLemmas.{stands_for_one}
 use Rattle.posix_defs.specs.Calls.OnFiles.{fifo_at, fifo_pipe, fifo_there}
 use Rattle.posix_defs.specs.Files.State.{Files}
 use Rattle.posix_defs.specs.Pipe.{Pipe, is_of_fifo, new_pipe, unopened}
@@ -137,3 +138,14 @@ module _ (numbers : Numbers) (h : Heap) (files : Files) (node : ℕ) (positive :
       by_found (found place key at pipe e is placed stands fifo) =
           tells.had key pipe at fifo stands ∙ sym (ap (λ o. number (unwrap_or o new_pipe)) is) ∙ sym (ap (λ o. number (fifo_there files node o)) e)
       by_found (missing e none) = tells.none none ∙ sym zero_is ∙ sym (ap (λ o. number (fifo_there files node o)) e)
+
+  -- what a pipe of the heap stands for that is its pipe
+  pub pipe_is : (first : Option ℕ) → IsChain h first → (key : ℕ) (pipe : Pipe) (at : ℕ) → IsFifoAt h node key → StandsFor h key pipe at → fifo_pipe files node ≡ pipe
+  pipe_is first chain key pipe at here stands = by_found is_found
+    where
+      by_found : IsFound numbers h files node → fifo_pipe files node ≡ pipe
+      by_found (found place other at_other plain e is placed stands_other fifo) =
+          let same : other ≡ key = chain.alone other key fifo.link here.link fifo.there here.there (fifo.same ∙ sym here.same) in
+          ap (fifo_there files node) e ∙ ap (λ o. unwrap_or o new_pipe) is
+          ∙ (stands_for_one h key plain pipe at_other at (subst (λ k. StandsFor h k plain at_other) same stands_other) stands).0
+      by_found (missing e none) = absurd (none key here)

@@ -45,3 +45,8 @@ pub mod Endings
 pub mod NodesEnd
 pub mod Unnaming
 pub mod Unopened
+mod EndMade
+mod FifoFound
+mod FifoOpens
+mod NodeOpens
+mod FifoFaults

@@ -21,3 +21,4 @@ pub mod Starts
 pub mod MemoryMoves
 pub mod WithRanges
 pub mod Signalling
+mod Silencing
