@@ -19,17 +19,17 @@ others_opens-requires c =
 pub returns-in-Some : goal.returns-in-Some
 returns-in-Some c = λ numbers files have.
     let fd : c.opened-on.result.fd ≡ pos c.args.opening.fd =
-        c.opened-on.ensures.number
-        ∙ (ap (λ z. cast_signed w64 (cast_unsigned w64 z)) c.from.ensures ∙ to_z-of_z w64 (pos c.args.opening.fd) (fits_signed_from_abs w64 (pos c.args.opening.fd) (omega arith))) in
+    c.opened-on.ensures.number
+    ∙ (ap (λ z. cast_signed w64 (cast_unsigned w64 z)) c.from.ensures ∙ to_z-of_z w64 (pos c.args.opening.fd) (fits_signed_from_abs w64 (pos c.args.opening.fd) (omega arith))) in
     let at = ap (opened_at files c.args.place.pid) (sym fd)
-        ∙ (opened_is c.args.heap.now c.args.procs.now c.args.place.pid c.opened-on.result c.opened-on.ensures.opened numbers files have ∙ ap (option_map (opened_in numbers)) c.in-Some.is) in
+    ∙ (opened_is c.args.heap.now c.args.procs.now c.args.place.pid c.opened-on.result c.opened-on.ensures.opened numbers files have ∙ ap (option_map (opened_in numbers)) c.in-Some.is) in
     ap (nat_lt c.args.opening.seen) (c.others_opens.ensures numbers files have.opened.piped ∙ sym (ap (others_opened files) at))
 
 pub returns-in-None : goal.returns-in-None
 returns-in-None c = λ numbers files have.
     let fd : c.opened-on.result.fd ≡ pos c.args.opening.fd =
-        c.opened-on.ensures.number
-        ∙ (ap (λ z. cast_signed w64 (cast_unsigned w64 z)) c.from.ensures ∙ to_z-of_z w64 (pos c.args.opening.fd) (fits_signed_from_abs w64 (pos c.args.opening.fd) (omega arith))) in
+    c.opened-on.ensures.number
+    ∙ (ap (λ z. cast_signed w64 (cast_unsigned w64 z)) c.from.ensures ∙ to_z-of_z w64 (pos c.args.opening.fd) (fits_signed_from_abs w64 (pos c.args.opening.fd) (omega arith))) in
     let at = ap (opened_at files c.args.place.pid) (sym fd)
-        ∙ (opened_is c.args.heap.now c.args.procs.now c.args.place.pid c.opened-on.result c.opened-on.ensures.opened numbers files have ∙ ap (option_map (opened_in numbers)) c.in-None.is) in
+    ∙ (opened_is c.args.heap.now c.args.procs.now c.args.place.pid c.opened-on.result c.opened-on.ensures.opened numbers files have ∙ ap (option_map (opened_in numbers)) c.in-None.is) in
     none_below c.args.opening.seen ∙ sym (ap (λ o. nat_lt c.args.opening.seen (others_opened files o)) at)
