@@ -96,7 +96,7 @@ class Openers:
             lambda: "r9 = signal SIGPIPE SIG_DFL",
             lambda: "r9 = fork",
             lambda: "exit 0",
-        ], [4, 2, 1, 4, 4, 2, 1, 3, 2, .3, .5, .5])[0]()
+        ], [4, 2, 1, 8, 5, 2, 1, 3, 2, .3, .5, .5])[0]()
 
     def rounds(self, name):
         """Some visits, over and over, and other calls between them."""

@@ -68,15 +68,18 @@ sound script plain valid reached = record {
     never e f = cc
 
     -- an end of a FIFO's pipe
-    by_pipe : (number : ℕ) (description : Description) (p : ℕ) (o : Option Pipe) → pipe_there plain.files p ≡ o → option_and_then fifo_of o ≡ Some number → IsOpenNode plain.files.tree description number
-    by_pipe number description p None is e = absurd (none e)
+    by_pipe : (number : ℕ) (description : Description) (p : ℕ) (o : Option Pipe) → description.target ≡ OnPipe p → pipe_there plain.files p ≡ o → option_and_then fifo_of o ≡ Some number → IsOpenNode plain.files.tree description number
+    by_pipe number description p None what is e = absurd (none e)
       where
         none : None ≡ Some number → ⊥
         none f = cc
-    by_pipe number description p (Some pipe) is e =
+    by_pipe number description p (Some pipe) what is e =
         let node = fifo_is pipe number e in
         let fifo = fifo_kind (node_at plain.files.tree number) (subst (λ n. is_fifo plain.files.tree n ≡ true) node.1 (whole.fifos.nodes p pipe is node.0)) in
-        record { used = fifo.0; unnamed = fifo.1; reads = λ dir. never dir fifo.2; between = λ dir. never dir fifo.2 }
+        record { used = fifo.0; unnamed = fifo.1; reads = λ dir. never dir fifo.2; between = λ dir. never dir fifo.2; no_fifo = λ target. absurd (no_pipe (sym what ∙ target)) }
+      where
+        no_pipe : OnPipe p ≡ OnNode number → ⊥
+        no_pipe f = cc
 
     by_target : (place number : ℕ) (description : Description) → description_at plain.files.descriptions place ≡ Some description → (what : Target) → description.target ≡ what
         → node_of plain.files what ≡ Some number → IsOpenNode plain.files.tree description number
@@ -84,8 +87,8 @@ sound script plain valid reached = record {
         let same : n ≡ number = (let e : Some n ≡ Some number = on in cc) in
         let at : description.target ≡ OnNode number = what ∙ ap OnNode same in
         let is : IsTarget plain.files description.access (OnNode number) = subst (IsTarget plain.files description.access) at (whole.named.targets place description there) in
-        record { used = is.0; unnamed = is.1; reads = is.3; between = stands_between script plain texts reached place number description there at }
-    by_target place number description there (OnPipe p) what on = by_pipe number description p (pipe_there plain.files p) refl on
+        record { used = is.0; unnamed = is.1; reads = is.3; between = stands_between script plain texts reached place number description there at; no_fifo = λ target. is.2 }
+    by_target place number description there (OnPipe p) what on = by_pipe number description p (pipe_there plain.files p) what refl on
     by_target place number description there (OnSocket s) what on = absurd (none on)
       where
         none : None ≡ Some number → ⊥

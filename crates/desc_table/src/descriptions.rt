@@ -123,8 +123,9 @@ fn leave_chain(heap: &mut KHeap, fifos: &mut FifoTable, desc: u32)
         return;
     }
     match found.target {
+        Target::Inode(_) => {}
         Target::Pipe(key) => fifos.leave_end(heap, key, may_write(found.access)),
-        Target::Inode(_) | Target::Sock(_) => {}
+        Target::Sock(_) => {}
     }
 }
 

@@ -133,40 +133,39 @@ pub has_opened : (script : Script) (plain : Plain) (pid : ℕ) (path : List ℕ)
     → open_by script plain pid path flags None ≡ replied script (with_files plain files) pid (Val (pos number)) → HasOpened plain pid path flags files
 has_opened script plain pid path flags number files leads is = by_free (lowest_free (descriptors_of plain.files pid)) is
   where
-    module _ (fd node : ℕ) (next : Tree) (led : open_path plain.files.tree (directory_of plain.table pid) path (opening_of flags) ≡ Ok (node, next)) where
-      by_wait : is_fifo next node ≡ true → (b : Bool)
-          → cond b (did_part (with_files plain (end_awaits plain.files pid flags fd node)) pid 1) (replied script (with_files plain (end_opened plain.files pid flags fd node)) pid (Val (pos fd)))
-          ≡ replied script (with_files plain files) pid (Val (pos number)) → HasOpened plain pid path flags files
-      by_wait fifo true e = not_over number (ap said_by e)
-      by_wait fifo false e =
-          let now : end_opened plain.files pid flags fd node ≡ files = ap (files_in plain.files) e in
-          let same = (leads node next led).fifo fifo in
-          let opened = end_opens plain.files pid flags fd node same.2 in
-          record {
-            node = node;
-            next = next;
-            led = led;
-            tree = ap (λ (f : Files). f.tree) (sym now) ∙ opened.tree ∙ sym same.0;
-            opens = subst (λ (f : Files). 0 < openings f node) now opened.opens;
-          }
+    by_wait : (fd node : ℕ) (next : Tree) → open_path plain.files.tree (directory_of plain.table pid) path (opening_of flags) ≡ Ok (node, next) → is_fifo next node ≡ true → (b : Bool)
+        → cond b (did_part (with_files plain (end_awaits plain.files pid flags fd node)) pid 1) (replied script (with_files plain (end_opened plain.files pid flags fd node)) pid (Val (pos fd)))
+        ≡ replied script (with_files plain files) pid (Val (pos number)) → HasOpened plain pid path flags files
+    by_wait fd node next led fifo true e = not_over number (ap said_by e)
+    by_wait fd node next led fifo false e =
+        let now : end_opened plain.files pid flags fd node ≡ files = ap (files_in plain.files) e in
+        let same = (leads node next led).fifo fifo in
+        let opened = end_opens plain.files pid flags fd node same.2 in
+        record {
+          node = node;
+          next = next;
+          led = led;
+          tree = ap (λ (f : Files). f.tree) (sym now) ∙ opened.tree ∙ sym same.0;
+          opens = subst (λ (f : Files). 0 < openings f node) now opened.opens;
+        }
 
-      by_fault : is_fifo next node ≡ true → (fault : Option Errno) → open_end script plain pid flags fd node fault ≡ replied script (with_files plain files) pid (Val (pos number))
-          → HasOpened plain pid path flags files
-      by_fault fifo (Some errno) e = never errno number (ap said_by e)
-      by_fault fifo None e = by_wait fifo (fifo_waits (fifo_pipe plain.files node) flags) e
+    by_fault : (fd node : ℕ) (next : Tree) → open_path plain.files.tree (directory_of plain.table pid) path (opening_of flags) ≡ Ok (node, next) → is_fifo next node ≡ true → (fault : Option Errno) → open_end script plain pid flags fd node fault ≡ replied script (with_files plain files) pid (Val (pos number))
+        → HasOpened plain pid path flags files
+    by_fault fd node next led fifo (Some errno) e = never errno number (ap said_by e)
+    by_fault fd node next led fifo None e = by_wait fd node next led fifo (fifo_waits (fifo_pipe plain.files node) flags) e
 
-      by_kind : (b : Bool) → is_fifo next node ≡ b → cond b (open_fifo script plain pid flags fd node) (open_node script plain pid flags fd node next) ≡ replied script (with_files plain files) pid (Val (pos number))
-          → HasOpened plain pid path flags files
-      by_kind true fifo e = by_fault fifo (fifo_fault (fifo_pipe plain.files node) flags) e
-      by_kind false other e =
-          let now : opened_as (with_tree plain.files next) pid fd (has_flag flags o_cloexec) (description_for node flags) ≡ files = ap (files_in plain.files) e in
-          record {
-            node = node;
-            next = next;
-            led = led;
-            tree = ap (λ (f : Files). f.tree) (sym now);
-            opens = subst (λ (f : Files). 0 < openings f node) now (opens_it plain.files pid fd node next flags);
-          }
+    by_kind : (fd node : ℕ) (next : Tree) → open_path plain.files.tree (directory_of plain.table pid) path (opening_of flags) ≡ Ok (node, next) → (b : Bool) → is_fifo next node ≡ b → cond b (open_fifo script plain pid flags fd node) (open_node script plain pid flags fd node next) ≡ replied script (with_files plain files) pid (Val (pos number))
+        → HasOpened plain pid path flags files
+    by_kind fd node next led true fifo e = by_fault fd node next led fifo (fifo_fault (fifo_pipe plain.files node) flags) e
+    by_kind fd node next led false other e =
+        let now : opened_as (with_tree plain.files next) pid fd (has_flag flags o_cloexec) (description_for node flags) ≡ files = ap (files_in plain.files) e in
+        record {
+          node = node;
+          next = next;
+          led = led;
+          tree = ap (λ (f : Files). f.tree) (sym now);
+          opens = subst (λ (f : Files). 0 < openings f node) now (opens_it plain.files pid fd node next flags);
+        }
 
     by_led : (fd : ℕ) (o : Result (ℕ × Tree) Errno) → open_path plain.files.tree (directory_of plain.table pid) path (opening_of flags) ≡ o
         → opened_node_as script plain pid flags fd o ≡ replied script (with_files plain files) pid (Val (pos number)) → HasOpened plain pid path flags files

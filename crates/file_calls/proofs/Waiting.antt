@@ -14,6 +14,7 @@ use Rattle.posix_defs.specs.Files.Descriptors.{lowest_free}
 use Rattle.posix_defs.specs.Files.State.{HalfOpen, descriptors_of, opening_at, with_opening}
 use Rattle.posix_defs.specs.Machine.{blocks}
 use Rattle.posix_defs.specs.MemoryCalls.{frames_after}
+use Rattle.posix_defs.specs.Needs.{need_of}
 use Rattle.posix_defs.specs.Paths.{resolve}
 use Rattle.posix_defs.specs.PathCalls.{is_fifo, open_path}
 use Rattle.posix_defs.specs.Plain.{Plain, with_files}
@@ -94,9 +95,9 @@ module _ (script : Script) (old : Objects) (pid : ℕ) (path : List ℕ) (flags 
   -- what is kept stays
   keeps : (world next : World) (told : Turned) → StandsFor script old world → next.kept ≡ world.kept → next.reads ≡ world.reads → KeepsOn world pid which told next
   keeps world next told stands kept reads = record {
-    names = subst (λ (k : Kept). length k.names ≤ length world.kept.names + _) (sym kept) (no_more (length world.kept.names) _);
-    blocks = subst (λ (k : Kept). length k.blocks ≤ length world.kept.blocks + _) (sym kept) (no_more (length world.kept.blocks) _);
-    vnodes = subst (λ (k : Kept). length k.vnodes ≤ length world.kept.vnodes + _) (sym kept) (no_more (length world.kept.vnodes) _);
+    names = subst (λ (k : Kept). length k.names ≤ length world.kept.names + (need_of which).name) (sym kept) (no_more (length world.kept.names) (need_of which).name);
+    blocks = subst (λ (k : Kept). length k.blocks ≤ length world.kept.blocks + (need_of which).block) (sym kept) (no_more (length world.kept.blocks) (need_of which).block);
+    vnodes = subst (λ (k : Kept). length k.vnodes ≤ length world.kept.vnodes + (need_of which).vnode) (sym kept) (no_more (length world.kept.vnodes) (need_of which).vnode);
     reads = subst (λ n. world.reads ≤ n) (sym reads) (no_fewer world.reads);
     untouched = λ none. (kept, reads);
     left = λ ok. subst (IsLeft next.plain.files.tree next.kept) (sym unnamed) tt;

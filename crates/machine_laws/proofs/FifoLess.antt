@@ -1,13 +1,19 @@
 -- Where there is no FIFO there is none behind any call but `mkfifo`, and each call answers as if there could be none.
-use Rattle.std.proofs.Common.{◌≡◌, ◌≢◌, ℕ, zero, suc, ◌||◌, ℤ, Bool, true, false, cond, List, [], ◌∷◌, ◌++◌, Option, None, Some, unwrap_or, slice_get, slice_index_or, slice_set, Result, Ok, Err, refl, ap, sym, ◌∙◌, subst}
+use Rattle.std.proofs.Common.{◌≡◌, ◌≢◌, ℕ, zero, suc, ◌||◌, ℤ, Bool, true, false, cond, List, [], ◌∷◌, ◌++◌, map, Option, None, Some, unwrap_or, slice_get, slice_index_or, slice_set, Result, Ok, Err, refl, ap, sym, ◌∙◌, subst}
 use Rattle.std.specs.Prelude.{replicate}
 use Rattle.kabi_types.specs.Arguments.{argument_fault, count_of}
 use Rattle.kabi_types.specs.declared.calls.Call.{Call}
 use Rattle.kabi_types.specs.declared.calls.Call.TheVariants as calls
+use Rattle.kabi_types.specs.declared.calls.CallKind.{CallKind}
+use Rattle.kabi_types.specs.declared.calls.CallKind.TheVariants as kind
 use Rattle.kabi_types.specs.declared.errnos.Errno.{Errno}
 use Rattle.kabi_types.specs.declared.errnos.Errno.TheVariants.{EACCES}
 use Rattle.kabi_types.specs.declared.replies.Reply.TheVariants.{Stat}
+use Rattle.kabi_types.specs.declared.scripts.Control.{Control}
+use Rattle.kabi_types.specs.declared.scripts.Program.{Program}
 use Rattle.kabi_types.specs.declared.scripts.Script.{Script}
+use Rattle.kabi_types.specs.declared.scripts.Statement.{Statement}
+use Rattle.kabi_types.specs.declared.scripts.Statement.TheVariants as statement
 use Rattle.posix_defs.specs.Answer.{replied}
 use Rattle.posix_defs.specs.ByPid.{at_pid}
 use Rattle.posix_defs.specs.Ending.{die}
@@ -16,7 +22,10 @@ use Rattle.posix_defs.specs.PathCalls.{bytes_in, exec_found, is_fifo, is_fifo_ki
 use Rattle.posix_defs.specs.Paths.{resolve}
 use Rattle.posix_defs.specs.TreeChanges.{closed}
 use Rattle.posix_defs.specs.Pipe.{Pipe, after_close, after_read, after_write, new_pipe}
-use Rattle.posix_defs.specs.Plain.{Plain, boot_plain}
+use Rattle.posix_defs.specs.Made.{made}
+use Rattle.posix_defs.specs.Control as program
+use Rattle.posix_defs.specs.Control.{call_at, settled, statement_of, statements_of, value_of}
+use Rattle.posix_defs.specs.Plain.{Plain, boot_plain, call_of, control_of}
 use Rattle.posix_defs.specs.Process.{directory_of}
 use Rattle.posix_defs.specs.Tree.{Tree, is_directory, new_tree, node_at}
 use Rattle.posix_defs.specs.Files.Descriptors.{lowest_free}
@@ -30,11 +39,12 @@ use Rattle.posix_defs.specs.Calls.Starting.{exec, starts}
 use Rattle.posix_defs.specs.Calls.Writing.{bytes_left}
 use Rattle.machine_laws.specs.FileSteps as step
 use Rattle.machine_laws.specs.FileSteps.{IsStep, LeadsTo, OpensEnd}
-use Rattle.machine_laws.specs.WithoutFifos.{HasNoFifo, answer_without, info_before, machine_without, node_before, open_before, opened_before, program_before}
+use Rattle.machine_laws.specs.WithoutFifos.{HasNoFifo, LacksMkfifo, calls_mkfifo, is_mkfifo, answer_without, info_before, machine_without, node_before, open_before, opened_before, program_before}
 use Rattle.machine_laws.proofs.Closings.{IsClosedUnder, anybody, close_holds, closed_by_holds, closes_hold, exec_holds}
 use Rattle.machine_laws.proofs.FifoPlaces.{closed_fifo, fifo_in, pushed_fifos, same_fifos}
 use Rattle.machine_laws.proofs.FifosMade.{NoFifos, OkIs, TreeOf, bind_free, closed_free, link_path_free, mkdir_free, open_free, rename_free, resize_free, rmdir_free, unlink_path_free, write_free}
-use Rattle.machine_laws.proofs.Inductions.{answers_keep}
+use Rattle.machine_laws.specs.Reached.{IsReached}
+use Rattle.machine_laws.proofs.Inductions.{answers_keep, by_induction}
 use Rattle.machine_laws.proofs.Items.{true_false}
 use Rattle.machine_laws.proofs.Places.{not_some}
 
@@ -197,6 +207,37 @@ stays_free script plain pid call none other = answers_keep HasNoFifo script plai
 
 pub killed_free : (plain : Plain) (pid status : ℕ) → HasNoFifo plain.files → HasNoFifo (die plain pid status).files
 killed_free plain pid status none = closed_by_holds anybody HasNoFifo closes_free plain.files pid (λ who. tt) none
+
+-- what a script without `mkfifo` calls is another call
+other_made : (which : CallKind) (numbers : List ℤ) (texts : List (List ℕ)) (done : ℕ) (path : List ℕ) → is_mkfifo which ≡ false → made which numbers texts done ≢ calls.Mkfifo path
+other_made kind.Mkfifo numbers texts done path e f = cc
+other_made _ numbers texts done path e f = cc
+
+other_call : (script : Script) → LacksMkfifo script → (control : Control) (path : List ℕ) → program.call_of script control ≢ calls.Mkfifo path
+other_call script lacks control path = go (settled script control) (statement_of script (settled script control)) refl
+  where
+    found : (here : Control) (o : Option Program) (there : Statement) → slice_get script.programs here.program ≡ o → slice_get (statements_of o) here.place ≡ Some there → calls_mkfifo there ≡ false
+    found here None there is e = absurd (not_some refl e)
+    found here (Some it) there is e = lacks here.program here.place it there is e
+
+    go : (here : Control) (o : Option Statement) → statement_of script here ≡ o → call_at here o ≢ calls.Mkfifo path
+    go here None is e = cc
+    go here (Some (statement.Invoke which operands texts first second)) is e =
+        other_made which (map (value_of here) operands) texts here.done path (found here (slice_get script.programs here.program) (statement.Invoke which operands texts first second) refl is) e
+    go here (Some (statement.Set register value)) is e = cc
+    go here (Some (statement.Add register value)) is e = cc
+    go here (Some (statement.If left test right place)) is e = cc
+    go here (Some (statement.Jump place)) is e = cc
+    go here (Some (statement.Label name)) is e = cc
+    go here (Some (statement.Loop register place)) is e = cc
+
+pub reached_free : (script : Script) (plain : Plain) → LacksMkfifo script → IsReached script plain → HasNoFifo plain.files
+reached_free script plain lacks reached = by_induction script (λ plain. HasNoFifo plain.files) (record {
+  boot = boot_free script;
+  answer = λ plain pid before none alive. stays_free script plain pid (call_of script plain pid) none (other_call script lacks (control_of plain pid));
+  refuse = λ plain pid before none. none;
+  kill = λ plain pid status before none. killed_free plain pid status none;
+}) reached
 
 pub same_nodes : (files : Files) (target : Target) → HasNoFifo files → node_of files target ≡ node_before target
 same_nodes files (OnNode number) none = refl

@@ -1,8 +1,10 @@
 -- Machines without a FIFO, and what calls answer where there is none.
-use Rattle.std.specs.Prelude.{ℕ, ◌≡◌, ◌||◌, ℤ, false, List, Option, None, Some, Result, Ok, Err}
+use Rattle.std.specs.Prelude.{ℕ, ◌≡◌, ◌||◌, ℤ, Bool, true, false, List, Option, None, Some, slice_get, Result, Ok, Err}
 use Rattle.kabi_types.specs.Arguments.{argument_fault}
 use Rattle.kabi_types.specs.declared.calls.Call.{Call}
 use Rattle.kabi_types.specs.declared.calls.Call.TheVariants as calls
+use Rattle.kabi_types.specs.declared.calls.CallKind.{CallKind}
+use Rattle.kabi_types.specs.declared.calls.CallKind.TheVariants as kind
 use Rattle.kabi_types.specs.declared.errnos.Errno.{Errno}
 use Rattle.kabi_types.specs.declared.errnos.Errno.TheVariants.{EACCES, EMFILE}
 use Rattle.kabi_types.specs.declared.scripts.Program.{Program}
@@ -10,6 +12,8 @@ use Rattle.kabi_types.specs.declared.replies.NodeKind.TheVariants as kinds
 use Rattle.kabi_types.specs.declared.replies.Reply.TheVariants.{Stat}
 use Rattle.kabi_types.specs.declared.replies.StatInfo.{StatInfo}
 use Rattle.kabi_types.specs.declared.scripts.Script.{Script}
+use Rattle.kabi_types.specs.declared.scripts.Statement.{Statement}
+use Rattle.kabi_types.specs.declared.scripts.Statement.TheVariants as statement
 use Rattle.posix_defs.specs.Answer.{Answer, failed, replied}
 use Rattle.posix_defs.specs.Machine.{answer_to, unless_wrong}
 use Rattle.posix_defs.specs.PathCalls.{bytes_in, is_fifo, is_socket, node_led, open_path, program_of, stat_info, unless}
@@ -23,6 +27,22 @@ use Rattle.posix_defs.specs.Files.State.{Files, descriptors_of, node_of, opening
 use Rattle.posix_defs.specs.Calls.Opened.{on_open}
 use Rattle.posix_defs.specs.Calls.OnFiles.{open_node, opening_of, without_node}
 use Rattle.posix_defs.specs.Calls.Starting.{starts}
+
+-- the call is named `mkfifo`
+abbrev pub is_mkfifo : CallKind → Bool
+is_mkfifo kind.Mkfifo = true
+is_mkfifo _ = false
+
+-- the statement makes a call of that name
+abbrev pub calls_mkfifo : Statement → Bool
+calls_mkfifo (statement.Invoke which operands texts first second) = is_mkfifo which
+calls_mkfifo _ = false
+
+-- no statement of the script's programs does
+abbrev pub LacksMkfifo : Script → Type 0
+LacksMkfifo script =
+    (number place : ℕ) (program : Program) (here : Statement) → slice_get script.programs number ≡ Some program
+    → slice_get program.body place ≡ Some here → calls_mkfifo here ≡ false
 
 -- There is no FIFO: no node is one, no pipe is one's, and nobody waits for the other side of one.
 pub record HasNoFifo (files : Files) : Type 0 where

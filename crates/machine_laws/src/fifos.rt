@@ -20,7 +20,7 @@ ghost use Rattle.posix_defs.specs.Calls.Opened.{Opened, opened_at};
 ghost use Rattle.machine_laws.specs.FileSteps.{LeadsTo};
 ghost use Rattle.machine_laws.specs.Reached.{IsReached};
 ghost use Rattle.machine_laws.specs.Texts.{HasTexts};
-ghost use Rattle.machine_laws.specs.WithoutFifos.{HasNoFifo, machine_without, node_before};
+ghost use Rattle.machine_laws.specs.WithoutFifos.{HasNoFifo, LacksMkfifo, machine_without, node_before};
 
 /// In every machine that is reached a FIFO has one pipe at most, and a pipe that is a FIFO's is that of a node that is there and is a
 /// FIFO, whoever removed its names since.
@@ -44,8 +44,8 @@ pub fn an_open_wakes_where_the_other_side_was_opened()
         ≡ replied script (with_files plain (with_opening plain.files pid None)) pid (Val (pos opening.fd)) }
 {}
 
-/// A script that makes no FIFO runs as if there could be none: at boot there is none, and so it stays while nobody makes `mkfifo`;
-/// where there is none, each call is answered as if nothing could be one, no open waits, no end of a pipe has a node, to close one
+/// A script that makes no FIFO runs as if there could be none: at boot there is none, and so it stays while nobody makes `mkfifo`,
+/// as in every machine of a script whose programs don't; where there is none, each call is answered as if nothing could be one, no open waits, no end of a pipe has a node, to close one
 /// changes its pipe alone, and who ends has nothing but its descriptors to close.
 pub fn without_mkfifo_all_is_as_before()
     ensures boot { (script : Script) → HasNoFifo (boot_plain script).files }
@@ -54,6 +54,7 @@ pub fn without_mkfifo_all_is_as_before()
     ensures refused { (script : Script) (plain : Plain) (pid : ℕ) → HasNoFifo plain.files
         → HasNoFifo (answered script plain pid (Fail ENOMEM)).files }
     ensures killed { (plain : Plain) (pid status : ℕ) → HasNoFifo plain.files → HasNoFifo (die plain pid status).files }
+    ensures reached { (script : Script) (plain : Plain) → LacksMkfifo script → IsReached script plain → HasNoFifo plain.files }
     ensures same { (script : Script) (plain : Plain) (pid : ℕ) (call : Call) → HasNoFifo plain.files
         → machine script plain pid call ≡ machine_without script plain pid call }
     ensures nodes { (files : Files) (target : Target) → HasNoFifo files → node_of files target ≡ node_before target }

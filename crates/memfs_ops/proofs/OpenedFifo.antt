@@ -6,15 +6,14 @@ use Rattle.kabi_types.specs.declared.errnos.Errno.{Errno}
 use Rattle.kabi_types.specs.declared.errnos.Errno.TheVariants as errnos
 use Rattle.posix_defs.specs.FileBytes.{resized}
 use Rattle.posix_defs.specs.IsTree.{IsTree}
-use Rattle.posix_defs.specs.PathCalls.{Opening, is_fifo, is_fifo_kind, is_socket, kind_in, kind_of_content, open_led, open_path, open_there, unless}
-use Rattle.posix_defs.specs.Paths.{IsLed, resolve}
+use Rattle.posix_defs.specs.PathCalls.{Opening, is_fifo, is_fifo_kind, is_socket, kind_in, kind_of_content, open_led, open_there, unless}
+use Rattle.posix_defs.specs.Paths.{IsLed}
 use Rattle.posix_defs.specs.Tree.{Content, File, Directory, SocketName, Fifo, Node, Tree, node_at, is_directory, is_directory_in, is_directory_content, links_at, found}
 use Rattle.posix_defs.specs.TreeChanges.{make, with_bytes, with_bytes_in}
 use Rattle.posix_defs.specs.declared.walked.Walked.{Walked}
 use Rattle.posix_defs.specs.declared.walked.Walked.TheVariants as walked
 use Rattle.posix_defs.proofs.TreeNodes.{seen_same}
 use Rattle.tree_laws.proofs.FoundAfter.{made_found}
-use Rattle.tree_laws.proofs.PathLeads.{path_led}
 use Rattle.tree_laws.proofs.TreeKeeps.{found_named, same_Ok, err-ok}
 use Rattle.memfs_ops.proofs.OpenLemmas.{no_bytes_stay}
 
@@ -87,6 +86,7 @@ there_was tree how node number after at is =
 some_link : (tree : Tree) (dir : ℕ) (name : List ℕ) (number : ℕ) → IsTree tree → found tree dir name ≡ Some number → 0 < links_at tree number
 some_link tree dir name number is there = let named = found_named tree dir name number there in omega (arith, named, is.links number)
 
+-- the tree stays, in which it is a FIFO and has a name
 abbrev pub WasThere : Tree → ℕ → Tree → Type 0
 WasThere tree number after = (after ≡ tree) × (is_fifo tree number ≡ true) × (0 < links_at tree number)
 
@@ -103,7 +103,3 @@ fifo_led tree how (walked.Free dir name slashed) number after is there at fifo =
     let node = (made_found tree dir name (File []) number after there.0 there.1 refl made).1 in
     absurd (false≢true (sym (ap (λ (o : Option Node). is_fifo_kind (kind_in o)) node) ∙ fifo))
 fifo_led tree how (walked.Fail errno) number after is there at fifo = absurd (err-ok errno (number, after) at)
-
-pub opened_fifo : (tree : Tree) (cwd : ℕ) (path : List ℕ) (how : Opening) (number : ℕ) (after : Tree) → IsTree tree → is_directory tree cwd ≡ true → open_path tree cwd path how ≡ Ok (number, after) → is_fifo after number ≡ true
-    → (after ≡ tree) × (is_fifo tree number ≡ true) × (0 < links_at tree number)
-opened_fifo tree cwd path how number after is at answered fifo = fifo_led tree how (resolve tree cwd path) number after is (path_led tree cwd path is at) answered fifo

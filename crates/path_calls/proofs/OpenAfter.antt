@@ -27,6 +27,7 @@ module _ (plain : Plain) (sound : IsSound plain) (after : Tree) (freed : Option 
       unnamed = stays.socket ∙ it.unnamed;
       reads = λ is. it.reads (sym stays.directory ∙ is);
       between = λ is. it.between (sym stays.directory ∙ is);
+      no_fifo = λ target. stays.fifo ∙ it.no_fifo target;
     }
     | inr goes ↦ absurd (by_kind (is_directory plain.files.tree number) refl (λ is. goes.directory is) (λ is. goes.file is it.unnamed))
   ]

@@ -2,7 +2,7 @@
 use Rattle.std.proofs.Common.{◌≡◌, ℕ, List, [], ◌∷◌, None, refl, ap, ◌∙◌}
 use Rattle.kheap_slabs.specs.Heap.{Heap}
 use Rattle.open_laws.specs.Placed.{Numbers}
-use Rattle.posix_defs.specs.Files.Closing.{after_close, after_closes, after_end_of, all_numbers}
+use Rattle.posix_defs.specs.Files.Closing.{after_close, after_closes, all_numbers}
 use Rattle.posix_defs.specs.Files.State.{Files}
 use Rattle.proc_table.specs.Table.{TableView}
 use Rattle.proc_numbers.specs.Having.{HaveOpen}

@@ -1,6 +1,6 @@
 -- How often the other side of a FIFO was opened, as the heap has it and as the machine has it.
-use Rattle.std.proofs.Common.{◌≡◌, ℕ, ap, sym, ◌∙◌}
-use Rattle.std.specs.Prelude.{unwrap_or}
+use Rattle.std.proofs.Common.{◌≡◌, ℕ, false, ap, arith, le-ltb, sym, ◌∙◌}
+use Rattle.std.specs.Prelude.{nat_lt, unwrap_or}
 use Rattle.kheap_slabs.specs.Heap.{Heap}
 use Rattle.open_laws.specs.Piped.{ArePiped}
 use Rattle.open_laws.specs.Placed.{Numbers}
@@ -15,3 +15,7 @@ pipe_is numbers h files key is are =
     let there = are.there key is.2.held is.2.there in
     let means = are.means key is.2.held there.0 is.2.there there.1 in
     (stands_for_one h key is.0 there.0 is.1 means.0 is.2 means.1).0 ∙ sym (ap (λ o. unwrap_or o new_pipe) there.1)
+
+-- no number is below 0
+pub none_below : (n : ℕ) → false ≡ nat_lt n 0
+none_below n = sym (le-ltb n 0 (omega arith))

@@ -262,8 +262,8 @@ have_replaced h pid was now procs last number files own same only =
 
 module _ (h : Heap) (pid : ℕ) (was now : Proc) (procs : List Proc) (last : ℕ) (number : ℕ → ℕ) (files : Files) (own : now.pid ≡ pid) (same : numbers_in h now ≡ numbers_in h was)
     (only : AllByRecursion (λ p. p.pid ≡ pid → p ≡ was) procs) (there : proc_of procs pid ≡ Some was) (within : (0 < pid) × (pid ≤ last)) (have : HaveOpen (numbers_in h) procs last number files) where
-  abbrev next : Files
-  next = with_opening files pid (opening_in now)
+  abbrev slept : Files
+  slept = with_opening files pid (opening_in now)
 
   abbrev becomes : Proc → Option Proc
   becomes proc = Some (replaced pid now proc)
@@ -278,30 +278,30 @@ module _ (h : Heap) (pid : ℕ) (was now : Proc) (procs : List Proc) (last : ℕ
   numbers_by_pid proc its true is = same ∙ ap (numbers_in h) (sym (its (eqb_is proc.pid pid is)))
   numbers_by_pid proc its false is = refl
 
-  still : (proc p : Proc) → (proc.pid ≡ pid → proc ≡ was) × Placed h number files proc → becomes proc ≡ Some p → Placed h number next p
+  still : (proc p : Proc) → (proc.pid ≡ pid → proc ≡ was) × Placed h number files proc → becomes proc ≡ Some p → Placed h number slept p
   still proc p both is =
-      ap (descriptors_of next) (pids proc p is)
+      ap (descriptors_of slept) (pids proc p is)
       ∙ (both.1
       ∙ ap (descriptors_by number) (sym (numbers_by_pid proc both.0 (proc.pid == pid) refl) ∙ ap (numbers_in h) (becomes_is proc p is)))
 
-  asleep : (proc p : Proc) → Sleeps files proc → becomes proc ≡ Some p → Sleeps next p
-  asleep proc p its is = subst (Sleeps next) (becomes_is proc p is) (by_pid (eqb_tells proc.pid pid))
+  asleep : (proc p : Proc) → Sleeps files proc → becomes proc ≡ Some p → Sleeps slept p
+  asleep proc p its is = subst (Sleeps slept) (becomes_is proc p is) (by_pid (eqb_tells proc.pid pid))
     where
-      by_pid : (((proc.pid == pid) ≡ true) × (proc.pid ≡ pid)) ⊎ (((proc.pid == pid) ≡ false) × (proc.pid ≢ pid)) → Sleeps next (replaced pid now proc)
+      by_pid : (((proc.pid == pid) ≡ true) × (proc.pid ≡ pid)) ⊎ (((proc.pid == pid) ≡ false) × (proc.pid ≢ pid)) → Sleeps slept (replaced pid now proc)
       by_pid (inl it) =
-          subst (Sleeps next) (sym (ap (λ b. cond b now proc) it.0))
-          (ap (opening_at next) own ∙ sleeps_here files.openings pid (opening_in now) within.0 (let made = have.counted in let below = within.1 in omega (arith, made, below)))
-      by_pid (inr apart) = subst (Sleeps next) (sym (ap (λ b. cond b now proc) apart.0)) (sleeps_there files.openings pid proc.pid (opening_in now) apart.1 ∙ its)
+          subst (Sleeps slept) (sym (ap (λ b. cond b now proc) it.0))
+          (ap (opening_at slept) own ∙ sleeps_here files.openings pid (opening_in now) within.0 (let made = have.counted in let below = within.1 in omega (arith, made, below)))
+      by_pid (inr apart) = subst (Sleeps slept) (sym (ap (λ b. cond b now proc) apart.0)) (sleeps_there files.openings pid proc.pid (opening_in now) apart.1 ∙ its)
 
   gone : (q : ℕ) → (proc_of procs q ≡ None) ⊎ ((proc : Proc) × (proc_of procs q ≡ Some proc) × (becomes proc ≡ None)) → proc_of procs q ≡ None
   gone q (inl none) = none
   gone q (inr it) = absurd (let no = it.2 in cc)
 
-  pub have_slept : HaveOpen (numbers_in h) (map (replaced pid now) procs) last number next
-  have_slept = subst (λ (list : List Proc). HaveOpen (numbers_in h) list last number next) (all_changed (replaced pid now) procs) (record {
-    placed = all_filter_map (λ proc. (proc.pid ≡ pid → proc ≡ was) × Placed h number files proc) (Placed h number next) becomes procs still
+  pub have_slept : HaveOpen (numbers_in h) (map (replaced pid now) procs) last number slept
+  have_slept = subst (λ (list : List Proc). HaveOpen (numbers_in h) list last number slept) (all_changed (replaced pid now) procs) (record {
+    placed = all_filter_map (λ proc. (proc.pid ≡ pid → proc ≡ was) × Placed h number files proc) (Placed h number slept) becomes procs still
         (all_both (λ proc. proc.pid ≡ pid → proc ≡ was) (Placed h number files) procs only have.placed);
-    sleeping = all_filter_map (Sleeps files) (Sleeps next) becomes procs asleep have.sleeping;
+    sleeping = all_filter_map (Sleeps files) (Sleeps slept) becomes procs asleep have.sleeping;
     gone = λ q none. have.gone q (gone q (gone_kept becomes procs q pids none));
     awake = λ q none.
         let before = gone q (gone_kept becomes procs q pids none) in
@@ -338,7 +338,7 @@ heir_sleeps openings (suc n) = unwrap_or-slice_get (openings ++ None ∷ []) n N
     more (inr above) = past (cases_eq n (length openings)) ∙ sym (get_or_past openings n None above)
       where
         past : (n ≡ length openings) ⊎ (n ≢ length openings) → get_or (openings ++ None ∷ []) n None ≡ None
-        past (inl at) = get_or_at openings None [] None n at
+        past (inl at) = get_or_at openings None [] None n (sym at)
         past (inr apart) = get_or_past (openings ++ None ∷ []) n None (rw length-append (omega (arith, above, apart)))
 
 pub have_forked : (old new : Heap) (was now : TableView) (pid child : ℕ) (number : ℕ → ℕ) (files : Files) → Holds old was → HoldLeaves old.leaves (processes old was) → child ≡ was.last + 1
@@ -376,7 +376,8 @@ have_forked old new was now pid child number files holds hold next forked copies
     -- who isn't made yet sleeps in none
     none_yet : opening_at files child ≡ None
     none_yet =
-        ap (opening_at files) (next ∙ (let counted = have.counted in omega (arith, counted)))
+        let is : child ≡ suc (length files.openings) = (let counted = have.counted in omega (arith, next, counted)) in
+        ap (opening_at files) is
         ∙ (unwrap_or-slice_get files.openings (length files.openings) None ∙ get_or_past files.openings (length files.openings) None (omega arith))
 
     parent_placed : descriptors_of files pid ≡ descriptors_by number (numbers_in old forked.parent)

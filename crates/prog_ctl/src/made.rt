@@ -94,6 +94,17 @@ fn numbers_of(control: &Control, operands: &[Operand]) -> ArrayVec<i64, 17>
     numbers
 }
 
+/// A `mkfifo` of a path. It stands by itself, since the seventh case of the calls on one path made each of them dearer.
+#[inline(never)]
+fn made_mkfifo(texts: &[Text]) -> Call
+    requires texts { AllByRecursion (λ text. length text ≤ most_text (shape_of kinds.Mkfifo)) texts.now }
+    ensures { (numbers : List ℤ) (done : ℕ) → result ≡ spec.made kinds.Mkfifo numbers texts.now done }
+{
+    Call::Mkfifo {
+        path: path_at(texts, 0),
+    }
+}
+
 /// The call of a kind that takes one path and nothing else. It stands by itself, as `made_with_texts` does.
 #[inline(never)]
 fn made_on_path(kind: CallKind, texts: &[Text]) -> Call
@@ -119,9 +130,7 @@ fn made_on_path(kind: CallKind, texts: &[Text]) -> Call
         CallKind::Unlink => return Call::Unlink {
             path: path_at(texts, 0),
         },
-        CallKind::Mkfifo => return Call::Mkfifo {
-            path: path_at(texts, 0),
-        },
+        CallKind::Mkfifo => return made_mkfifo(texts),
         _ => Call::SchedYield,
     }
 }

@@ -1,7 +1,12 @@
-use Rattle.std.proofs.Common.{◌≡◌, Bool, true, false, not, None, sym, ap, ◌∙◌}
+use Rattle.std.proofs.Common.{◌≡◌, None, ap, pos, subst, sym, ◌∙◌, w64}
+use Rattle.std.proofs.lemmas.Int.{to_z-of_z}
+use mir.Val.{of_z, to_z}
+use Rattle.kabi_types.specs.declared.replies.Reply.TheVariants.{Val}
+use Rattle.posix_defs.specs.declared.turner.Turned.TheVariants as turned
 use Rattle.proc_table.specs.Opening.{half_in}
 use Rattle.store_objects.proofs.Callers.{placed_on}
 use Rattle.store_objects.proofs.Keeping.{listed_in}
+use Rattle.store_objects.proofs.Replies.{GoesOn}
 use Rattle.store_objects.proofs.Sleeping.{kept_sleeping, runs_sleeping, stands_sleeping}
 use Rattle.file_calls.proofs.Waiting.{serves_asleep, serves_awake}
 use Rattle.file_calls.proofs.opening.open_again.Goals as goal
@@ -40,7 +45,9 @@ go_on-requires-clause-placed c = placed_on c.args.objects.now c.wait_in.new.self
 
 pub returns-clause-does : goal.returns-clause-does
 returns-clause-does c = λ path flags.
+    let number : to_z w64 (of_z w64 c.from.result) ≡ pos c.args.opening.fd = to_z-of_z w64 c.from.result (record { sfits = c.from.type_inv }) ∙ c.from.ensures in
     serves_awake c.args.script.now c.args.objects.now c.args.caller.now.place.pid path flags (half_in c.args.opening) c.requires.sleeps c.wait_in.new.self c.go_on.new.objects c.go_on.result
     (λ world stands. sym (c.is_met.ensures stands.files.numbers world.plain.files stands.files.opened) ∙ c.if-not-is_met.false)
     (λ world stands. stands_sleeping c.args.script.now c.args.objects.now c.wait_in.new.self c.args.caller.now.place.pid None stands.kept c.wait_in.ensures world stands)
-    c.go_on.ensures.told c.go_on.ensures.goes
+    (c.go_on.ensures.told ∙ ap (λ z. turned.Done (Val z)) number)
+    (subst (λ z. GoesOn c.args.script.now c.wait_in.new.self c.args.caller.now.place.pid (Val z) c.go_on.new.objects) number c.go_on.ensures.goes)

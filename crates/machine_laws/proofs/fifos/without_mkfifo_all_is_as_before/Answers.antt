@@ -1,4 +1,4 @@
-use Rattle.machine_laws.proofs.FifoLess.{boot_free, killed_free, same_closed, same_ended, same_machine, same_nodes, stays_free}
+use Rattle.machine_laws.proofs.FifoLess.{boot_free, killed_free, reached_free, same_closed, same_ended, same_machine, same_nodes, stays_free}
 use Rattle.machine_laws.proofs.fifos.without_mkfifo_all_is_as_before.Goals as goal
 
 pub returns-clause-boot : goal.returns-clause-boot
@@ -12,6 +12,9 @@ returns-clause-refused c = λ script plain pid none. none
 
 pub returns-clause-killed : goal.returns-clause-killed
 returns-clause-killed c = killed_free
+
+pub returns-clause-reached : goal.returns-clause-reached
+returns-clause-reached c = reached_free
 
 pub returns-clause-same : goal.returns-clause-same
 returns-clause-same c = λ script plain pid call none. same_machine script plain pid none call
