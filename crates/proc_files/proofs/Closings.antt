@@ -10,11 +10,9 @@ use Rattle.kheap_slabs.specs.Objects.{InUse, object}
 use Rattle.kheap_slabs.specs.declared.objects.Desc.{Desc}
 use Rattle.kheap_slabs.specs.declared.objects.Descriptor.{Descriptor as HeldDescriptor}
 use Rattle.kheap_slabs.specs.declared.objects.Proc.{Proc}
-use Rattle.kheap_slabs.specs.declared.objects.Target.{Target as HeldTarget}
-use Rattle.kheap_slabs.specs.declared.objects.Target.TheVariants as held_target
 use Rattle.kheap_slabs.proofs.ObjectLemmas.{InUse-within}
 use Rattle.kheap_slabs.specs.Heap.{Heap}
-use Rattle.open_laws.specs.Described.{counted_in, node_in, target_in}
+use Rattle.open_laws.specs.Described.{counted_in, node_in}
 use Rattle.open_laws.specs.Open.{descriptor_by}
 use Rattle.open_laws.specs.Owned.{HasItsOwners, all_namings, desc_count}
 use Rattle.open_laws.specs.Placed.{Numbers}

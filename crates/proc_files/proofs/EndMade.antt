@@ -1,10 +1,10 @@
 -- A FIFO has an end more, and a Desc is made that is open on it: who owns what then, and what heap and table have open.
-use Rattle.std.proofs.Common.{◌≡◌, ◌≢◌, ◌⊎◌, ℕ, ◌+◌, ◌<◌, ◌==◌, ◌&&◌, ◌++◌, ℤ, Bool, true, false, not, cond, List, [], ◌∷◌, set, length, count_by, Option, None, Some, IsSome, is_some, unwrap_or, slice_index_or, slice_set, refl, sym, ap, subst, ◌∙◌, arith, eq-eqb, ne_eqb, inl, inr}
+use Rattle.std.proofs.Common.{◌≡◌, ◌≢◌, ◌⊎◌, ℕ, ◌+◌, ◌<◌, ◌==◌, ◌&&◌, ◌++◌, ℤ, Bool, true, false, not, List, [], ◌∷◌, set, length, count_by, Option, None, Some, IsSome, is_some, unwrap_or, refl, sym, ap, subst, ◌∙◌, arith, eq-eqb, ne_eqb, inl, inr}
 use Rattle.std.proofs.lemmas.Bool.{cases_eq}
 use Rattle.std.proofs.lemmas.List.{get_or_at, get_or_past}
 use Rattle.chunk_queue.specs.Chained.{place_of}
 use Rattle.chunk_queue.proofs.HeldLemmas.{HasBytes-same}
-use Rattle.fifo_nodes.specs.Chain.{HasNoPipe, IsChain, IsFifoAt, OpensEnd}
+use Rattle.fifo_nodes.specs.Chain.{IsChain, IsFifoAt, OpensEnd}
 use Rattle.kheap_laws.proofs.OnceLemmas.{Contains-single}
 use Rattle.kheap_slabs.specs.Objects.{InUse, object}
 use Rattle.kheap_slabs.specs.declared.objects.Access.{Access as HeldAccess}
@@ -25,7 +25,7 @@ use Rattle.kheap_slabs.specs.declared.objects.Vnode.{Vnode}
 use Rattle.kheap_slabs.specs.Paid.{AreFills, HasFills}
 use Rattle.kheap_slabs.specs.Heap.{Heap}
 use Rattle.kheap_slabs.specs.Owners.{OwnsItsObjects}
-use Rattle.open_laws.specs.Described.{AreDescribed, CountedList, access_in, counted_in, target_in}
+use Rattle.open_laws.specs.Described.{AreDescribed, access_in, counted_in, target_in}
 use Rattle.open_laws.specs.Open.{descriptors_by}
 use Rattle.open_laws.specs.Owned.{CountsItsNames, HasItsEnds, HasItsOwners, IsHeldOpen, IsThereFor, has_read_end, has_write_end, is_on_pipe, sock_in, socks_named}
 use Rattle.open_laws.specs.Piped.{ArePiped}
@@ -33,7 +33,7 @@ use Rattle.open_laws.specs.Placed.{Numbers, numbered}
 use Rattle.open_laws.proofs.DropLemmas.{socketed_on}
 use Rattle.open_laws.proofs.OwnerLemmas.{named_by, names}
 use Rattle.open_laws.proofs.PlaceLemmas.{placed_changed, placed_made, placed_unchanged, put_at, stay_changed}
-use Rattle.pipe_ends.specs.Links.{link_at, link_of}
+use Rattle.pipe_ends.specs.Links.{link_of}
 use Rattle.pipe_ends.specs.Standing.{IsPipeAt, StandsFor}
 use Rattle.pipe_ends.proofs.StandingLemmas.{stands_on, stands_same}
 use Rattle.posix_defs.specs.Calls.OnFiles.{fifo_at, fifo_place, fifo_there, is_for_both, with_fifo}

@@ -3,7 +3,6 @@ use Rattle.std.proofs.Common.{◌≡◌, ◌≢◌, ◌<◌, ◌==◌, ◌&&◌,
 use Rattle.std.specs.Prelude.{nat_le}
 use Rattle.std.proofs.lemmas.Bool.{false≢true}
 use Rattle.std.proofs.lemmas.Bool.Decides.{leb_tells}
-use Rattle.kabi_types.specs.declared.errnos.Errno.{Errno}
 use Rattle.kabi_types.specs.declared.errnos.Errno.TheVariants.{EAGAIN, EINVAL, ENXIO}
 use Rattle.posix_defs.specs.Calls.OnFiles.{fifo_fault, fifo_waits, is_for_both, most_opens}
 use Rattle.posix_defs.specs.Files.Descriptions.{access_of, has_flag, may_write, o_nonblock}

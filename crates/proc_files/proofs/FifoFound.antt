@@ -1,23 +1,21 @@
 -- The pipe of a FIFO in the heap is the one that the machine has for it.
-use Rattle.std.proofs.Common.{◌≡◌, ◌≢◌, ℕ, zero, suc, ◌+◌, ◌<◌, ◌==◌, Bool, true, false, cond, List, [], ◌∷◌, set, Option, None, Some, is_some, unwrap_or, slice_index_or, refl, ap, sym, ◌∙◌, subst, inl, inr, arith, ne_eqb}
+use Rattle.std.proofs.Common.{◌≡◌, ◌≢◌, ℕ, zero, suc, ◌+◌, ◌<◌, ◌==◌, Bool, true, false, cond, List, [], ◌∷◌, Option, None, Some, unwrap_or, slice_index_or, refl, ap, sym, ◌∙◌, subst, inl, inr, arith, ne_eqb}
 use Rattle.std.specs.List.{position_from}
-use Rattle.std.proofs.lemmas.Bool.{cases_eq, false≢true}
+use Rattle.std.proofs.lemmas.Bool.{false≢true}
 use Rattle.std.proofs.lemmas.Bool.Decides.{eqb_tells}
-use Rattle.kheap_laws.proofs.OnceLemmas.{Contains-single}
-use Rattle.kheap_slabs.specs.Objects.{InUse, object}
+use Rattle.kheap_slabs.specs.Objects.{object}
 use Rattle.kheap_slabs.proofs.ObjectLemmas.{object_of}
 use Rattle.kheap_slabs.specs.declared.objects.Pipe.{Pipe as HeldPipe}
 use Rattle.kheap_slabs.specs.Heap.{Heap}
-use Rattle.fifo_nodes.specs.Chain.{HasNoPipe, IsChain, IsFifoAt, OpensEnd, TellsOf}
+use Rattle.fifo_nodes.specs.Chain.{HasNoPipe, IsChain, IsFifoAt, TellsOf}
 use Rattle.open_laws.specs.Piped.{ArePiped}
 use Rattle.open_laws.specs.Placed.{Numbers}
-use Rattle.pipe_ends.specs.Links.{Link, link_at, link_in, link_of}
+use Rattle.pipe_ends.specs.Links.{Link, link_in, link_of}
 use Rattle.pipe_ends.specs.Standing.{StandsFor}
 use Rattle.pipe_ends.proofs.StandingLemmas.{stands_for_one}
 use Rattle.posix_defs.specs.Calls.OnFiles.{fifo_at, fifo_pipe, fifo_there}
 use Rattle.posix_defs.specs.Files.State.{Files}
 use Rattle.posix_defs.specs.Pipe.{Pipe, is_of_fifo, new_pipe, unopened}
-use Rattle.proc_table.proofs.PlaceLemmas.{some_same}
 use Rattle.proc_files.proofs.FifoTargets.{stands_fifo}
 
 -- ---- in the machine

@@ -1,5 +1,5 @@
 -- A FIFO to which an open has led has an end more, or is held no more: heap, table and tree stand for the files then.
-use Rattle.std.proofs.Common.{◌≡◌, ◌≢◌, ℕ, ◌+◌, ◌-◌, ◌<◌, ◌==◌, ◌++◌, ℤ, pos, Bool, true, false, not, cond, List, [], ◌∷◌, length, Option, None, Some, Ok, slice_index_or, unwrap_or, refl, ap, sym, subst, ◌∙◌, arith, eq-eqb, ne_eqb, inl, inr}
+use Rattle.std.proofs.Common.{◌≡◌, ℕ, ◌+◌, ◌-◌, ◌<◌, ◌==◌, ℤ, pos, Bool, true, false, not, cond, List, [], length, Option, None, Some, Ok, slice_index_or, unwrap_or, refl, ap, sym, subst, ◌∙◌, arith, eq-eqb, ne_eqb, inl, inr}
 use Rattle.std.specs.Option.{option_and_then}
 use Rattle.std.proofs.lemmas.Bool.{cases_eq}
 use Rattle.std.proofs.lemmas.List.{get_or_at}
@@ -15,8 +15,8 @@ use Rattle.open_laws.proofs.PlaceLemmas.{put_at}
 use Rattle.posix_defs.specs.Answer.{Answer, replied}
 use Rattle.posix_defs.specs.Calls.OnFiles.{description_on, end_awaits, end_opened, fifo_at, fifo_fault, fifo_pipe, fifo_place, fifo_there, fifo_waits, open_end, open_fifo, with_fifo}
 use Rattle.posix_defs.specs.Calls.Writing.{did_part}
-use Rattle.posix_defs.specs.Files.Descriptions.{Description, OnNode, OnPipe, OnSocket, Target, access_of, description_at, has_flag, may_write, o_cloexec}
-use Rattle.posix_defs.specs.Files.State.{Files, node_of, opened_as, with_opening}
+use Rattle.posix_defs.specs.Files.Descriptions.{OnNode, OnPipe, OnSocket, Target, access_of, has_flag, may_write, o_cloexec}
+use Rattle.posix_defs.specs.Files.State.{Files, node_of, opened_as}
 use Rattle.posix_defs.specs.PathCalls.{is_fifo}
 use Rattle.posix_defs.specs.Pipe.{Pipe, fifo_of, new_pipe, opens_of, with_end}
 use Rattle.posix_defs.specs.Plain.{Plain, with_files}
@@ -28,10 +28,9 @@ use Rattle.proc_files.specs.Closing.{CachesChange}
 use Rattle.proc_files.specs.Holding.{HoldFiles}
 use Rattle.proc_files.specs.Holders.{holders}
 use Rattle.proc_files.specs.Opening.{HasLed, LeadsTo, end_came, opened_answer}
-use Rattle.proc_files.specs.declared.opening.Opened.{Opened}
 use Rattle.proc_files.specs.declared.opening.Opened.TheVariants as opened
 use Rattle.proc_files.proofs.Beside.{have_beside}
-use Rattle.proc_files.proofs.FifoFound.{StandsAt, stands_at}
+use Rattle.proc_files.proofs.FifoFound.{stands_at}
 use Rattle.proc_files.proofs.FifoTargets.{end_opened_node, pipe_is_there, pipe_more_node}
 use Rattle.proc_files.proofs.Holding.{same_pins}
 use Rattle.proc_files.proofs.HoldMade.{hold_made}

@@ -1,5 +1,5 @@
 -- What descriptions are open on is there, and of an end of a FIFO's pipe the machine has the FIFO that the heap has.
-use Rattle.std.proofs.Common.{◌≡◌, ℕ, zero, suc, ◌+◌, ◌==◌, ◌&&◌, ◌++◌, Bool, true, false, cond, List, [], ◌∷◌, set, length, Option, None, Some, is_some, unwrap_or, refl, ap, sym, ◌∙◌, subst}
+use Rattle.std.proofs.Common.{◌≡◌, ℕ, zero, suc, ◌==◌, ◌&&◌, ◌++◌, Bool, true, false, cond, List, [], ◌∷◌, Option, None, Some, is_some, unwrap_or, refl, ap, sym, ◌∙◌}
 use Rattle.std.specs.Prelude.{slice_index_or, slice_set}
 use Rattle.std.specs.Option.{option_and_then, option_map}
 use Rattle.kheap_slabs.specs.Objects.{InUse, object}
@@ -16,9 +16,9 @@ use Rattle.open_laws.specs.Piped.{ArePiped}
 use Rattle.open_laws.specs.Placed.{Numbers}
 use Rattle.open_laws.proofs.DropLemmas.{description_in}
 use Rattle.pipe_ends.specs.Standing.{IsPipeAt, StandsFor}
-use Rattle.posix_defs.specs.Files.Descriptions.{Description, Descriptions, OnNode, OnPipe, OnSocket, Target, description_at}
+use Rattle.posix_defs.specs.Files.Descriptions.{Description, Descriptions, OnPipe, description_at}
 use Rattle.posix_defs.specs.Files.State.{Files, node_of, pipe_there}
-use Rattle.posix_defs.specs.Pipe.{Pipe, after_close, fifo_of, new_pipe, while_open, with_end, without_reader, without_writer}
+use Rattle.posix_defs.specs.Pipe.{Pipe, after_close, fifo_of, new_pipe, with_end, without_reader, without_writer}
 use Rattle.proc_table.specs.Table.{TableView}
 use Rattle.proc_table.proofs.PlaceLemmas.{some_same}
 use Rattle.proc_numbers.specs.Having.{HaveOpen}

@@ -1,5 +1,5 @@
 -- A node that is no FIFO, to which an open has led, has a description more: heap, table and tree stand for the files then.
-use Rattle.std.proofs.Common.{◌≡◌, ◌<◌, ℕ, ℤ, false, cond, [], Ok, refl, ap, sym, subst}
+use Rattle.std.proofs.Common.{◌≡◌, ℕ, ℤ, false, cond, [], Ok, refl, ap, subst}
 use Rattle.kabi_types.specs.declared.scripts.Script.{Script}
 use Rattle.kheap_slabs.specs.declared.objects.Target.TheVariants as target
 use Rattle.kheap_slabs.specs.Heap.{Heap}
@@ -16,7 +16,7 @@ use Rattle.proc_table.specs.Table.{TableView}
 use Rattle.proc_numbers.specs.Having.{AreListed, HaveOpen}
 use Rattle.proc_files.specs.Holding.{HoldFiles}
 use Rattle.proc_files.specs.Holders.{holders}
-use Rattle.proc_files.specs.Opening.{AnswersOpening, HasLed, HaveAnew, HaveWanting, opened_answer}
+use Rattle.proc_files.specs.Opening.{AnswersOpening, HasLed, HaveAnew, HaveWanting}
 use Rattle.proc_files.specs.declared.opening.Opened.TheVariants as opened
 use Rattle.proc_files.proofs.Beside.{have_beside}
 use Rattle.proc_files.proofs.HoldMade.{hold_made}

@@ -1,4 +1,4 @@
-use Rattle.std.proofs.Common.{◌≡◌, ◌==◌, ◌&&◌, ◌∙◌, ap, false, sym, true, w64}
+use Rattle.std.proofs.Common.{◌==◌, ◌&&◌, ◌∙◌, ap, sym, w64}
 use Rattle.std.specs.Prelude.{nat_le}
 use Rattle.std.proofs.lemmas.Int.{to_z-of_z}
 use Rattle.posix_defs.specs.Calls.OnFiles.{fifo_pipe, is_for_both, most_opens}

@@ -1,16 +1,14 @@
-use Rattle.std.proofs.Common.{◌≡◌, ◌<◌, ◌∙◌, ℕ, [], None, Some, ap, cond, is_some, not, subst, sym, w64}
+use Rattle.std.proofs.Common.{◌<◌, ◌∙◌, [], None, Some, ap, cond, is_some, not, subst, sym, w64}
 use Rattle.std.proofs.lemmas.Int.{to_z-of_z}
 use Rattle.fifo_nodes.proofs.ChainLemmas.{chain_kept}
-use Rattle.fifo_nodes.specs.Chain.{IsFifoAt, OpensEnd}
+use Rattle.fifo_nodes.specs.Chain.{OpensEnd}
 use Rattle.kheap_laws.proofs.PaidLemmas.{IsPaid-trans}
 use Rattle.kheap_slabs.specs.Heap.{Heap}
-use Rattle.kheap_slabs.specs.Objects.{InUse}
 use Rattle.kheap_slabs.specs.Purse.{Purse}
 use Rattle.kheap_slabs.specs.declared.objects.Target.TheVariants as target
-use Rattle.open_laws.specs.Placed.{Numbers}
 use Rattle.posix_defs.specs.Calls.OnFiles.{description_on, fifo_at, fifo_pipe, fifo_there, fifo_waits, with_fifo}
 use Rattle.posix_defs.specs.Files.Descriptions.{OnPipe, access_of, has_flag, may_write, o_cloexec}
-use Rattle.posix_defs.specs.Files.State.{Files, opened_as}
+use Rattle.posix_defs.specs.Files.State.{opened_as}
 use Rattle.posix_defs.specs.Pipe.{opens_of, with_end}
 use Rattle.proc_numbers.proofs.Fronts.{queues_then}
 use Rattle.proc_numbers.proofs.NumberCloses.{listed_on}

@@ -1,16 +1,13 @@
-use Rattle.std.proofs.Common.{◌≡◌, ◌+◌, ◌<◌, ◌∙◌, ℕ, [], None, Ok, Some, ap, arith, is_some, refl, subst, sym, w64}
+use Rattle.std.proofs.Common.{◌≡◌, ◌<◌, ◌∙◌, [], Ok, ap, arith, is_some, refl, subst, sym, w64}
 use Rattle.std.proofs.lemmas.Int.{to_z-of_z}
 use Rattle.fifo_nodes.proofs.ChainLemmas.{chain_kept}
 use Rattle.memfs_ops.specs.Closing.{GoesThen}
 use Rattle.memfs_ops.specs.FileTree.{one_more}
-use Rattle.open_laws.specs.Placed.{Numbers}
 use Rattle.pipe_ends.proofs.LinkLemmas.{links_same}
 use Rattle.posix_defs.specs.Calls.OnFiles.{end_opened, fifo_fault, fifo_pipe}
-use Rattle.posix_defs.specs.Files.State.{Files}
-use Rattle.posix_defs.specs.Tree.{Tree, root}
+use Rattle.posix_defs.specs.Tree.{root}
 use Rattle.proc_numbers.proofs.Changes.{changes_nothing}
 use Rattle.proc_numbers.proofs.Fronts.{queues_same}
-use Rattle.proc_numbers.specs.Having.{HaveOpen}
 use Rattle.proc_files.specs.Holders.{holders}
 use Rattle.proc_files.specs.Opening.{HaveAnew, end_came, opened_answer}
 use Rattle.proc_files.proofs.Beside.{listed_beside, owners_beside, same_pipes, same_socks}

@@ -1,13 +1,12 @@
-use Rattle.std.proofs.Common.{◌≡◌, ◌∙◌, cond, [], Ok, ap, false, sym, subst, true, w64}
+use Rattle.std.proofs.Common.{◌≡◌, ◌∙◌, cond, ap, false, sym, subst, true, w64}
 use Rattle.std.proofs.lemmas.Int.{to_z-of_z}
 use Rattle.fifo_nodes.proofs.ChainLemmas.{chain_kept}
 use Rattle.kheap_slabs.specs.declared.objects.Target.TheVariants as target
 use Rattle.memfs_ops.specs.FileTree.{TreeView, one_more}
 use Rattle.posix_defs.specs.Calls.OnFiles.{description_for, open_fifo, open_node}
-use Rattle.posix_defs.specs.Files.Descriptions.{OnNode, has_flag, o_cloexec}
-use Rattle.posix_defs.specs.Files.State.{Files, opened_as, with_tree}
+use Rattle.posix_defs.specs.Files.Descriptions.{has_flag, o_cloexec}
+use Rattle.posix_defs.specs.Files.State.{opened_as, with_tree}
 use Rattle.posix_defs.specs.PathCalls.{is_fifo}
-use Rattle.open_laws.specs.Placed.{Numbers}
 use Rattle.proc_files.specs.Holders.{holders}
 use Rattle.proc_files.specs.Opening.{AnswersOpening, HasLed, HaveAnew, HaveWanting}
 use Rattle.proc_files.proofs.Changing.{holding_of}
