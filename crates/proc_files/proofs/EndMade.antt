@@ -270,8 +270,7 @@ module _ (old mid : Heap) (first : Option ℕ) (node : ℕ) (writing : Bool) (pi
               subst (IsPipeAt new) (sym same)
               (with_end more.was writing, more.at, stands_same mid new pipe (with_end more.was writing) more.at (ap (λ (p : List (Option HeldPipe)). object p pipe) same_pipes) same_chunks more.now)
           stand_so other used (inr apart) =
-              let before = owners.held.stand other (subst IsSome (ap (λ (p : List (Option HeldPipe)). object p other) same_pipes ∙ other_pipe other apart) used) in
-              (
+              let before = owners.held.stand other (subst IsSome (ap (λ (p : List (Option HeldPipe)). object p other) same_pipes ∙ other_pipe other apart) used) in (
                 before.0,
                 before.1,
                 stands_same mid new other before.0 before.1 (ap (λ (p : List (Option HeldPipe)). object p other) same_pipes) same_chunks (other_stands other before.0 before.1 apart before.2),

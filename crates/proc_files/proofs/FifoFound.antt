@@ -30,26 +30,28 @@ record IsFirst (number from : ℕ) (pipes : List (Option Pipe)) (place : ℕ) : 
 
 found_from : (number from : ℕ) (pipes : List (Option Pipe)) (place : ℕ) → position_from (is_of_fifo number) from pipes ≡ Some place → IsFirst number from pipes place
 found_from number from [] place e = absurd (cc)
-found_from number from (first ∷ pipes) place e = by_first (is_of_fifo number first) refl e
+found_from number from (first ∷ pipes) place e = by_first (is_of_fifo number first) refl e (λ f. found_from number (from + 1) pipes place f)
   where
     place_is : (one : ℕ) → Some one ≡ Some place → one ≡ place
     place_is one same = cc
 
-    by_first : (b : Bool) → is_of_fifo number first ≡ b → cond b (Some from) (position_from (is_of_fifo number) (from + 1) pipes) ≡ Some place → IsFirst number from (first ∷ pipes) place
-    by_first true is f = record { behind = 0; is = (let same : from ≡ place = place_is from f in omega (arith, same)); of = is }
-    by_first false is f =
-        let later = found_from number (from + 1) pipes place f in
+    by_first : (b : Bool) → is_of_fifo number first ≡ b → cond b (Some from) (position_from (is_of_fifo number) (from + 1) pipes) ≡ Some place
+        → (position_from (is_of_fifo number) (from + 1) pipes ≡ Some place → IsFirst number (from + 1) pipes place) → IsFirst number from (first ∷ pipes) place
+    by_first true is f behind = record { behind = 0; is = (let same : from ≡ place = place_is from f in omega (arith, same)); of = is }
+    by_first false is f behind =
+        let later = behind f in
         record { behind = suc later.behind; is = (let same = later.is in omega (arith, same)); of = later.of }
 
 none_from : (number from : ℕ) (pipes : List (Option Pipe)) → position_from (is_of_fifo number) from pipes ≡ None → (at : ℕ) → is_of_fifo number (slice_index_or pipes at None) ≡ false
 none_from number from [] e at = refl
-none_from number from (first ∷ pipes) e at = by_first (is_of_fifo number first) refl e at
+none_from number from (first ∷ pipes) e at = by_first (is_of_fifo number first) refl e (λ f k. none_from number (from + 1) pipes f k) at
   where
-    by_first : (b : Bool) → is_of_fifo number first ≡ b → cond b (Some from) (position_from (is_of_fifo number) (from + 1) pipes) ≡ None → (k : ℕ)
+    by_first : (b : Bool) → is_of_fifo number first ≡ b → cond b (Some from) (position_from (is_of_fifo number) (from + 1) pipes) ≡ None
+        → (position_from (is_of_fifo number) (from + 1) pipes ≡ None → (k : ℕ) → is_of_fifo number (slice_index_or pipes k None) ≡ false) → (k : ℕ)
         → is_of_fifo number (slice_index_or (first ∷ pipes) k None) ≡ false
-    by_first true is f k = absurd (cc)
-    by_first false is f zero = is
-    by_first false is f (suc k) = none_from number (from + 1) pipes f k
+    by_first true is f behind k = absurd (cc)
+    by_first false is f behind zero = is
+    by_first false is f behind (suc k) = behind f k
 
 -- a pipe stands at a place, which is that of this FIFO
 pub record StandsAt (files : Files) (node place : ℕ) : Type 0 where

@@ -1,5 +1,5 @@
 -- A FIFO to which an open has led has an end more, or is held no more: heap, table and tree stand for the files then.
-use Rattle.std.proofs.Common.{◌≡◌, ◌≢◌, ℕ, ◌+◌, ◌-◌, ◌<◌, ◌==◌, ◌++◌, ℤ, pos, Bool, true, false, not, cond, List, [], ◌∷◌, length, Option, None, Some, Ok, slice_index_or, refl, ap, sym, subst, ◌∙◌, arith, eq-eqb, ne_eqb, inl, inr}
+use Rattle.std.proofs.Common.{◌≡◌, ◌≢◌, ℕ, ◌+◌, ◌-◌, ◌<◌, ◌==◌, ◌++◌, ℤ, pos, Bool, true, false, not, cond, List, [], ◌∷◌, length, Option, None, Some, Ok, slice_index_or, unwrap_or, refl, ap, sym, subst, ◌∙◌, arith, eq-eqb, ne_eqb, inl, inr}
 use Rattle.std.specs.Option.{option_and_then}
 use Rattle.std.proofs.lemmas.Bool.{cases_eq}
 use Rattle.std.proofs.lemmas.List.{get_or_at}
@@ -18,7 +18,7 @@ use Rattle.posix_defs.specs.Calls.Writing.{did_part}
 use Rattle.posix_defs.specs.Files.Descriptions.{Description, OnNode, OnPipe, OnSocket, Target, access_of, description_at, has_flag, may_write, o_cloexec}
 use Rattle.posix_defs.specs.Files.State.{Files, node_of, opened_as, with_opening}
 use Rattle.posix_defs.specs.PathCalls.{is_fifo}
-use Rattle.posix_defs.specs.Pipe.{Pipe, fifo_of, opens_of, with_end}
+use Rattle.posix_defs.specs.Pipe.{Pipe, fifo_of, new_pipe, opens_of, with_end}
 use Rattle.posix_defs.specs.Plain.{Plain, with_files}
 use Rattle.posix_defs.specs.Tree.{Tree, links_at, with_node}
 use Rattle.posix_defs.specs.TreeChanges.{closed}
@@ -96,11 +96,7 @@ module _ (numbers : Numbers) (h : Heap) (kept : TableView) (files : Files) (have
       let it = stands_at files node place found in
       ap (option_and_then fifo_of) (put_at files.pipes place it.pipe (Some (with_end (fifo_there files node (Some place)) writing)) it.is)
       ∙ fifo_some (with_end (fifo_there files node (Some place)) writing) node positive
-      (end_node (fifo_there files node (Some place)) writing ∙ ap (λ o. (there_is o).node) it.is ∙ it.of)
-    where
-      there_is : Option Pipe → Pipe
-      there_is None = fifo_there files node (Some place)
-      there_is (Some pipe) = pipe
+      (end_node (fifo_there files node (Some place)) writing ∙ ap (λ o. (unwrap_or o new_pipe).node) it.is ∙ it.of)
 
 -- ---- what they stand for
 

@@ -122,9 +122,15 @@ held_in h kept fs owners some key desc is = by_target desc.target refl (owners.h
 
     by_target : (what : Target) → desc.target ≡ what → IsThereFor h desc.access what → IsHeldIn h fs what
     by_target (target.Inode number) on there = held_some h kept fs some key number desc is on
-    by_target (target.Pipe pipe) on there = (owners.held.stand pipe there.0, λ node has.
-        (some.files.tree, holders some.others some.files, some.hold.tree,
-        held_once node (ap (λ w. node_of some.files (target_in some.numbers w)) on ∙ node_placed some.numbers h some.files some.hold.opened.opened.piped pipe there.0 ∙ has)))
+    by_target (target.Pipe pipe) on there = (
+      owners.held.stand pipe there.0,
+      λ node has. (
+        some.files.tree,
+        holders some.others some.files,
+        some.hold.tree,
+        held_once node (ap (λ w. node_of some.files (target_in some.numbers w)) on ∙ node_placed some.numbers h some.files some.hold.opened.opened.piped pipe there.0 ∙ has),
+      ),
+    )
     by_target (target.Sock sock) on there = tt
 
 -- what a call's number names in the machine is what was found, or nothing

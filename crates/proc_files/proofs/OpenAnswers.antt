@@ -1,5 +1,5 @@
 -- An open is answered: what the machine says, and what heap, table and tree stand for then.
-use Rattle.std.proofs.Common.{◌≡◌, ℕ, ◌+◌, ◌<◌, ℤ, Bool, true, not, ◌&&◌, cond, List, Option, None, Some, IsSome, Result, Ok, Err, refl, ap, sym, subst, ◌∙◌, arith, eq-eqb}
+use Rattle.std.proofs.Common.{◌≡◌, ℕ, ◌+◌, ◌<◌, ℤ, Bool, true, false, not, ◌&&◌, cond, List, Option, None, Some, Result, Ok, Err, refl, ap, sym, subst, ◌∙◌, arith, eq-eqb}
 use Rattle.std.specs.Prelude.{OnOk}
 use Rattle.std.specs.Option.{option_or}
 use Rattle.kabi_types.specs.Arguments.{argument_fault, invalid_unless, path_fault, truncates_unwritten}
@@ -10,11 +10,9 @@ use Rattle.kabi_types.specs.declared.errnos.Errno.TheVariants.{EMFILE}
 use Rattle.kabi_types.specs.declared.scripts.Script.{Script}
 use Rattle.kheap_slabs.specs.Objects.{InUse}
 use Rattle.kheap_slabs.specs.Heap.{Heap}
-use Rattle.lru_index.specs.NameKeys.{name_key}
 use Rattle.memfs_ops.specs.FileTree.{KeepsLast, Stands, TreeView, one_more}
 use Rattle.memfs_ops.specs.Opening.{OpenedAs}
 use Rattle.memfs_ops.proofs.RemoveLemmas.{path_led_in}
-use Rattle.name_cache.specs.Names.{name_slot}
 use Rattle.open_laws.specs.Placed.{Numbers}
 use Rattle.posix_defs.specs.Answer.{Answer, failed}
 use Rattle.posix_defs.specs.Calls.OnFiles.{open_at, open_by, opened_node_as, opening_of}
@@ -138,9 +136,13 @@ more_here pins node = subst (λ b. 0 < cond b (pins node + 1) (pins node)) (sym 
 -- what no node is made of leaves what was cached
 pub keeps_last : (fs is : TreeView) (led : Walked) → is.names ≡ fs.names → KeepsLast fs led → KeepsLast is led
 keeps_last fs is (walked.Node number) same keeps = tt
-keeps_last fs is (walked.Named dir name number slashed) same keeps = subst (λ n. IsSome (name_slot n (name_key dir name))) (sym same) keeps
-keeps_last fs is (walked.Free dir name slashed) same keeps = subst (λ n. IsSome (name_slot n (name_key dir name))) (sym same) keeps
+keeps_last fs is (walked.Named dir name number slashed) same keeps = subst (λ n. KeepsLast (record fs { names = n }) (walked.Named dir name number slashed)) (sym same) keeps
+keeps_last fs is (walked.Free dir name slashed) same keeps = subst (λ n. KeepsLast (record fs { names = n }) (walked.Free dir name slashed)) (sym same) keeps
 keeps_last fs is (walked.Fail errno) same keeps = tt
+
+-- nor what the disk was read
+pub reads_same : (fs is : TreeView) → is.disk ≡ fs.disk → is.disk.reads ≡ fs.disk.reads
+reads_same fs is same = rw same refl
 
 pub on_any : {X : Type 0} (r : Result X Errno) (P : Type 0) → P → OnOk r P
 on_any (Ok x) P p = p

@@ -25,7 +25,6 @@ is_file tree number used unnamed no_fifo file = by_node (node_at tree number) re
         let both : false ≡ true = sym file ∙ ap is_directory_in there ∙ ap (λ c. is_directory_in (Some (record { links = node.links; content = c }))) holds in cc)
     by_content node SocketName holds there = absurd (
         let both : false ≡ true = sym unnamed ∙ ap (λ (o : Option Node). is_socket_kind (kind_in o)) there ∙ ap (λ c. is_socket_kind (kind_in (Some (record { links = node.links; content = c })))) holds in cc)
-
     by_content node Fifo holds there = absurd (
         let both : false ≡ true = sym no_fifo ∙ ap (λ (o : Option Node). is_fifo_kind (kind_in o)) there ∙ ap (λ c. is_fifo_kind (kind_in (Some (record { links = node.links; content = c })))) holds in cc)
 

@@ -1,6 +1,6 @@
 //! `open`.
 
-ghost use Rattle.std.specs.Prelude.{◌≡◌, ◌-◌, ◌<◌, ◌≤◌, ◌^◌, ℕ, [], None, Ok, OnOk, Some, false, if◌then◌else◌, not, true};
+ghost use Rattle.std.specs.Prelude.{◌≡◌, ◌-◌, ◌<◌, ◌≤◌, ◌^◌, ◌==◌, ◌&&◌, nat_le, ℕ, [], None, Ok, OnOk, Some, false, if◌then◌else◌, not, true};
 ghost use Rattle.std.specs.List.{All};
 ghost use Rattle.fifo_nodes.specs.Chain.{IsChain};
 ghost use Rattle.kabi_types.specs.Arguments.{argument_fault, most_descriptors};
@@ -17,8 +17,8 @@ ghost use Rattle.open_laws.specs.Described.{target_in};
 ghost use Rattle.open_laws.specs.Owned.{HasItsOwners};
 ghost use Rattle.open_laws.specs.Piped.{ArePiped};
 ghost use Rattle.open_laws.specs.Placed.{Numbers};
-ghost use Rattle.posix_defs.specs.Calls.OnFiles.{description_on, end_opened, fifo_fault as plain_fault, fifo_pipe, fifo_waits, open_by, open_fifo as plain_open, opened_node_as, opening_of};
-ghost use Rattle.posix_defs.specs.Files.Descriptions.{access_of, has_flag, may_write, o_cloexec, o_trunc};
+ghost use Rattle.posix_defs.specs.Calls.OnFiles.{description_on, end_opened, fifo_fault as plain_fault, fifo_pipe, fifo_waits, is_for_both, most_opens, open_by, open_fifo as plain_open, opened_node_as, opening_of};
+ghost use Rattle.posix_defs.specs.Files.Descriptions.{access_of, has_flag, may_write, o_cloexec, o_nonblock, o_trunc};
 ghost use Rattle.posix_defs.specs.Files.State.{Files, opened_as};
 ghost use Rattle.posix_defs.specs.PathCalls.{is_fifo};
 ghost use Rattle.posix_defs.specs.Paths.{resolve};
@@ -225,18 +225,49 @@ fn fifo_fault(heap: &KHeap, fifos: &FifoTable, node: u32, flags: i64) -> Option<
     requires node { 0 < node }
     ensures { (numbers : Numbers) (files : Files) → ArePiped numbers heap.now files.pipes → result ≡ plain_fault (fifo_pipe files node) flags }
 {
-    let writing = match mode_of(flags) {
-        Access::Read => false,
-        Access::Write => true,
-        Access::Both => return Some(Errno::EINVAL),
-    };
-    if writing && has_flag(flags, O_NONBLOCK) && fifos.ends(heap, node, false) == 0 {
+    if is_for_both(flags) {
+        return Some(Errno::EINVAL);
+    }
+    if lacks_reader(heap, fifos, node, flags) {
         return Some(Errno::ENXIO);
     }
-    if fifos.begun(heap, node, writing) == u32::MAX {
+    if is_most(fifos.begun(heap, node, is_to_write(flags))) {
         return Some(Errno::EAGAIN);
     }
     None
+}
+
+// Whether a FIFO is to be written without waiting, and nobody has it open to read.
+fn lacks_reader(heap: &KHeap, fifos: &FifoTable, node: u32, flags: i64) -> bool
+    requires chain { IsChain heap.now fifos.now }
+    requires node { 0 < node }
+    ensures { (numbers : Numbers) (files : Files) → ArePiped numbers heap.now files.pipes
+        → result ≡ (may_write (access_of flags) && has_flag flags o_nonblock && ((fifo_pipe files node).readers == 0)) }
+{
+    if !is_to_write(flags) {
+        return false;
+    }
+    if !has_flag(flags, O_NONBLOCK) {
+        return false;
+    }
+    fifos.ends(heap, node, false) == 0
+}
+
+// Whether one side of a FIFO was opened as often as may be.
+fn is_most(opens: u32) -> bool
+    ensures { result ≡ nat_le most_opens opens }
+{
+    opens == u32::MAX
+}
+
+// Whether flags open for reading and for writing.
+fn is_for_both(flags: i64) -> bool
+    ensures { result ≡ is_for_both (access_of flags) }
+{
+    match mode_of(flags) {
+        Access::Both => true,
+        Access::Read | Access::Write => false,
+    }
 }
 
 // A number of a process that isn't open names a new end of a FIFO. What the open came to.
@@ -292,8 +323,11 @@ fn awaited(heap: &KHeap, fifos: &FifoTable, node: u32, flags: i64) -> Option<u32
     ensures { (numbers : Numbers) (files : Files) → ArePiped numbers heap.now files.pipes
         → result ≡ (if fifo_waits (fifo_pipe files node) flags then Some (opens_of (fifo_pipe files node) (not (may_write (access_of flags)))) else None) }
 {
+    if has_flag(flags, O_NONBLOCK) {
+        return None;
+    }
     let other = !is_to_write(flags);
-    if has_flag(flags, O_NONBLOCK) || fifos.ends(heap, node, other) != 0 {
+    if fifos.ends(heap, node, other) != 0 {
         return None;
     }
     Some(fifos.begun(heap, node, other))

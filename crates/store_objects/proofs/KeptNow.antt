@@ -28,7 +28,7 @@ use Rattle.memfs_ops.specs.FileTree.{Stands, TreeView}
 use Rattle.posix_defs.specs.DiskContents.{own_name, parent_name}
 use Rattle.posix_defs.specs.IsTree.{AreEntries, IsContent, IsEntryName, IsTree}
 use Rattle.posix_defs.specs.Plain.{Plain}
-use Rattle.posix_defs.specs.Tree.{Content, Directory, File, Node, SocketName, Tree, entries_in, entries_of, found, found_among, is_in_use, node_at}
+use Rattle.posix_defs.specs.Tree.{Content, Directory, Fifo, File, Node, SocketName, Tree, entries_in, entries_of, found, found_among, is_in_use, node_at}
 use Rattle.posix_defs.specs.TreeChanges.{no_entry}
 use Rattle.posix_defs.specs.World.{AreOnce, IsTrueName, MayKeep, World, is_in}
 use Rattle.kabi_types.specs.declared.scripts.Script.{Script}
@@ -50,6 +50,7 @@ entry_name tree dir name node is there = by_node (node_at tree dir) refl there
     by_content : (content : Content) → IsContent content → found_among (entries_of content) name ≡ Some node → IsEntryName name
     by_content (File bytes) whole e = absurd (never e)
     by_content SocketName whole e = absurd (never e)
+    by_content Fifo whole e = absurd (never e)
     by_content (Directory parent entries) whole e =
         let are : AreEntries entries = whole in
         let at = stands_at entries name node e in

@@ -11,7 +11,7 @@ use Rattle.open_laws.specs.Owned.{names_desc, namings_in, namings_of}
 use Rattle.open_laws.specs.Sharing.{hand_with}
 use Rattle.proc_numbers.specs.Having.{AreListed}
 use Rattle.proc_table.specs.Changes.{after_wait, child_proc, cleared, ended, is_alone, is_other, left_behind, left_by, left_child, reaped_of, replaced, with_nodes}
-use Rattle.proc_table.specs.Procs.{HasClosed, HasNoneOpenOnce, IsLight, OpensNone, no_nodes}
+use Rattle.proc_table.specs.Procs.{HasClosed, HasNoneOpenOnce, IsClosed, IsLight, no_nodes}
 use Rattle.proc_table.specs.Table.{Holds, TableView, processes}
 use Rattle.proc_table.specs.declared.reaped.Reaped.{Reaped}
 use Rattle.proc_table.specs.declared.reaped.Reaped.TheVariants.{NoChild, Nobody, Took}
@@ -97,7 +97,7 @@ module _ (key : ℕ) where
       by_pid : (b : Bool) → (proc.pid == pid) ≡ b → names_in key (filter (is_other pid) procs) ≡ names_in key procs
           → names_in key (proc ∷ procs) ≡ names_by key proc + names_in key procs
           → names_in key (cond (not b) (proc ∷ filter (is_other pid) procs) (filter (is_other pid) procs)) ≡ names_in key (proc ∷ procs)
-      by_pid true own rest whole = let none = none_named proc.descriptors (closed.0 (eqb_is proc.pid pid own)).0 in omega (arith, none, rest, whole)
+      by_pid true own rest whole = let none = none_named proc.descriptors (closed.0 (eqb_is proc.pid pid own)).opens.0 in omega (arith, none, rest, whole)
       by_pid false own rest whole = let now = sum_by-cons (names_by key) proc (filter (is_other pid) procs) in omega (arith, now, rest, whole)
 
   -- ---- one ends that has nothing open
@@ -129,21 +129,25 @@ module _ (key : ℕ) where
       let was = sum_by-cons (names_by key) proc procs in
       omega (arith, one, rest, now, was)
 
+  -- who has the same open, and sleeps in the same, has nothing open either
+  closed_as : (one other : Proc) → other.descriptors ≡ one.descriptors → other.leaves ≡ one.leaves → other.opening ≡ one.opening → IsClosed one → IsClosed other
+  closed_as one other descriptors leaves opening closed = record { opens = (descriptors ∙ closed.opens.0, leaves ∙ closed.opens.1); awake = opening ∙ closed.awake }
+
   -- those who are left of that pid have nothing open
   closed_left : (pid status : ℕ) (procs : List Proc) → HasClosed procs pid → HasClosed (left_by pid status procs) pid
   closed_left pid status [] closed = tt
   closed_left pid status (proc ∷ procs) closed = by_clearing (proc.pid == pid) (closed_left pid status procs closed.1)
     where
-      behind : (now : Proc) (own its : Bool) (told : Option ℕ) → (now.pid ≡ pid → OpensNone now) → HasClosed (left_by pid status procs) pid
+      behind : (now : Proc) (own its : Bool) (told : Option ℕ) → (now.pid ≡ pid → IsClosed now) → HasClosed (left_by pid status procs) pid
           → HasClosed (cons_option (cond own (Some (record now { status = Some status })) (cond its (left_child told now) (Some now))) (left_by pid status procs)) pid
-      behind now true its told here rest = (here, rest)
-      behind now false true None here rest = (here, rest)
+      behind now true its told here rest = (λ own. closed_as now (record now { status = Some status }) refl refl refl (here own), rest)
+      behind now false true None here rest = (λ own. closed_as now (record now { parent = 1 }) refl refl refl (here own), rest)
       behind now false true (Some at) here rest = rest
       behind now false false told here rest = (here, rest)
 
       by_clearing : (b : Bool) → HasClosed (left_by pid status procs) pid
           → HasClosed (cons_option (left_behind pid status (cond b (record proc { nodes = no_nodes }) proc)) (left_by pid status procs)) pid
-      by_clearing true rest = behind (record proc { nodes = no_nodes }) (proc.pid == pid) (proc.parent == pid) proc.status closed.0 rest
+      by_clearing true rest = behind (record proc { nodes = no_nodes }) (proc.pid == pid) (proc.parent == pid) proc.status (λ own. closed_as proc (record proc { nodes = no_nodes }) refl refl refl (closed.0 own)) rest
       by_clearing false rest = behind proc (proc.pid == pid) (proc.parent == pid) proc.status closed.0 rest
 
   pub names_ended : (pid status : ℕ) (procs : List Proc) → AllByRecursion IsLight procs → HasClosed procs pid → names_in key (ended pid status procs) ≡ names_in key procs

@@ -29,8 +29,7 @@ open_fifo-requires-clause-led c =
     let some = c.requires.led in
     let flags = to_z-of_z w64 c.args.flags c.ranges.flags in
     let fifo : is_fifo some.next c.args.node ≡ true =
-    sym (c.is_fifo.ensures some.next c.args.node (c.stat_node.ensures.value some.next (one_more (holders some.others some.files) c.args.node) some.led.stands)) ∙ c.if-is_fifo.true in
-    (
+    sym (c.is_fifo.ensures some.next c.args.node (c.stat_node.ensures.value some.next (one_more (holders some.others some.files) c.args.node) some.led.stands)) ∙ c.if-is_fifo.true in (
       record {
         numbers = some.numbers;
         others = some.others;

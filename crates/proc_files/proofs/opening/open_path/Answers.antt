@@ -18,13 +18,12 @@ use Rattle.proc_numbers.proofs.Fronts.{queues_same, queues_then}
 use Rattle.proc_numbers.proofs.NumberCloses.{no_some}
 use Rattle.proc_numbers.proofs.Changes.{changes_nothing}
 use Rattle.proc_numbers.proofs.Lowest.{IsLowest}
-use Rattle.disk_layout.specs.Disk.{Disk}
 use Rattle.proc_files.specs.Holders.{holders}
 use Rattle.proc_files.specs.Opening.{AnswersOpening, HasLed}
 use Rattle.proc_files.proofs.Beside.{listed_beside, owners_beside, same_pipes, same_socks}
 use Rattle.proc_files.proofs.Changing.{caches_before, holding_of}
 use Rattle.proc_files.proofs.HoldMade.{may_hold}
-use Rattle.proc_files.proofs.OpenAnswers.{answers_before, fault_holds, keeps_last, led_by, on_any, open_full, open_walks, right_open}
+use Rattle.proc_files.proofs.OpenAnswers.{answers_before, fault_holds, keeps_last, led_by, on_any, open_full, open_walks, reads_same, right_open}
 use Rattle.proc_files.proofs.opening.open_path.Goals as goal
 
 -- ---- no number is free
@@ -225,7 +224,7 @@ returns-in-Ok-clause-paid c =
 
 pub returns-in-Ok-clause-reads : goal.returns-in-Ok-clause-reads
 returns-in-Ok-clause-reads c =
-    subst (λ n. c.args.tree.now.disk.reads ≤ n) (sym (ap (λ (d : Disk). d.reads) c.open_found.ensures.disk)) c.open_node.ensures.pays.reads
+    subst (λ n. c.args.tree.now.disk.reads ≤ n) (sym (reads_same c.open_node.new.self c.open_found.new.tree c.open_found.ensures.disk)) c.open_node.ensures.pays.reads
 
 pub returns-in-Ok-clause-saved : goal.returns-in-Ok-clause-saved
 returns-in-Ok-clause-saved c = λ proc plain pins found stands knows fine.

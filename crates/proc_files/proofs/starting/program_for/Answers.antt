@@ -24,7 +24,7 @@ returns-clause-value c = λ numbers others plain table hold.
 pub returns-clause-holds : goal.returns-clause-holds
 returns-clause-holds c = λ numbers others files hold.
     hold_written numbers others c.args.heap.now c.program_of.new.heap c.args.procs.now c.args.tree.now c.program_of.new.self files files.tree hold c.program_of.ensures.pays.only
-    (record { used = λ n. refl; directories = λ n. refl; sockets = λ n. refl }) (c.program_of.ensures.stands files.tree (holders others files) hold.tree)
+    (record { used = λ n. refl; directories = λ n. refl; sockets = λ n. refl; fifos = λ n. refl }) (c.program_of.ensures.stands files.tree (holders others files) hold.tree)
 
 pub returns-clause-hold : goal.returns-clause-hold
 returns-clause-hold c =
@@ -34,7 +34,7 @@ returns-clause-hold c =
       others = works.others;
       files = works.files;
       hold = hold_written works.numbers works.others c.args.heap.now c.program_of.new.heap c.args.procs.now c.args.tree.now c.program_of.new.self works.files works.files.tree works.hold
-          c.program_of.ensures.pays.only (record { used = λ n. refl; directories = λ n. refl; sockets = λ n. refl })
+          c.program_of.ensures.pays.only (record { used = λ n. refl; directories = λ n. refl; sockets = λ n. refl; fifos = λ n. refl })
           (c.program_of.ensures.stands works.files.tree (holders works.others works.files) works.hold.tree);
     }
 
