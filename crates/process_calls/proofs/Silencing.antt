@@ -13,7 +13,7 @@ use Rattle.posix_defs.specs.Files.State.{Files, with_opening}
 use Rattle.posix_defs.specs.Memory.{Frames}
 use Rattle.posix_defs.specs.Process.{Table}
 use Rattle.proc_numbers.specs.Having.{HaveOpen}
-use Rattle.proc_files.specs.Closings.{ClosesEach, closed_each}
+use Rattle.proc_files.specs.Ending.{ClosesEach, closed_each}
 use Rattle.proc_files.specs.Holders.{holders, times}
 use Rattle.proc_files.specs.NameHolding.{HoldNames}
 use Rattle.proc_files.specs.Names.{AreBound, name_of}

@@ -5,7 +5,7 @@ use Rattle.memfs_ops.specs.FileTree.{TreeView}
 use Rattle.posix_defs.specs.Files.Closing.{after_end_of}
 use Rattle.posix_defs.specs.Files.State.{Files}
 use Rattle.posix_defs.specs.Reaching.{ends_node}
-use Rattle.proc_files.specs.Closings.{closed_each}
+use Rattle.proc_files.specs.Ending.{closed_each}
 use Rattle.proc_numbers.proofs.Fronts.{queues_same, queues_then}
 use Rattle.proc_table.specs.Changes.{ended}
 use Rattle.proc_table.specs.Table.{TableView}
