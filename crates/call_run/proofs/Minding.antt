@@ -157,22 +157,22 @@ carried script old new (sleeper ∷ rest) channels minded stay through = record 
 -- ---- what a turn came to
 
 -- whom it stirs says what it was
-pub nobody_passes : (no : Bool) (which : Call) (told : Turned) → stirs_of no which (came_of told) ≡ Nobody → passes_by no which told ≡ true
-nobody_passes no which turned.Sleep e = refl
-nobody_passes no which turned.Gone e = refl
-nobody_passes no which (turned.Done (reply.Fail errno)) e = refl
-nobody_passes no which (turned.Done said) e = by_done (moves_through which) (wakes_nobody no which) e
+pub nobody_passes : (empty : Bool) (which : Call) (told : Turned) → stirs_of empty which (came_of told) ≡ Nobody → passes_by empty which told ≡ true
+nobody_passes empty which turned.Sleep e = refl
+nobody_passes empty which turned.Gone e = refl
+nobody_passes empty which (turned.Done (reply.Fail errno)) e = refl
+nobody_passes empty which (turned.Done said) e = by_done (moves_through which) (wakes_nobody empty which) e
   where
     by_done : (through : Option ℤ) (nobody : Bool) → stirs_by through nobody ≡ Nobody → nobody ≡ true
     by_done (Some fd) nobody f = cc
     by_done None true f = refl
     by_done None false f = cc
-nobody_passes no which (turned.Part moved) e = by_part (moves_through which) e
+nobody_passes empty which (turned.Part moved) e = by_part (moves_through which) e
   where
     by_part : {X : Type 0} (through : Option ℤ) → stirs_by through false ≡ Nobody → X
     by_part (Some fd) f = cc
     by_part None f = cc
-nobody_passes no which (turned.Ended status) e = cc
+nobody_passes empty which (turned.Ended status) e = cc
 
 -- through which number it moved bytes
 through_moves : (through : Option ℤ) (nobody : Bool) (fd : ℤ) → stirs_by through nobody ≡ Through fd → through ≡ Some fd
@@ -190,28 +190,28 @@ moves_so which (turned.Part moved) fd e = (through_moves (moves_through which) f
 moves_so which (turned.Ended status) fd e = cc
 
 -- whether a FIFO is open has no part in it
-pub through_so : (no : Bool) (which : Call) (how : Came) (fd : ℤ) → stirs_of no which how ≡ Through fd → stirs_of false which how ≡ Through fd
-through_so no which came.Nothing fd e = e
-through_so no which came.Sleep fd e = e
-through_so no which came.Part fd e = e
-through_so no which came.Done fd e = go (moves_through which) e
+pub through_so : (empty : Bool) (which : Call) (how : Came) (fd : ℤ) → stirs_of empty which how ≡ Through fd → stirs_of false which how ≡ Through fd
+through_so empty which came.Nothing fd e = e
+through_so empty which came.Sleep fd e = e
+through_so empty which came.Part fd e = e
+through_so empty which came.Done fd e = go (moves_through which) e
   where
-    go : (through : Option ℤ) → stirs_by through (wakes_nobody no which) ≡ Through fd → stirs_by through (wakes_nobody false which) ≡ Through fd
+    go : (through : Option ℤ) → stirs_by through (wakes_nobody empty which) ≡ Through fd → stirs_by through (wakes_nobody false which) ≡ Through fd
     go (Some number) f = f
-    go None f = absurd (none (wakes_nobody no which) f)
+    go None f = absurd (none (wakes_nobody empty which) f)
       where
         none : (nobody : Bool) → stirs_by None nobody ≡ Through fd → ⊥
         none true g = cc
         none false g = cc
-through_so no which came.End fd e = e
+through_so empty which came.End fd e = e
 
 -- a turn that passes by doesn't end its process
-pub passes_lasts : (no : Bool) (which : Call) (told : Turned) → passes_by no which told ≡ true → (status : ℕ) → told ≡ turned.Ended status → ⊥
-passes_lasts no which turned.Sleep e status f = cc
-passes_lasts no which turned.Gone e status f = cc
-passes_lasts no which (turned.Done said) e status f = cc
-passes_lasts no which (turned.Part moved) e status f = cc
-passes_lasts no which (turned.Ended other) e status f = cc
+pub passes_lasts : (empty : Bool) (which : Call) (told : Turned) → passes_by empty which told ≡ true → (status : ℕ) → told ≡ turned.Ended status → ⊥
+passes_lasts empty which turned.Sleep e status f = cc
+passes_lasts empty which turned.Gone e status f = cc
+passes_lasts empty which (turned.Done said) e status f = cc
+passes_lasts empty which (turned.Part moved) e status f = cc
+passes_lasts empty which (turned.Ended other) e status f = cc
 
 -- a process lives on behind its own turn, unless that ended it
 pub mover_lives : (script : Script) (old new : World) (pid : ℕ) (which : Call) (told : Turned) → IsReached script old.plain → TurnsTo script old pid which told new

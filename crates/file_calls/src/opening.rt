@@ -137,12 +137,7 @@ fn opening_of(objects: &Objects, place: Place) -> Option<HalfOpen>
 }
 
 // An open that has made its end is over once the other side was opened, whoever is there now.
-fn open_again(
-    script: &Script,
-    objects: &mut Objects,
-    caller: &Caller,
-    opening: HalfOpen,
-) -> Turned
+fn open_again(script: &Script, objects: &mut Objects, caller: &Caller, opening: HalfOpen) -> Turned
     requires stands { (world : World) × StandsFor script.now objects.old world }
     requires runs { Runs objects.old caller.now.place.pid caller.now.control }
     requires placed { IsPlaced objects.old.procs caller.now.place }
