@@ -168,14 +168,14 @@ unopened numbers objects files holds have pid not_running = record {
         let its : IsLight proc = light proc is in
         let status = ended proc is in
         ap (λ o. descriptors_by numbers.descs (places_in (numbers_in objects.heap) o)) is
-        ∙ ap (descriptors_by numbers.descs) (none_numbers objects.heap proc (closed_once proc status.0 status.1 its.descriptors its.awake).opens)
+        ∙ ap (descriptors_by numbers.descs) (none_numbers objects.heap proc (closed_once proc.status proc status.0 status.1 its.descriptors its.awake).opens)
 
     sleeps_in_none : (o : Option Proc) → proc_of (procs_of objects) pid ≡ o → opening_of (proc_of (procs_of objects) pid) ≡ None
     sleeps_in_none None none = ap opening_of none
     sleeps_in_none (Some proc) is =
         let its : IsLight proc = light proc is in
         let status = ended proc is in
-        ap opening_of is ∙ ap (option_map half_in) (closed_once proc status.0 status.1 its.descriptors its.awake).awake
+        ap opening_of is ∙ ap (option_map half_in) (closed_once proc.status proc status.0 status.1 its.descriptors its.awake).awake
 
 -- who sleeps in no open does so still when that is said again
 still_none : (openings : List (Option HalfOpen)) (place : ℕ) → unwrap_or (slice_get openings place) None ≡ None → slice_set openings place None ≡ openings
