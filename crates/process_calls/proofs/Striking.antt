@@ -61,7 +61,7 @@ module _ (world next : World) (pid : ℕ) (which : Call) (told : Turned) (leaves
       cc)
 
 -- What is kept, and how much was read, once a process has ended in such a call.
-keeps_ended : (script : Script) (mid : Objects) (world next : World) (pid target status : ℕ) (which : Call) (told : Turned) → path_to_leave world.plain pid which ≡ None → path_to_walk which ≡ None
+keeps_ended : (script : Script) (mid : Objects) (world next : World) (pid target status : ℕ) (which : Call) (told : Turned) → ((plain : Plain) → path_to_leave plain pid which ≡ None) → path_to_walk which ≡ None
     → (gone : WorldWithout script mid world target status) → next.kept ≡ gone.next.kept → next.reads ≡ gone.next.reads → next.plain.files ≡ gone.next.plain.files → KeepsOn world pid which told next
 keeps_ended script mid world next pid target status which told leaves walks gone kept reads files = record {
   names = more (need_of which).name (ap (λ (k : Kept). length k.names) kept) gone.names;
@@ -71,8 +71,8 @@ keeps_ended script mid world next pid target status which told leaves walks gone
   untouched = λ none.
       let same = gone.untouched (ap (ends_node world.plain.files) (sym files) ∙ or_false (is_none (argument_fault which) && names_node world.plain.files pid which) (ends_node world.plain.files next.plain.files) none) in
       (kept ∙ same.0, reads ∙ same.1);
-  left = λ _. leaves_none world next pid which told leaves walks;
-  known = λ knows. knows_none world next pid which told leaves walks knows;
+  left = λ _. leaves_none world next pid which told (leaves world.plain) walks;
+  known = λ knows. knows_none world next pid which told (leaves world.plain) walks knows;
 }
   where
     more : {now mid old : ℕ} (need : ℕ) → now ≡ mid → mid ≤ old → now ≤ old + need
@@ -88,7 +88,7 @@ serves_ended script old new pid status which told leaves walks dies tells = λ w
       stands = gone.stands;
       tells = (tells, gone.plain);
       account = gone.account ∙ ap (λ (plain : Plain). account_on world.plain plain world.account) gone.plain;
-      keeps = keeps_ended script new world gone.next pid pid status which told (leaves world.plain) walks gone refl refl refl;
+      keeps = keeps_ended script new world gone.next pid pid status which told leaves walks gone refl refl refl;
     }
 
 pub does_itself : (script : Script) (old new : Objects) (pid target number : ℕ) (named signal : ℤ) (told : Turned) → target ≡ pid → Dies script old target number new
@@ -112,7 +112,7 @@ does_another script old mid new pid target number named signal told apart dies t
       stands = goes base gone.stands;
       tells = (tells, refl);
       account = gone.account;
-      keeps = keeps_ended script mid world (answered_in script base pid (Val (pos 0))) pid target number (call.Kill named signal) told refl refl gone refl refl refl;
+      keeps = keeps_ended script mid world (answered_in script base pid (Val (pos 0))) pid target number (call.Kill named signal) told (λ plain. refl) refl gone refl refl refl;
     })
 
 -- a call that walks no path serves as it performs

@@ -35,6 +35,16 @@ TakesPath kind.Unlink = ⊤
 TakesPath kind.Mkfifo = ⊤
 TakesPath _ = ⊥
 
+-- of these all but `mkfifo`, which is made by itself
+abbrev pub IsMadeOnPath : CallKind → Type 0
+IsMadeOnPath kind.Exec = ⊤
+IsMadeOnPath kind.Stat = ⊤
+IsMadeOnPath kind.Chdir = ⊤
+IsMadeOnPath kind.Mkdir = ⊤
+IsMadeOnPath kind.Rmdir = ⊤
+IsMadeOnPath kind.Unlink = ⊤
+IsMadeOnPath _ = ⊥
+
 -- no operand of a call of this kind can be wrong, and the call may make objects
 abbrev pub IsNeverWrong : CallKind → Type 0
 IsNeverWrong kind.Fork = ⊤

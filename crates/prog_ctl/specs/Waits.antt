@@ -1,5 +1,5 @@
 -- What a call waits for, and what is asked for with it.
-use Rattle.std.specs.Prelude.{Option, None, Some, is_none, if◌then◌else◌}
+use Rattle.std.specs.Prelude.{Bool, Option, None, Some, is_none, if◌then◌else◌}
 use Rattle.kabi_types.specs.Arguments.{argument_fault}
 use Rattle.kabi_types.specs.declared.calls.Call.{Call}
 use Rattle.kabi_types.specs.declared.calls.Call.TheVariants as call
@@ -8,6 +8,10 @@ use Rattle.posix_defs.specs.Needs.{bound}
 use Rattle.posix_defs.specs.declared.phases.Asked.{Asked}
 use Rattle.prog_ctl.specs.declared.waits.Awaited.{Awaited}
 use Rattle.prog_ctl.specs.declared.waits.Awaited.TheVariants.{Child, Bytes, Room, Peer, Events, OtherSide}
+
+-- the other side of a FIFO, or nothing
+abbrev pub other_side_if : Bool → Option Awaited
+other_side_if waits = if waits then Some OtherSide else None
 
 -- six calls may block: `waitpid` for a child, `read` for bytes, `write` for room, `accept` for a peer, `poll` for events, and `open`
 -- for the other side of a FIFO, where its operands are right; None for any other call, which never does

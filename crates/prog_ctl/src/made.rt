@@ -8,8 +8,8 @@ ghost use Rattle.kabi_types.specs.declared.scripts.Control.{Control as ControlOf
 ghost use Rattle.posix_defs.specs.Control.{call_at, value_of};
 ghost use Rattle.posix_defs.specs.Made as spec;
 ghost use Rattle.posix_defs.specs.ScriptLines.{shape_of};
-ghost use Rattle.prog_ctl.specs.Runnable.{IsOperand, IsRunnableAt, MovesBytes, TakesDescriptor, TakesFiles, TakesMore, TakesPath, TakesSocket, most_text};
-ghost use Rattle.prog_ctl.specs.Waits.{wait_of};
+ghost use Rattle.prog_ctl.specs.Runnable.{IsMadeOnPath, IsOperand, IsRunnableAt, MovesBytes, TakesDescriptor, TakesFiles, TakesMore, TakesSocket, most_text};
+ghost use Rattle.prog_ctl.specs.Waits.{other_side_if, wait_of};
 
 use crate::Awaited;
 use crate::statements::value_of;
@@ -105,11 +105,11 @@ fn made_mkfifo(texts: &[Text]) -> Call
     }
 }
 
-/// The call of a kind that takes one path and nothing else. It stands by itself, as `made_with_texts` does.
+/// The call of a kind that takes one path and nothing else, but for `mkfifo`. It stands by itself, as `made_with_texts` does.
 #[inline(never)]
 fn made_on_path(kind: CallKind, texts: &[Text]) -> Call
     requires texts { AllByRecursion (λ text. length text ≤ most_text (shape_of kind)) texts.now }
-    ensures { (numbers : List ℤ) (done : ℕ) → TakesPath kind → result ≡ spec.made kind numbers texts.now done }
+    ensures { (numbers : List ℤ) (done : ℕ) → IsMadeOnPath kind → result ≡ spec.made kind numbers texts.now done }
 {
     match kind {
         CallKind::Exec => return Call::Exec {
@@ -130,7 +130,6 @@ fn made_on_path(kind: CallKind, texts: &[Text]) -> Call
         CallKind::Unlink => return Call::Unlink {
             path: path_at(texts, 0),
         },
-        CallKind::Mkfifo => return made_mkfifo(texts),
         _ => Call::SchedYield,
     }
 }
@@ -363,7 +362,7 @@ pub(crate) fn made(control: &Control, kind: CallKind, operands: &[Operand], text
         CallKind::Mkdir => made_on_path(kind, texts),
         CallKind::Rmdir => made_on_path(kind, texts),
         CallKind::Unlink => made_on_path(kind, texts),
-        CallKind::Mkfifo => made_on_path(kind, texts),
+        CallKind::Mkfifo => made_mkfifo(texts),
         CallKind::Link => made_with_texts(control, kind, operands, texts),
         CallKind::Rename => made_with_texts(control, kind, operands, texts),
         _ => made_on_files(control, kind, operands, texts),
@@ -423,19 +422,19 @@ pub fn call_at(control: &Control, statement: Option<&Statement>) -> Call
     made(control, said.kind, said.operands, said.texts)
 }
 
-/// An `open` with right operands may wait for the other side of a FIFO. It stands by itself, since the call is made here, which has
-/// room for two paths.
+/// Whether an `open` has right operands, and so may wait for the other side of a FIFO. It stands by itself, since the call is made
+/// here, which has room for two paths; and it tells no more, since what another call waits for would be copied once more else.
 #[inline(never)]
-fn other_side(control: &Control, operands: &[Operand], texts: &[Text]) -> Option<Awaited>
+fn opens_right(control: &Control, operands: &[Operand], texts: &[Text]) -> bool
     requires count { length operands.now ≤ 17 }
     requires each { AllByRecursion IsOperand operands.now }
     requires texts { AllByRecursion (λ text. length text ≤ most_text (shape_of kinds.OpenFile)) texts.now }
-    ensures { result ≡ wait_of (spec.made kinds.OpenFile (map (value_of control.now) operands.now) texts.now control.now.done) }
+    ensures { other_side_if result ≡ wait_of (spec.made kinds.OpenFile (map (value_of control.now) operands.now) texts.now control.now.done) }
 {
     let call = made_with_texts(control, CallKind::OpenFile, operands, texts);
     match call.checked() {
-        Ok(()) => Some(Awaited::OtherSide),
-        Err(_) => None,
+        Ok(()) => true,
+        Err(_) => false,
     }
 }
 
@@ -475,7 +474,13 @@ fn awaited(
             timeout: operand_at(control, operands, 0),
             entries: entries_of(numbers_of(control, operands).as_slice()),
         }),
-        CallKind::OpenFile => other_side(control, operands, texts),
+        CallKind::OpenFile => {
+            if opens_right(control, operands, texts) {
+                Some(Awaited::OtherSide)
+            } else {
+                None
+            }
+        }
         _ => None,
     }
 }

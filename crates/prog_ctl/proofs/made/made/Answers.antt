@@ -1,10 +1,12 @@
-use Rattle.std.proofs.Common.{map, rules, subst, sym}
+use Rattle.std.proofs.Common.{◌≡◌, map, rules, subst, sym}
 use Rattle.posix_defs.specs.Control.{value_of}
-use Rattle.prog_ctl.specs.Runnable.{MovesBytes, TakesMore, TakesPath}
+use Rattle.kabi_types.specs.declared.calls.CallKind.{CallKind}
+use Rattle.posix_defs.specs.Made as spec
+use Rattle.prog_ctl.specs.Runnable.{IsMadeOnPath, MovesBytes, TakesMore}
 use Rattle.prog_ctl.proofs.made.made.Goals as goal
 
 pub returns-in-Exec : goal.returns-in-Exec
-returns-in-Exec c = c.made_on_path.ensures (map (value_of c.args.control.now) c.args.operands.now) c.args.control.now.done (subst TakesPath (sym c.in-Exec.is) tt)
+returns-in-Exec c = c.made_on_path.ensures (map (value_of c.args.control.now) c.args.operands.now) c.args.control.now.done (subst IsMadeOnPath (sym c.in-Exec.is) tt)
 
 pub returns-in-Store : goal.returns-in-Store
 returns-in-Store c = c.made_with_texts.ensures c.args.control.now.done (subst TakesMore (sym c.in-Store.is) tt)
@@ -16,22 +18,25 @@ pub returns-in-Write : goal.returns-in-Write
 returns-in-Write c = c.made_of_bytes-in-Write.ensures c.args.texts.now (subst MovesBytes (sym c.in-Write.is) tt)
 
 pub returns-in-Stat : goal.returns-in-Stat
-returns-in-Stat c = c.made_on_path-in-Stat.ensures (map (value_of c.args.control.now) c.args.operands.now) c.args.control.now.done (subst TakesPath (sym c.in-Stat.is) tt)
+returns-in-Stat c = c.made_on_path-in-Stat.ensures (map (value_of c.args.control.now) c.args.operands.now) c.args.control.now.done (subst IsMadeOnPath (sym c.in-Stat.is) tt)
 
 pub returns-in-Chdir : goal.returns-in-Chdir
-returns-in-Chdir c = c.made_on_path-in-Chdir.ensures (map (value_of c.args.control.now) c.args.operands.now) c.args.control.now.done (subst TakesPath (sym c.in-Chdir.is) tt)
+returns-in-Chdir c = c.made_on_path-in-Chdir.ensures (map (value_of c.args.control.now) c.args.operands.now) c.args.control.now.done (subst IsMadeOnPath (sym c.in-Chdir.is) tt)
 
 pub returns-in-Mkdir : goal.returns-in-Mkdir
-returns-in-Mkdir c = c.made_on_path-in-Mkdir.ensures (map (value_of c.args.control.now) c.args.operands.now) c.args.control.now.done (subst TakesPath (sym c.in-Mkdir.is) tt)
+returns-in-Mkdir c = c.made_on_path-in-Mkdir.ensures (map (value_of c.args.control.now) c.args.operands.now) c.args.control.now.done (subst IsMadeOnPath (sym c.in-Mkdir.is) tt)
 
 pub returns-in-Rmdir : goal.returns-in-Rmdir
-returns-in-Rmdir c = c.made_on_path-in-Rmdir.ensures (map (value_of c.args.control.now) c.args.operands.now) c.args.control.now.done (subst TakesPath (sym c.in-Rmdir.is) tt)
+returns-in-Rmdir c = c.made_on_path-in-Rmdir.ensures (map (value_of c.args.control.now) c.args.operands.now) c.args.control.now.done (subst IsMadeOnPath (sym c.in-Rmdir.is) tt)
 
 pub returns-in-Unlink : goal.returns-in-Unlink
-returns-in-Unlink c = c.made_on_path-in-Unlink.ensures (map (value_of c.args.control.now) c.args.operands.now) c.args.control.now.done (subst TakesPath (sym c.in-Unlink.is) tt)
+returns-in-Unlink c = c.made_on_path-in-Unlink.ensures (map (value_of c.args.control.now) c.args.operands.now) c.args.control.now.done (subst IsMadeOnPath (sym c.in-Unlink.is) tt)
 
 pub returns-in-Mkfifo : goal.returns-in-Mkfifo
-returns-in-Mkfifo c = c.made_on_path-in-Mkfifo.ensures (map (value_of c.args.control.now) c.args.operands.now) c.args.control.now.done (subst TakesPath (sym c.in-Mkfifo.is) tt)
+returns-in-Mkfifo c =
+    let numbers = map (value_of c.args.control.now) c.args.operands.now in
+    let done = c.args.control.now.done in
+    subst (λ (which : CallKind). c.made_mkfifo.result ≡ spec.made which numbers c.args.texts.now done) (sym c.in-Mkfifo.is) (c.made_mkfifo.ensures numbers done)
 
 pub returns-in-OpenFile : goal.returns-in-OpenFile
 returns-in-OpenFile c = c.made_with_texts-in-OpenFile.ensures c.args.control.now.done (subst TakesMore (sym c.in-OpenFile.is) tt)

@@ -2,7 +2,7 @@ use Rattle.std.proofs.Common.{map, sym, ap, ◌∙◌}
 use Rattle.std.specs.Result.{result_err}
 use Rattle.posix_defs.specs.Control.{value_of}
 use Rattle.prog_ctl.proofs.Waiting.{open_waits, open_fails}
-use Rattle.prog_ctl.proofs.made.other_side.Goals as goal
+use Rattle.prog_ctl.proofs.made.opens_right.Goals as goal
 
 pub returns-in-Ok : goal.returns-in-Ok
 returns-in-Ok c =
