@@ -179,20 +179,20 @@ kept_shut script old heap tree names first pid kept closes listed owners bound l
 -- ---- and then sleeps in no open
 
 -- a process that has closed all, and sleeps in none then, is silent
-pub silent_then : (pid : ℕ) (was : Proc) (procs : List Proc) → AllByRecursion (λ p. p.pid ≡ pid → p ≡ was) procs
-    → map (replaced pid (silent was)) (map (closed_at pid) procs) ≡ map (shut pid) procs
-silent_then pid was [] only = refl
-silent_then pid was (proc ∷ procs) only =
-    ap (λ p. p ∷ map (replaced pid (silent was)) (map (closed_at pid) procs)) (by_pid (eqb_tells proc.pid pid))
-    ∙ ap (λ rest. shut pid proc ∷ rest) (silent_then pid was procs only.1)
+pub silent_then : (pid : ℕ) (before : Proc) (procs : List Proc) → AllByRecursion (λ p. p.pid ≡ pid → p ≡ before) procs
+    → map (replaced pid (silent before)) (map (closed_at pid) procs) ≡ map (shut pid) procs
+silent_then pid before [] only = refl
+silent_then pid before (proc ∷ procs) only =
+    ap (λ p. p ∷ map (replaced pid (silent before)) (map (closed_at pid) procs)) (by_pid (eqb_tells proc.pid pid))
+    ∙ ap (λ rest. shut pid proc ∷ rest) (silent_then pid before procs only.1)
   where
-    by_pid : (((proc.pid == pid) ≡ true) × (proc.pid ≡ pid)) ⊎ (((proc.pid == pid) ≡ false) × (proc.pid ≢ pid)) → replaced pid (silent was) (closed_at pid proc) ≡ shut pid proc
+    by_pid : (((proc.pid == pid) ≡ true) × (proc.pid ≡ pid)) ⊎ (((proc.pid == pid) ≡ false) × (proc.pid ≢ pid)) → replaced pid (silent before) (closed_at pid proc) ≡ shut pid proc
     by_pid (inl own) =
-        ap (λ n. cond (n == pid) (silent was) (closed_at pid proc)) (closed_pid pid proc)
-        ∙ ap (λ b. cond b (silent was) (closed_at pid proc)) own.0
+        ap (λ n. cond (n == pid) (silent before) (closed_at pid proc)) (closed_pid pid proc)
+        ∙ ap (λ b. cond b (silent before) (closed_at pid proc)) own.0
         ∙ ap silent (sym (only.0 own.1))
         ∙ sym (ap (λ b. cond b (silent proc) proc) own.0)
     by_pid (inr other) =
-        ap (λ n. cond (n == pid) (silent was) (closed_at pid proc)) (closed_pid pid proc)
-        ∙ ap (λ b. cond b (silent was) (cond b (closed_all proc) proc)) other.0
+        ap (λ n. cond (n == pid) (silent before) (closed_at pid proc)) (closed_pid pid proc)
+        ∙ ap (λ b. cond b (silent before) (cond b (closed_all proc) proc)) other.0
         ∙ sym (ap (λ b. cond b (silent proc) proc) other.0)

@@ -1,5 +1,5 @@
 -- All that run behind a pid end in turn.
-use Rattle.std.proofs.Common.{◌≡◌, ℕ, zero, suc, ◌+◌, ◌-◌, ◌<◌, ◌≤◌, not, true, false, cond, List, [], ◌∷◌, ◌++◌, Option, None, Some, is_some, refl, ap, sym, ◌∙◌, subst, arith}
+use Rattle.std.proofs.Common.{◌≡◌, ℕ, zero, suc, ◌+◌, ◌-◌, ◌<◌, ◌≤◌, not, true, false, cond, List, [], ◌∷◌, ◌++◌, Option, None, Some, is_some, unwrap_or, slice_get, slice_set, refl, ap, sym, ◌∙◌, subst, arith}
 use Rattle.std.specs.List.{range_with_len}
 use Rattle.std.specs.Option.{option_map}
 use Rattle.kern_laws.proofs.Bareness.{end_unopened}
@@ -8,11 +8,12 @@ use Rattle.open_laws.specs.Open.{descriptors_by}
 use Rattle.open_laws.specs.Placed.{Numbers}
 use Rattle.posix_defs.specs.Files.Closing.{after_end_of, after_ends_of}
 use Rattle.posix_defs.specs.Files.Descriptors.{none_open}
-use Rattle.posix_defs.specs.Files.State.{Files, descriptors_of}
+use Rattle.posix_defs.specs.Files.State.{Files, HalfOpen, descriptors_of, opening_at, with_opening, with_openings}
 use Rattle.posix_defs.specs.Memory.{Frames, after_clear}
 use Rattle.posix_defs.specs.Process.{Table, is_alive, is_alive_in, runs}
 use Rattle.posix_defs.specs.Reaching.{ends_node}
 use Rattle.proc_numbers.specs.Having.{HaveOpen, places_in}
+use Rattle.proc_table.specs.Opening.{half_in, opening_of}
 use Rattle.proc_table.specs.Procs.{IsAlive, IsLight, no_descriptors, numbers_in, proc_of, process_of, status_of}
 use Rattle.proc_table.specs.Standing.{IsTable, ends_from, ends_in}
 use Rattle.proc_table.specs.Table.{Holds}
@@ -137,34 +138,69 @@ clears_one frames after next some = (some.0 ++ next ∷ [], ap (λ f. after_clea
 
 -- ---- what they had open
 
--- who doesn't run has nothing open
+-- in this process nothing is open, and it sleeps in no open
+pub record IsIdle (files : Files) (pid : ℕ) : Type 0 where
+  pub opens : descriptors_of files pid ≡ none_open
+  pub awake : opening_at files pid ≡ None
+
+-- who doesn't run has nothing open, and sleeps in no open
 pub unopened : (numbers : Numbers) (objects : Objects) (files : Files) → Holds objects.heap objects.procs → HaveOpen numbers objects.heap objects.procs files
-    → (pid : ℕ) → is_running (procs_of objects) pid ≡ false → descriptors_of files pid ≡ none_open
-unopened numbers objects files holds have pid not_running =
-    have.descriptors.each pid ∙ by_proc (proc_of (procs_of objects) pid) refl ∙ none_by numbers.descs
+    → (pid : ℕ) → is_running (procs_of objects) pid ≡ false → IsIdle files pid
+unopened numbers objects files holds have pid not_running = record {
+  opens = have.descriptors.each pid ∙ opens_none (proc_of (procs_of objects) pid) refl ∙ none_by numbers.descs;
+  awake = have.descriptors.openings.each pid ∙ sleeps_in_none (proc_of (procs_of objects) pid) refl;
+}
   where
     over : (status : Option ℕ) → not (is_some status) ≡ false → (at : ℕ) × (status ≡ Some at)
     over None e = cc
     over (Some at) e = (at, refl)
 
-    by_proc : (o : Option Proc) → proc_of (procs_of objects) pid ≡ o
-        → descriptors_by numbers.descs (places_in (numbers_in objects.heap) (proc_of (procs_of objects) pid)) ≡ descriptors_by numbers.descs no_descriptors
-    by_proc None none = ap (λ o. descriptors_by numbers.descs (places_in (numbers_in objects.heap) o)) none
-    by_proc (Some proc) is =
-        let light : IsLight proc = has_it IsLight (procs_of objects) pid proc holds.light is in
-        let ended = over proc.status (sym (running_as (procs_of objects) pid proc (is_some proc.status) is refl) ∙ not_running) in
-        ap (λ o. descriptors_by numbers.descs (places_in (numbers_in objects.heap) o)) is ∙ ap (descriptors_by numbers.descs) (none_numbers objects.heap proc (closed_once proc.status proc ended.0 ended.1 light.descriptors))
+    ended : (proc : Proc) → proc_of (procs_of objects) pid ≡ Some proc → (at : ℕ) × (proc.status ≡ Some at)
+    ended proc is = over proc.status (sym (running_as (procs_of objects) pid proc (is_some proc.status) is refl) ∙ not_running)
 
--- those that have nothing open are passed over
-closes_past : (k more pid : ℕ) (files : Files) → ((q : ℕ) → pid ≤ q → q < pid + k → descriptors_of files q ≡ none_open)
+    light : (proc : Proc) → proc_of (procs_of objects) pid ≡ Some proc → IsLight proc
+    light proc is = has_it IsLight (procs_of objects) pid proc holds.light is
+
+    opens_none : (o : Option Proc) → proc_of (procs_of objects) pid ≡ o
+        → descriptors_by numbers.descs (places_in (numbers_in objects.heap) (proc_of (procs_of objects) pid)) ≡ descriptors_by numbers.descs no_descriptors
+    opens_none None none = ap (λ o. descriptors_by numbers.descs (places_in (numbers_in objects.heap) o)) none
+    opens_none (Some proc) is =
+        let its : IsLight proc = light proc is in
+        let status = ended proc is in
+        ap (λ o. descriptors_by numbers.descs (places_in (numbers_in objects.heap) o)) is
+        ∙ ap (descriptors_by numbers.descs) (none_numbers objects.heap proc (closed_once proc.status proc status.0 status.1 its.descriptors its.awake).opens)
+
+    sleeps_in_none : (o : Option Proc) → proc_of (procs_of objects) pid ≡ o → opening_of (proc_of (procs_of objects) pid) ≡ None
+    sleeps_in_none None none = ap opening_of none
+    sleeps_in_none (Some proc) is =
+        let its : IsLight proc = light proc is in
+        let status = ended proc is in
+        ap opening_of is ∙ ap (option_map half_in) (closed_once proc.status proc status.0 status.1 its.descriptors its.awake).awake
+
+-- who sleeps in no open does so still when that is said again
+still_none : (openings : List (Option HalfOpen)) (place : ℕ) → unwrap_or (slice_get openings place) None ≡ None → slice_set openings place None ≡ openings
+still_none [] place none = refl
+still_none (first ∷ rest) zero none = ap (λ opening. opening ∷ rest) (sym none)
+still_none (first ∷ rest) (suc place) none = ap (λ later. first ∷ later) (still_none rest place none)
+
+still_awake : (files : Files) (pid : ℕ) → opening_at files pid ≡ None → with_opening files pid None ≡ files
+still_awake files zero none = refl
+still_awake files (suc place) none = ap (with_openings files) (still_none files.openings place none)
+
+-- so its end changes no file
+idle_ends : (files : Files) (pid : ℕ) → IsIdle files pid → after_end_of files pid ≡ files
+idle_ends files pid idle = end_unopened files pid idle.opens ∙ still_awake files pid idle.awake
+
+-- those are passed over
+closes_past : (k more pid : ℕ) (files : Files) → ((q : ℕ) → pid ≤ q → q < pid + k → IsIdle files q)
     → after_ends_of files (range_with_len pid (k + more)) ≡ after_ends_of files (range_with_len (pid + k) more)
-closes_past zero more pid files none =
+closes_past zero more pid files idle =
     ap (λ n. after_ends_of files (range_with_len pid n)) (let a : 0 + more ≡ more = omega arith in a)
     ∙ ap (λ n. after_ends_of files (range_with_len n more)) (let b : pid ≡ pid + 0 = omega arith in b)
-closes_past (suc k) more pid files none =
+closes_past (suc k) more pid files idle =
     ap (λ n. after_ends_of files (range_with_len pid n)) (let a : suc k + more ≡ suc (k + more) = omega arith in a)
-    ∙ ap (λ closed. after_ends_of closed (range_with_len (pid + 1) (k + more))) (end_unopened files pid (none pid (omega arith) (omega arith)))
-    ∙ closes_past k more (pid + 1) files (λ q low high. none q (omega arith) (omega arith))
+    ∙ ap (λ closed. after_ends_of closed (range_with_len (pid + 1) (k + more))) (idle_ends files pid (idle pid (omega arith) (omega arith)))
+    ∙ closes_past k more (pid + 1) files (λ q low high. idle q (omega arith) (omega arith))
     ∙ ap (λ n. after_ends_of files (range_with_len n more)) (let b : pid + 1 + k ≡ pid + suc k = omega arith in b)
 
 -- What is open while those behind the first end, and what is left to close of it.

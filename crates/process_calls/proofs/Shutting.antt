@@ -3,10 +3,9 @@ use Rattle.std.proofs.Common.{◌≡◌, ◌≢◌, ℕ, ◌==◌, Bool, true, f
 use Rattle.std.specs.List.{AllByRecursion}
 use Rattle.std.specs.Option.{option_map}
 use Rattle.kheap_slabs.specs.Leaves.{no_row}
-use Rattle.kheap_slabs.specs.declared.objects.HalfOpen.{HalfOpen}
 use Rattle.kheap_slabs.specs.declared.objects.Proc.{Proc}
 use Rattle.desc_table.specs.Copying.{no_leaves}
-use Rattle.proc_table.specs.Procs.{HasClosed, HasNoneOpenOnce, IsAwakeOnce, IsClosed, IsLight, closed_all, proc_of}
+use Rattle.proc_table.specs.Procs.{HasClosed, HasNoneOpenOnce, IsClosed, IsLight, closed_all, proc_of}
 use Rattle.proc_table.proofs.FamilyLemmas.{proc_has_pid}
 use Rattle.proc_table.proofs.PlaceLemmas.{eqb_other, eqb_same}
 use Rattle.process_calls.specs.Endings.{shut, silent}

@@ -13,7 +13,7 @@ use Rattle.posix_defs.specs.Files.State.{Files, with_opening}
 use Rattle.posix_defs.specs.Memory.{Frames}
 use Rattle.posix_defs.specs.Process.{Table}
 use Rattle.proc_numbers.specs.Having.{HaveOpen}
-use Rattle.proc_files.specs.Closings.{ClosesEach, closed_each}
+use Rattle.proc_files.specs.Ending.{ClosesEach, closed_each}
 use Rattle.proc_files.specs.Holders.{holders, times}
 use Rattle.proc_files.specs.NameHolding.{HoldNames}
 use Rattle.proc_files.specs.Names.{AreBound, name_of}
@@ -124,5 +124,5 @@ module _ (script : Script) (old : Objects) (heap : Heap) (tree : TreeView) (name
         }))
 
   pub held_shut : (numbers : Numbers) (others : ℕ → ℕ) (files : Files) → HoldNames numbers others heap old.procs tree names (closed_each files pid) → HoldBeside numbers others now (after_end_of files pid)
-  unfolding closed_each
+  unfolding closed_each after_end_of
   held_shut numbers others files hold = held_silent numbers others (closed_each files pid) hold

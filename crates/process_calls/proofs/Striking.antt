@@ -48,7 +48,7 @@ or_false true b is = absurd (let both : true ≡ false = is in cc)
 or_false false b is = is
 
 -- a call that walks no path leaves no name, and knows no way
-module _ (world next : World) (pid : ℕ) (which : Call) (told : Turned) (leaves : path_to_leave which ≡ None) (walks : path_to_walk which ≡ None) where
+module _ (world next : World) (pid : ℕ) (which : Call) (told : Turned) (leaves : path_to_leave world.plain pid which ≡ None) (walks : path_to_walk which ≡ None) where
   leaves_none : IsLeft next.plain.files.tree next.kept (name_to_leave world.plain pid which)
   leaves_none =
       subst (λ path. IsLeft next.plain.files.tree next.kept (option_and_then (λ p. last_of (resolve world.plain.files.tree (directory_of world.plain.table pid) p)) path)) (sym leaves) tt
@@ -61,7 +61,7 @@ module _ (world next : World) (pid : ℕ) (which : Call) (told : Turned) (leaves
       cc)
 
 -- What is kept, and how much was read, once a process has ended in such a call.
-keeps_ended : (script : Script) (mid : Objects) (world next : World) (pid target status : ℕ) (which : Call) (told : Turned) → path_to_leave which ≡ None → path_to_walk which ≡ None
+keeps_ended : (script : Script) (mid : Objects) (world next : World) (pid target status : ℕ) (which : Call) (told : Turned) → ((plain : Plain) → path_to_leave plain pid which ≡ None) → path_to_walk which ≡ None
     → (gone : WorldWithout script mid world target status) → next.kept ≡ gone.next.kept → next.reads ≡ gone.next.reads → next.plain.files ≡ gone.next.plain.files → KeepsOn world pid which told next
 keeps_ended script mid world next pid target status which told leaves walks gone kept reads files = record {
   names = more (need_of which).name (ap (λ (k : Kept). length k.names) kept) gone.names;
@@ -71,15 +71,15 @@ keeps_ended script mid world next pid target status which told leaves walks gone
   untouched = λ none.
       let same = gone.untouched (ap (ends_node world.plain.files) (sym files) ∙ or_false (is_none (argument_fault which) && names_node world.plain.files pid which) (ends_node world.plain.files next.plain.files) none) in
       (kept ∙ same.0, reads ∙ same.1);
-  left = λ _. leaves_none world next pid which told leaves walks;
-  known = λ knows. knows_none world next pid which told leaves walks knows;
+  left = λ _. leaves_none world next pid which told (leaves world.plain) walks;
+  known = λ knows. knows_none world next pid which told (leaves world.plain) walks knows;
 }
   where
     more : {now mid old : ℕ} (need : ℕ) → now ≡ mid → mid ≤ old → now ≤ old + need
     more need same less = omega (arith, same, less)
 
 -- the caller has ended
-pub serves_ended : (script : Script) (old new : Objects) (pid status : ℕ) (which : Call) (told : Turned) → path_to_leave which ≡ None → path_to_walk which ≡ None → Dies script old pid status new
+pub serves_ended : (script : Script) (old new : Objects) (pid status : ℕ) (which : Call) (told : Turned) → ((plain : Plain) → path_to_leave plain pid which ≡ None) → path_to_walk which ≡ None → Dies script old pid status new
     → told ≡ turned.Ended status → Serves script old pid which (λ plain. Ended status (die plain pid status)) told new
 serves_ended script old new pid status which told leaves walks dies tells = λ world stands sound alive.
     let gone = dies world stands sound in
@@ -96,7 +96,7 @@ pub does_itself : (script : Script) (old new : Objects) (pid target number : ℕ
 does_itself script old new pid target number named signal told same dies tells = λ world stands sound alive.
     subst (λ answer. WorldReached script new world pid (call.Kill named signal) answer told)
     (sym (ap (λ b. cond b (Ended number (die world.plain pid number)) (replied script (die world.plain target number) pid (Val (pos 0)))) (eqb_same target pid same)))
-    (serves_ended script old new pid number (call.Kill named signal) told refl refl (subst (λ n. Dies script old n number new) same dies) tells world stands sound alive)
+    (serves_ended script old new pid number (call.Kill named signal) told (λ plain. refl) refl (subst (λ n. Dies script old n number new) same dies) tells world stands sound alive)
 
 pub does_another : (script : Script) (old mid new : Objects) (pid target number : ℕ) (named signal : ℤ) (told : Turned) → target ≢ pid
     → Dies script old target number mid → told ≡ turned.Done (Val (pos 0)) → GoesOn script mid pid (Val (pos 0)) new
@@ -112,11 +112,11 @@ does_another script old mid new pid target number named signal told apart dies t
       stands = goes base gone.stands;
       tells = (tells, refl);
       account = gone.account;
-      keeps = keeps_ended script mid world (answered_in script base pid (Val (pos 0))) pid target number (call.Kill named signal) told refl refl gone refl refl refl;
+      keeps = keeps_ended script mid world (answered_in script base pid (Val (pos 0))) pid target number (call.Kill named signal) told (λ plain. refl) refl gone refl refl refl;
     })
 
 -- a call that walks no path serves as it performs
-serves_as : (script : Script) (old new : Objects) (pid : ℕ) (which : Call) (told : Turned) (answer : Plain → Answer) → path_to_leave which ≡ None → path_to_walk which ≡ None
+serves_as : (script : Script) (old new : Objects) (pid : ℕ) (which : Call) (told : Turned) (answer : Plain → Answer) → ((plain : Plain) → path_to_leave plain pid which ≡ None) → path_to_walk which ≡ None
     → Performs script old pid which answer told new → Serves script old pid which answer told new
 serves_as script old new pid which told answer leaves walks does = λ world stands sound alive.
     let led = does world stands alive in
@@ -131,7 +131,7 @@ serves_as script old new pid which told answer leaves walks does = λ world stan
         vnodes = no_more (need_of which).vnode (ap (λ (k : Kept). length k.vnodes) led.kept);
         reads = as_many led.reads;
         untouched = λ _. (led.kept, led.reads);
-        left = λ _. leaves_none world led.next pid which told leaves walks;
+        left = λ _. leaves_none world led.next pid which told (leaves world.plain) walks;
         known = λ _. led.reads;
       };
     }
@@ -148,7 +148,7 @@ pub does_tell : (script : Script) (old new : Objects) (pid : ℕ) (target signal
     → told ≡ turned.Done said → ((frames : Frames) → frames_after frames pid (call.Kill target signal) said ≡ frames) → GoesOn script old pid said new
     → Serves script old pid (call.Kill target signal) (λ plain. kill script plain pid target signal) told new
 does_tell script old new pid target signal said told answers tells frames goes =
-    serves_as script old new pid (call.Kill target signal) told (λ plain. kill script plain pid target signal) refl refl
+    serves_as script old new pid (call.Kill target signal) told (λ plain. kill script plain pid target signal) (λ plain. refl) refl
     (does_said script old new pid (call.Kill target signal) said told (λ plain. kill script plain pid target signal) tells goes frames
     (λ world stands. answers world.plain stands.processes.table))
 

@@ -1,14 +1,17 @@
 -- No call on descriptors that closes nothing changes the tree, which of its nodes are open, or the names of sockets.
-use Rattle.std.proofs.Common.{◌≡◌, ◌++◌, ℕ, ℤ, zero, suc, [], ◌∷◌, length, Option, None, Some, refl, ◌∙◌}
+use Rattle.std.proofs.Common.{◌≡◌, ◌++◌, ℕ, ℤ, zero, suc, List, [], ◌∷◌, length, Option, None, Some, slice_index_or, refl, ap, ◌∙◌, arith}
+use Rattle.std.specs.Option.{option_and_then}
+use Rattle.std.proofs.lemmas.List.{get_or_past}
 use Rattle.kabi_types.specs.Arguments.{count_of}
 use Rattle.kabi_types.specs.declared.scripts.Script.{Script}
 use Rattle.posix_defs.specs.Answer.{Answer}
 use Rattle.posix_defs.specs.Calls.Opened.{Opened, answer_on, opened_at}
 use Rattle.posix_defs.specs.Calls.OnDescriptors.{cloexec_set, controlled, dup, duplicated, fcntl, shared_at}
 use Rattle.posix_defs.specs.Calls.OnPipes.{pipe, piped, piped_under}
-use Rattle.posix_defs.specs.Files.Descriptions.{OnPipe, ReadOnly, WriteOnly, description_at, has_flag, new_description, with_status}
+use Rattle.posix_defs.specs.Files.Descriptions.{OnNode, OnPipe, OnSocket, ReadOnly, Target, WriteOnly, description_at, has_flag, new_description, with_status}
 use Rattle.posix_defs.specs.Files.Descriptors.{Two, descriptor_at, descriptor_of, lowest_free, lowest_free_from, two_lowest_free}
-use Rattle.posix_defs.specs.Files.State.{described_as, descriptors_of, with_open}
+use Rattle.posix_defs.specs.Files.State.{Files, described_as, descriptors_of, node_of, with_open}
+use Rattle.posix_defs.specs.Pipe.{Pipe, fifo_of, new_pipe}
 use Rattle.posix_defs.specs.Plain.{Plain}
 use Rattle.proc_files.proofs.Openings.{all_same, nodes_set}
 use Rattle.store_objects.proofs.Leaving.{LeavesNodes, files_in, nodes_behind, opened_there, same_opened}
@@ -16,6 +19,23 @@ use Rattle.store_objects.proofs.Leaving.{LeavesNodes, files_in, nodes_behind, op
 -- what an answer leads to leaves the nodes
 abbrev pub Stay : Plain → Answer → Type 0
 Stay plain answer = LeavesNodes plain.files (files_in plain.files answer)
+
+-- a pipe more, which is no FIFO's, leaves what is open
+pipe_more : (pipes : List (Option Pipe)) (place : ℕ)
+    → option_and_then fifo_of (slice_index_or (pipes ++ Some new_pipe ∷ []) place None) ≡ option_and_then fifo_of (slice_index_or pipes place None)
+pipe_more [] zero = refl
+pipe_more [] (suc place) = refl
+pipe_more (first ∷ pipes) zero = refl
+pipe_more (first ∷ pipes) (suc place) = pipe_more pipes place
+
+still_opens : (one other : Files) → one.pipes ≡ other.pipes ++ Some new_pipe ∷ [] → (what : Target) → node_of one what ≡ node_of other what
+still_opens one other more (OnNode number) = refl
+still_opens one other more (OnPipe place) = ap (λ (pipes : List (Option Pipe)). option_and_then fifo_of (slice_index_or pipes place None)) more ∙ pipe_more other.pipes place
+still_opens one other more (OnSocket place) = refl
+
+opens_none : (one other : Files) → one.pipes ≡ other.pipes ++ Some new_pipe ∷ [] → node_of one (OnPipe (length other.pipes)) ≡ None
+opens_none one other more =
+    still_opens one other more (OnPipe (length other.pipes)) ∙ ap (option_and_then fifo_of) (get_or_past other.pipes (length other.pipes) None (omega arith))
 
 module _ (script : Script) (plain : Plain) (pid : ℕ) where
   -- what is told alone does
@@ -79,6 +99,7 @@ module _ (script : Script) (plain : Plain) (pid : ℕ) where
             let files = piped plain.files pid two in
             let reading = new_description (OnPipe (length plain.files.pipes)) ReadOnly in
             let writing = new_description (OnPipe (length plain.files.pipes)) WriteOnly in
-            nodes_behind files files (plain.files.descriptions ++ Some reading ∷ []) writing refl ∙ nodes_behind files plain.files plain.files.descriptions reading refl;
+            nodes_behind files files (plain.files.descriptions ++ Some reading ∷ []) writing (opens_none files plain.files refl) (λ place d there. refl)
+            ∙ nodes_behind files plain.files plain.files.descriptions reading (opens_none files plain.files refl) (λ place d there. still_opens files plain.files refl d.target);
         names = λ place. refl;
       }

@@ -1,5 +1,5 @@
 -- What the objects of a store keep when processes change.
-use Rattle.std.proofs.Common.{◌≡◌, ℕ, ◌+◌, ◌<◌, List, [], ◌∷◌, ◌++◌, length, Option, is_some, refl, ap, sym, ◌∙◌, subst, inl, inr, arith, append-nil}
+use Rattle.std.proofs.Common.{◌≡◌, ℕ, ◌<◌, List, [], ◌∷◌, ◌++◌, length, Option, is_some, refl, ap, sym, ◌∙◌, subst, inl, inr, arith, append-nil}
 use Rattle.std.specs.List.{AllByRecursion, Contains}
 use Rattle.kabi_types.specs.declared.scripts.Script.{Script}
 use Rattle.fifo_nodes.specs.Chain.{IsChain}

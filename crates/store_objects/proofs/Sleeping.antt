@@ -1,28 +1,25 @@
 -- A process sleeps in another open of a FIFO from now on, or in none any more.
-use Rattle.std.proofs.Common.{◌≡◌, ◌≢◌, ◌⊎◌, ℕ, ◌==◌, Bool, true, false, cond, Option, None, Some, map, refl, ap, sym, ◌∙◌, subst, inl, inr}
-use Rattle.std.specs.List.{AllByRecursion}
+use Rattle.std.proofs.Common.{◌≡◌, ℕ, ◌==◌, Bool, true, false, cond, Option, None, Some, refl, ap, sym, ◌∙◌, subst}
 use Rattle.std.specs.Option.{option_map}
 use Rattle.kabi_types.specs.declared.scripts.Control.{Control}
 use Rattle.kabi_types.specs.declared.scripts.Script.{Script}
 use Rattle.kheap_slabs.specs.declared.objects.HalfOpen.{HalfOpen}
 use Rattle.kheap_slabs.specs.declared.objects.Proc.{Proc}
 use Rattle.posix_defs.specs.Control.{settled}
-use Rattle.posix_defs.specs.Files.State.{Files, with_opening}
 use Rattle.posix_defs.specs.Plain.{control_of}
 use Rattle.posix_defs.specs.World.{World}
-use Rattle.proc_numbers.specs.Having.{HaveDescriptors}
 use Rattle.proc_table.specs.Changes.{replaced}
-use Rattle.proc_table.specs.Opening.{half_in, opening_in}
-use Rattle.proc_table.specs.Procs.{numbers_in, proc_of}
+use Rattle.proc_table.specs.Opening.{half_in}
+use Rattle.proc_table.specs.Procs.{proc_of}
 use Rattle.proc_table.specs.Standing.{IsTable}
-use Rattle.proc_table.specs.Table.{TableView, processes}
+use Rattle.proc_table.specs.Table.{TableView}
 use Rattle.proc_table.proofs.FamilyLemmas.{proc_has_pid}
 use Rattle.proc_table.proofs.LawLemmas.{on-table}
 use Rattle.proc_table.proofs.OwnLemmas.{has_it}
 use Rattle.proc_table.proofs.PlaceLemmas.{eqb_is, eqb_same}
 use Rattle.store_objects.specs.declared.objects.Objects.{Objects}
 use Rattle.store_objects.specs.Objects.{AreKept, IsAtCall, Runs, WaitsIn, procs_of}
-use Rattle.store_objects.specs.Standing.{AreProcesses, StandsFor, waiting_in}
+use Rattle.store_objects.specs.Standing.{StandsFor, waiting_in}
 use Rattle.store_objects.proofs.GoingOn.{account_changed, descriptors_slept, found_changed, kept_changed, mapped_from, moves_changed, some_same}
 use Rattle.store_objects.proofs.Keeping.{moved_caches}
 use Rattle.store_objects.proofs.Opening.{files_moved}

@@ -1,5 +1,5 @@
-use Rattle.std.proofs.Common.{Some, Ok, sym, subst}
-use Rattle.proc_files.specs.declared.opening.Opened.{Opened}
+use Rattle.std.proofs.Common.{◌≡◌, Some, Ok, rules, sym, subst}
+use Rattle.proc_files.specs.declared.opening.Opened.TheVariants as opened
 use Rattle.proc_table.specs.Opening.{half_in}
 use Rattle.store_objects.specs.Standing.{StandsFor, waiting_in}
 use Rattle.store_objects.proofs.Callers.{placed_on}
@@ -30,7 +30,7 @@ returns-in-Ok-Waits-clause-kept c =
 
 pub returns-in-Ok-Waits-clause-goes : goal.returns-in-Ok-Waits-clause-goes
 returns-in-Ok-Waits-clause-goes c = λ world stands.
-    subst (λ came. StandsFor c.args.script.now c.do_part.new.objects (came_in c.args.script.now world c.args.caller.now.place.pid came)) (sym c.in-Ok-Waits.is)
-    (subst (λ (opened : Opened). StandsFor c.args.script.now c.do_part.new.objects (came_in c.args.script.now world c.args.caller.now.place.pid (Ok opened))) (sym c.in-Ok-Waits.field-0-is)
+    let seen : c.args.came ≡ Ok (opened.Waits c.in-Ok-Waits.opening) = search rules in
+    subst (λ came. StandsFor c.args.script.now c.do_part.new.objects (came_in c.args.script.now world c.args.caller.now.place.pid came)) (sym seen)
     (c.do_part.ensures.goes c.args.script.now (waiting_in world c.args.caller.now.place.pid (Some (half_in c.in-Ok-Waits.opening)))
-    (stands_sleeping c.args.script.now c.args.objects.now c.wait_in.new.self c.args.caller.now.place.pid _ c.requires.kept c.wait_in.ensures world stands)))
+    (stands_sleeping c.args.script.now c.args.objects.now c.wait_in.new.self c.args.caller.now.place.pid _ c.requires.kept c.wait_in.ensures world stands))

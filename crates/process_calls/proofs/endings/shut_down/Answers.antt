@@ -1,24 +1,24 @@
-use Rattle.std.proofs.Common.{◌≡◌, ◌≤◌, ◌∙◌, ℕ, ap, false, map, refl, subst, sym}
+use Rattle.std.proofs.Common.{◌≡◌, ◌≤◌, ◌∙◌, ℕ, ap, false, refl, subst, sym}
 use Rattle.kheap_slabs.specs.Heap.{Heap}
 use Rattle.kheap_laws.proofs.PaidLemmas.{IsPaid-nothing, IsPaid-trans}
 use Rattle.memfs_ops.specs.FileTree.{TreeView}
 use Rattle.posix_defs.specs.Files.Closing.{after_end_of}
 use Rattle.posix_defs.specs.Files.State.{Files}
 use Rattle.posix_defs.specs.Reaching.{ends_node}
-use Rattle.proc_files.specs.Closings.{closed_each}
+use Rattle.proc_files.specs.Ending.{closed_each}
 use Rattle.proc_numbers.proofs.Fronts.{queues_same, queues_then}
 use Rattle.proc_table.specs.Changes.{ended}
 use Rattle.proc_table.specs.Table.{TableView}
 use Rattle.store_objects.specs.declared.objects.Objects.{Objects}
 use Rattle.store_objects.specs.Objects.{AreKept, procs_of}
 use Rattle.store_objects.proofs.Keeping.{listed_in}
-use Rattle.process_calls.specs.Endings.{HoldBeside, shut, workers_at}
+use Rattle.process_calls.specs.Endings.{HoldBeside, workers_at}
 use Rattle.process_calls.proofs.Closing.{alive_shut, kept_shut, shut_procs, with_heap}
 use Rattle.process_calls.proofs.EndedProcs.{kept_ended}
 use Rattle.process_calls.proofs.EndingOne.{opens_ended}
 use Rattle.process_calls.proofs.Holding.{held_moved, keeps_some}
 use Rattle.process_calls.proofs.Purses.{may_close}
-use Rattle.process_calls.proofs.Silencing.{account_silent, alive_silent, closed_silent, held_shut, kept_silent, moves_silent, silenced, table_silent}
+use Rattle.process_calls.proofs.Silencing.{account_silent, alive_silent, closed_silent, held_shut, kept_silent, silenced, table_silent}
 use Rattle.process_calls.proofs.endings.shut_down.Goals as goal
 
 pub close_each-requires-clause-listed : goal.close_each-requires-clause-listed
@@ -174,7 +174,7 @@ returns-clause-queues c =
     (queues_same now.heap c.end.new.heap (ap (λ (h : Heap). h.pipes) c.end.ensures.moves.kept) (ap (λ (h : Heap). h.socks) c.end.ensures.moves.kept)))
 
 stays_each : (files : Files) (pid : ℕ) → ends_node files (after_end_of files pid) ≡ false → ends_node files (closed_each files pid) ≡ false
-unfolding closed_each
+unfolding closed_each after_end_of
 stays_each files pid none = none
 
 pub returns-clause-stays : goal.returns-clause-stays

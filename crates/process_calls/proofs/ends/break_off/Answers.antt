@@ -7,4 +7,4 @@ use Rattle.process_calls.proofs.ends.break_off.Goals as goal
 
 pub returns-clause-does : goal.returns-clause-does
 returns-clause-does c = λ script fd addr n done.
-    serves_ended script c.args.objects.now c.end.new.objects c.args.place.pid sigpipe (call.Write fd addr n done) (turned.Ended sigpipe) refl refl (c.end.ensures.dies script) refl
+    serves_ended script c.args.objects.now c.end.new.objects c.args.place.pid sigpipe (call.Write fd addr n done) (turned.Ended sigpipe) (λ plain. refl) refl (c.end.ensures.dies script) refl

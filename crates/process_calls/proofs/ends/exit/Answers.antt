@@ -14,4 +14,4 @@ returns-clause-does c = λ script.
     let status : c.exit_status-status.result ≡ exit_status c.args.status =
     subst (λ z. c.exit_status-status.result ≡ exit_status z) (to_z-of_z w64 c.args.status c.ranges.status) c.exit_status-status.ensures in
     subst (λ n. Serves script old c.args.place.pid (call.Exit c.args.status) (λ plain. Ended n (die plain c.args.place.pid n)) (turned.Ended c.exit_status-status.result) c.end.new.objects) status
-    (serves_ended script old c.end.new.objects c.args.place.pid c.exit_status-status.result (call.Exit c.args.status) (turned.Ended c.exit_status-status.result) refl refl (c.end.ensures.dies script) refl)
+    (serves_ended script old c.end.new.objects c.args.place.pid c.exit_status-status.result (call.Exit c.args.status) (turned.Ended c.exit_status-status.result) (λ plain. refl) refl (c.end.ensures.dies script) refl)

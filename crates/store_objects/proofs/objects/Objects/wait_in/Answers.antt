@@ -1,4 +1,4 @@
-use Rattle.std.proofs.Common.{Option, None, ap, refl, subst, sym, ◌∙◌}
+use Rattle.std.proofs.Common.{Option, ap, refl, subst, sym, ◌∙◌}
 use Rattle.std.specs.Prelude.{is_some}
 use Rattle.kheap_slabs.specs.declared.objects.Proc.{Proc}
 use Rattle.proc_table.specs.Procs.{IsAwakeOnce, proc_of}
