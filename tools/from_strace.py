@@ -28,7 +28,7 @@ LONGEST_NAME = 27
 FLAGS = set(CONSTANTS["FLAGS"])
 SAME = {"getpid": False, "getppid": False, "sched_yield": False, "listen": True}  # whether a descriptor stands behind it
 FORKS = ("fork", "vfork", "clone", "clone3")
-AT_PATHS = {"openat": "open", "mkdirat": "mkdir", "newfstatat": "stat", "unlinkat": "unlink"}
+AT_PATHS = {"openat": "open", "mkdirat": "mkdir", "mknodat": "mknod", "newfstatat": "stat", "unlinkat": "unlink"}
 PAIRS_AT = {"renameat": "rename", "renameat2": "rename", "linkat": "link"}
 RENAMED = {"lstat": "stat", "pread64": "pread", "pwrite64": "pwrite", "getdents64": "readdir", "accept4": "accept",
            "exit_group": "exit", "wait4": "waitpid", "dup3": "dup2", "pipe2": "pipe", "sendto": "write", "recvfrom": "read"}
@@ -416,6 +416,12 @@ class Translation:
     def say_mkdir(self, actor, args, result):
         self.made.add(path_in(args[0]))
         return self.one_path(actor, "mkdir", path_in(args[0]))
+
+    def say_mknod(self, actor, args, result):
+        if "S_IFIFO" not in args[1]:
+            return False
+        self.made.add(path_in(args[0]))
+        return self.one_path(actor, "mkfifo", path_in(args[0]))
 
     def say_rmdir(self, actor, args, result):
         return self.one_path(actor, "rmdir", path_in(args[0]))
