@@ -3,7 +3,7 @@ use crate::Name27;
 /// A node of the disk as its table has it.
 #[derive(Clone, Copy, PartialEq)]
 pub struct Inode {
-    /// 0 free, 1 file, 2 directory, 3 socket name.
+    /// 0 free, 1 file, 2 directory, 3 socket name, 4 FIFO.
     pub kind: u8,
     pub nlink: u16,
     /// In bytes.

@@ -45,8 +45,8 @@ pub fn an_open_wakes_where_the_other_side_was_opened()
 {}
 
 /// A script that makes no FIFO runs as if there could be none: at boot there is none, and so it stays while nobody makes `mkfifo`,
-/// as in every machine of a script whose programs don't; where there is none, each call is answered as if nothing could be one, no open waits, no end of a pipe has a node, to close one
-/// changes its pipe alone, and who ends has nothing but its descriptors to close.
+/// as in every machine of a script whose programs don't. Where there is none, each call is answered as if nothing could be one, no open
+/// waits, no end of a pipe has a node, to close one changes its pipe alone, and who ends has nothing but its descriptors to close.
 pub fn without_mkfifo_all_is_as_before()
     ensures boot { (script : Script) → HasNoFifo (boot_plain script).files }
     ensures stays { (script : Script) (plain : Plain) (pid : ℕ) (call : Call) → HasNoFifo plain.files → ((path : List ℕ) → call ≢ Mkfifo path)

@@ -12,8 +12,7 @@ ghost use Rattle.posix_defs.specs.World.{World};
 ghost use Rattle.waking_laws.specs.Waking.{Lasts, StaysAsItWas, StaysItself, gives_number, is_apart, moves_through, no_fifo, passes_by, target_at};
 
 /// Behind a turn that did nothing, that failed, or whose call changes nothing that others wait for, as an open behind which no FIFO is
-/// open, each other process that lived
-/// before it lives, and its next call would block exactly where it would have before.
+/// open, each other process that lived before it lives, and its next call would block exactly where it would have before.
 pub fn a_turn_that_passes_by_wakes_nobody()
     ensures { (script : Script) (old new : World) (pid who : ℕ) (call : Call) (told : Turned) → IsReached script old.plain
         → TurnsTo script old pid call told new → passes_by (no_fifo new.plain.files) call told ≡ true → who ≢ pid → is_alive old.plain.table who ≡ true
