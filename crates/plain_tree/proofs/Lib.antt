@@ -1,0 +1,5 @@
+pub mod Positions
+pub mod Components
+pub mod Trees
+pub mod Climbing
+pub mod Overwriting
