@@ -3,3 +3,4 @@ pub mod Components
 pub mod Trees
 pub mod Climbing
 pub mod Overwriting
+pub mod Rooms

@@ -110,6 +110,9 @@ used_bound nodes each = sum_by-le blocks_in 66062 nodes (λ k d lt. blocks_bound
 pub blocks_within : (nodes : List (Option Node)) (place : ℕ) (was : Option Node) → place < length nodes → was ≡ get_or nodes place was → blocks_in was ≤ sum_by blocks_in nodes
 blocks_within nodes place was lt is = subst (λ (n : Option Node). blocks_in n ≤ sum_by blocks_in nodes) (sym is) (get_or-le-sum_by blocks_in nodes place was lt)
 
+sum_after : (used was there had old new : ℕ) → used ≡ old → was ≤ old → was ≡ had → new + had ≡ old + there → used - was + there ≡ new
+sum_after used was there had old new is within same sums = omega arith
+
 -- another node at a place, and as many blocks more and less
 pub kept_after : (blocks : ℕ) (nodes : List (Option Node)) (used place : ℕ) (was there : Option Node) → AreKept blocks nodes used → place < length nodes → was ≡ get_or nodes place was → FitsIn there
     → AreKept blocks (set nodes place there) (used - blocks_in was + blocks_in there)
@@ -124,7 +127,7 @@ kept_after blocks nodes used place was there kept lt is fits =
         | inl here ↦ subst FitsIn (sym (ap (λ (i : ℕ). get_or (set nodes place there) i d) here ∙ get_or-set_same nodes place there d lt)) fits
         | inr apart ↦ subst FitsIn (sym (get_or-set_other nodes place k there d apart)) (kept.each k d (omega (arith, at, length-set nodes place there)))
       ];
-      sum = omega (arith, within, sums, same, kept.sum);
+      sum = sum_after used (blocks_in was) (blocks_in there) (blocks_in (get_or nodes place was)) (sum_by blocks_in nodes) (sum_by blocks_in (set nodes place there)) kept.sum within same sums;
     }
 
 -- ---- sizes and links

@@ -1,6 +1,6 @@
 //! The tree: its nodes by number, and what is asked of them.
 
-ghost use Rattle.std.specs.Prelude.{◌≡◌, ◌≤◌, ◌+◌, ◌*◌, ◌-◌, ℕ, None, OnOk, IfOk, IfSome, is_none, length};
+ghost use Rattle.std.specs.Prelude.{◌≡◌, ◌≤◌, ◌<◌, ◌+◌, None, IfOk, IfSome, is_none, length};
 ghost use Rattle.std.specs.List.{position_from};
 ghost use Rattle.std.specs.Option.{option_copied};
 ghost use Rattle.posix_defs.specs.DiskFormat.{blocks_of, greatest_size};
@@ -49,6 +49,14 @@ fn blocks_in(there: &Option<PlainNode>) -> u32
         Some(node) => node.blocks(),
         None => 0,
     }
+}
+
+/// The first place without a node.
+fn first_free(nodes: &[Option<PlainNode>]) -> Option<usize>
+    ensures first { result ≡ position_from is_none 0 nodes.now }
+    ensures within { IfSome result (λ place. place < length nodes.now) }
+{
+    nodes.iter().position(|node| node.is_none())
 }
 
 impl PlainTree {
@@ -252,7 +260,7 @@ impl PlainTree {
     pub fn free_node(&self) -> Option<u32>
         ensures { result ≡ free_node self.now }
     {
-        match self.nodes.iter().position(|node| node.is_none()) {
+        match first_free(&self.nodes) {
             Some(place) => Some(place as u32 + 1),
             None => None,
         }
