@@ -6,8 +6,10 @@ links, but for files that a check writes in place.
 import os
 import re
 import shutil
+import sys
 
 TOP = os.path.dirname(os.path.dirname(os.path.realpath(__file__)))
+RT = [sys.executable, f"{TOP}/tools/summed_once.py"]  # the toolchain's command
 PARTS = ("src", "specs", "proofs")
 MEMORY_OF_A_JOB = 3 << 20  # in KB, as the system tells it
 
