@@ -1,5 +1,5 @@
 -- The first name of a path, and what stands behind it.
-use Rattle.std.proofs.Common.{◌≡◌, ℕ, ◌+◌, ◌-◌, ◌<◌, ◌≤◌, Bool, true, false, cond, not, inl, inr, List, [], ◌∷◌, length, get_or, take, drop, length-drop, refl, sym, ap, ◌∙◌, arith, take_all}
+use Rattle.std.proofs.Common.{◌≡◌, ℕ, ◌+◌, ◌<◌, ◌≤◌, Bool, true, false, cond, not, inl, inr, List, [], ◌∷◌, length, get_or, take, drop, length-drop, sym, ap, ◌∙◌, arith, take_all}
 use Rattle.std.specs.List.{All, filter, position_or_len, slice_split}
 use Rattle.std.proofs.lemmas.Bool.{cond-true, cases_lt, ne_eqb}
 use Rattle.std.proofs.lemmas.List.{drop_all, drop_more, length-take-le}

@@ -4,3 +4,4 @@ pub mod Trees
 pub mod Climbing
 pub mod Overwriting
 pub mod Rooms
+pub mod Leading

@@ -21,9 +21,7 @@ pub(crate) fn found(entries: &[DirEntry], name: &[u8]) -> Option<u32>
 fn position_of(entries: &[DirEntry], name: &[u8]) -> Option<usize>
     ensures { result ≡ position (has_name name.now) entries.now }
 {
-    entries
-        .iter()
-        .position(|entry| entry.name.items() == name)
+    entries.iter().position(|entry| entry.name.items() == name)
 }
 
 /// Where a name stands; behind the last entry where it doesn't.

@@ -21,7 +21,9 @@ pub(crate) fn first_name(path: &[u8]) -> Option<(&[u8], &[u8])>
     ensures some { IfSome result (λ parts. components path.now ≡ parts.0.now ∷ components parts.1.now) }
     ensures shorter { IfSome result (λ parts. length parts.1.now < length path.now) }
 {
-    let (first, rest) = path.split_first()?;
+    let Some((first, rest)) = path.split_first() else {
+        return None;
+    };
     if *first == b'/' {
         return first_name(rest);
     }

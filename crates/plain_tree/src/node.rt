@@ -8,9 +8,7 @@ ghost use Rattle.posix_defs.specs.PathCalls.{bytes_of, kind_of_content};
 ghost use Rattle.posix_defs.specs.Tree.{entries_of, is_directory_content, new_root_node, parent_of, size_of};
 ghost use Rattle.posix_defs.specs.TreeChanges.{entry_put, entry_renamed, entry_taken, left_of, most_links, under, with_bytes_in, with_entries_in};
 
-use crate::blocks;
-use crate::bytes;
-use crate::entries;
+use crate::{blocks, bytes, entries};
 use kabi_types::{DirEntry, Memory, Name27, NodeKind};
 use posix_defs::Listed;
 use std::alloc::Global;

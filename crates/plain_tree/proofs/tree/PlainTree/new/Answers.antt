@@ -1,5 +1,4 @@
 use Rattle.std.proofs.Common.{◌≡◌, ℕ, ◌-◌, ◌*◌, ◌/◌, List, ◌∷◌, Option, Some, None, replicate, ap, ◌∙◌, arith}
-use Rattle.posix_defs.specs.DiskFormat.{table_nodes}
 use Rattle.posix_defs.specs.Tree.{Node, Tree, new_root_node}
 use Rattle.plain_tree.proofs.Trees.{new_kept}
 use Rattle.plain_tree.proofs.tree.PlainTree.new.Goals as goal
