@@ -8,14 +8,14 @@ use Rattle.posix_defs.specs.TreeChanges.{entry_put, link_added, most_links, rena
 use Rattle.plain_paths.specs.declared.changes.Change.{Change}
 use Rattle.plain_paths.specs.declared.changes.Change.TheVariants as change
 use Rattle.plain_paths.specs.declared.changes.NewNode.{NewNode}
-use Rattle.plain_paths.specs.declared.changes.NewNode.TheVariants as new
+use Rattle.plain_paths.specs.declared.changes.NewNode.TheVariants as fresh
 
 -- what a new node of a directory holds
 abbrev pub new_content : ℕ → NewNode → Content
-new_content dir new.File = File []
-new_content dir new.Directory = Directory dir []
-new_content dir new.SocketName = SocketName
-new_content dir new.Fifo = Fifo
+new_content dir fresh.File = File []
+new_content dir fresh.Directory = Directory dir []
+new_content dir fresh.SocketName = SocketName
+new_content dir fresh.Fifo = Fifo
 
 -- the tree after a change
 abbrev pub changed : Tree → Change → Tree
@@ -39,10 +39,10 @@ MayChange tree (change.MovedTo number dir name to new) = dir ≢ to → size_at 
 
 -- the tree after a change, or the fault
 abbrev pub changed_in : Tree → Result Change Errno → Result Tree Errno
-changed_in tree (Ok change) = Ok (changed tree change)
+changed_in tree (Ok next) = Ok (changed tree next)
 changed_in tree (Err errno) = Err errno
 
 -- what is told beside a change, and the tree after it; or the fault
 abbrev pub told_in : {A : Type 0} → Tree → Result (A × Change) Errno → Result (A × Tree) Errno
-told_in tree (Ok (what, change)) = Ok (what, changed tree change)
+told_in tree (Ok (what, next)) = Ok (what, changed tree next)
 told_in tree (Err errno) = Err errno

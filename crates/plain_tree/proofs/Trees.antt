@@ -3,7 +3,7 @@ use Rattle.std.proofs.Common.{◌≡◌, ◌≢◌, ℕ, zero, suc, ◌+◌, ◌
 use Rattle.std.specs.List.{All, sum_by}
 use Rattle.std.specs.Option.{option_map}
 use Rattle.std.proofs.lemmas.Bool.{cases_eq, cases_lt}
-use Rattle.std.proofs.lemmas.List.{get_or_default, get_or_past, get_or-set_same, get_or-set_other, length-replicate, length-set, set-get_or, set-set, set_past}
+use Rattle.std.proofs.lemmas.List.{get_or_default, get_or_past, get_or-set_same, get_or-set_other, length-replicate, length-set, set-set, set_past}
 use Rattle.std.proofs.lemmas.List.Elements.{All-cons, All-replicate}
 use Rattle.std.proofs.lemmas.List.Folds.{sum_by-replicate}
 use Rattle.std.proofs.lemmas.List.Sums.{get_or-le-sum_by, sum_by-cons, sum_by-le, sum_by-set}
@@ -19,12 +19,6 @@ use Rattle.plain_tree.specs.Fitting.{AreKept, Fits, FitsIn}
 pub with_node-twice : (tree : Tree) (number : ℕ) (first second : Option Node) → with_node (with_node tree number first) number second ≡ with_node tree number second
 with_node-twice tree zero first second = refl
 with_node-twice tree (suc before) first second = ap (λ (nodes : List (Option Node)). record tree { nodes = nodes }) (set-set tree.nodes before first second)
-
--- what is there already
-pub with_node-same : (tree : Tree) (number : ℕ) (there : Option Node) → node_at tree number ≡ there → with_node tree number there ≡ tree
-with_node-same tree zero there is = refl
-with_node-same tree (suc before) there is =
-    ap (λ (nodes : List (Option Node)). record tree { nodes = nodes }) (ap (set tree.nodes before) (sym is) ∙ set-get_or tree.nodes before None)
 
 -- what is read at the place of a number
 pub read_at : (tree : Tree) (number : ℕ) (item : Option Node) → 0 < number → number ≤ length tree.nodes → item ≡ get_or tree.nodes (number - 1) item → item ≡ node_at tree number

@@ -13,4 +13,4 @@ pub returns : goal.returns
 returns c =
     put_back c.args.self.now c.take.new.self c.put.new.self c.args.dir c.in-Some.held c.take_entry.new.self
     (λ (n : Node). record n { content = with_entries_in (entry_taken c.args.name.now) n.content })
-    (sym c.take.ensures.was ∙ c.in-Some.is) c.take.ensures.left c.take_entry.ensures c.put.ensures
+    (sym c.take.ensures.was ∙ c.in-Some.is) c.take.ensures.left (rw c.items.ensures.same at c.take_entry.ensures) c.put.ensures
