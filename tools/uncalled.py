@@ -3,8 +3,8 @@
 
 Each public function of a crate in crates.txt has to be called by the code of some crate, its own or one above. What tests call
 doesn't count, be they in a crate of tests alone or beside the code. A function that isn't called is told with its file, and the
-status is 1, unless it is in EXCEPTIONS with its reason. An exception that is called, or isn't there, is told too; with --all each
-is told with its reason. Laws, which are functions with nothing in their bodies, need no caller.
+status is 1, unless it is in EXCEPTIONS with its reason, or its crate in AWAITED. An exception that is called, or isn't there, is told
+too, and so is a crate in AWAITED on which one stands; with --all each is told with its reason. Laws, which are functions with nothing in their bodies, need no caller.
 
 A function is called where its name stands in a body: in its own crate, or in another that takes it from there by `use` or names
 the crate before it. Of a method just the name is looked at, in its crate and in all that stand on it, so one that has its name in
@@ -18,8 +18,6 @@ TOP = os.path.dirname(os.path.dirname(os.path.realpath(__file__)))
 
 # The functions that are meant to stand without a caller, by crate and name, each with its reason.
 EXCEPTIONS = {
-    ("kept_places", "get"): "nothing stands on its crate yet, which is for what calls to come keep in order",
-    ("kept_places", "get_mut"): "nothing stands on its crate yet, which is for what calls to come keep in order",
     ("wait_graph", "circle"): "nothing stands on its crate yet, which is for calls to come that wait for one another",
     ("lock_ranges", "all"): "nothing stands on its crate yet, which is for calls to come that hold ranges of files",
     ("lock_ranges", "kind_at"): "nothing stands on its crate yet, which is for calls to come that hold ranges of files",
@@ -43,6 +41,11 @@ EXCEPTIONS = {
     ("kern_events", "step"): "an event, and what is noted of it; the program reads what was noted when the run has ended",
     ("charge_words", "settle"): "a seat that goes gives all that it holds to another in one step",
     ("priced_store", "run_maps"): "what who copies the store begins with: a script run over it",
+}
+
+# The crates on which none stands yet, each with what it waits for: all that they offer may stand without a caller.
+AWAITED = {
+    "plain_pipes": "a part of the second machine, which the checker of reports will ask",
 }
 
 # The part of crates.txt that names the crates which are tests alone.
@@ -160,13 +163,21 @@ def main():
             if name == "main" or is_called(crate, name, is_method, crates, above):
                 continue
             uncalled.add((crate, name))
-            if (crate, name) not in EXCEPTIONS:
+            if (crate, name) not in EXCEPTIONS and crate not in AWAITED:
                 faults.append(f"{os.path.relpath(path, TOP)}: nothing but tests calls {name}")
     for (crate, name), reason in EXCEPTIONS.items():
         if (crate, name) not in uncalled:
             faults.append(f"{crate}: {name} is called, or isn't there: it needs no exception")
         elif "--all" in sys.argv[1:]:
             print(f"{crate}: {name}: {reason}")
+    for crate, reason in AWAITED.items():
+        standing = [it for it in above.get(crate, []) if it in crates]
+        if crate not in crates:
+            faults.append(f"{crate} isn't there: nothing waits for it")
+        elif standing:
+            faults.append(f"{crate}: {standing[0]} stands on it, so what it offers needs callers")
+        elif "--all" in sys.argv[1:]:
+            print(f"{crate}: {reason}")
     for fault in faults:
         print(f"uncalled: {fault}")
     return 1 if faults else 0
