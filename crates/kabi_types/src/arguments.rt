@@ -71,7 +71,7 @@ fn may_be_descriptor(number: i64) -> bool
 
 /// The number of bytes that an operand gives, and 0 for one below 0.
 fn count_of(number: i64) -> u64
-    ensures { result ≡ count_of number }
+    ensures count { result ≡ count_of number }
     ensures below { result < 2 ^ 63 }
 {
     u64::try_from(number).unwrap_or(0)
