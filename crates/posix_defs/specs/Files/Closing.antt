@@ -8,7 +8,7 @@ use Rattle.posix_defs.specs.Sockets.{after_close as sockets_after_close}
 use Rattle.posix_defs.specs.TreeChanges.{closed}
 use Rattle.posix_defs.specs.Files.Descriptors.{Descriptor, descriptor_at, is_named, is_cloexec}
 use Rattle.posix_defs.specs.Files.Descriptions.{Target, OnNode, OnPipe, OnSocket, Access, Description, description_at, with_description, may_write}
-use Rattle.posix_defs.specs.Files.State.{Files, with_descriptions, with_tree, with_sockets, with_open, descriptors_of, let_go, node_of, opened_node, opens, pipe_at, with_locks, with_opening, with_pipe}
+use Rattle.posix_defs.specs.Files.State.{Files, with_descriptions, with_tree, with_sockets, with_open, descriptors_of, let_go, node_of, opened_file, opens, pipe_at, with_locks, with_opening, with_pipe}
 
 -- no description opens a node any more: a file without links goes, and so does a FIFO
 abbrev pub left_node : Files → ℕ → Files
@@ -43,7 +43,7 @@ released files place = if is_named files.descriptors place then files else descr
 
 -- a process has no lock any more of the file that a description opens, if it opens one
 abbrev pub unlocked_by : Files → ℕ → Option Description → Locks
-unlocked_by files pid description = let_go files.locks pid (opened_node files description)
+unlocked_by files pid description = let_go files.locks pid (opened_file description)
 
 -- This descriptor goes, and with the last that names it its description; nothing changes where it isn't open. The process's locks of
 -- what it was open on go with it, whatever else has that open (POSIX fcntl, on closing).

@@ -98,6 +98,17 @@ abbrev pub opened_node : Files → Option Description → Option ℕ
 opened_node files None = None
 opened_node files (Some description) = node_of files description.target
 
+-- the node of a file or a directory that a description is open on; none of a pipe's end and of a socket
+abbrev pub file_of_target : Target → Option ℕ
+file_of_target (OnNode number) = Some number
+file_of_target (OnPipe place) = None
+file_of_target (OnSocket place) = None
+
+-- the same of a description that may be there
+abbrev pub opened_file : Option Description → Option ℕ
+opened_file None = None
+opened_file (Some description) = file_of_target description.target
+
 -- there is a number, and it is this one
 abbrev pub is_number : ℕ → Option ℕ → Bool
 is_number number None = false

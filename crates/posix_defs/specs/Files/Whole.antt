@@ -17,7 +17,7 @@ use Rattle.posix_defs.specs.Process.{is_alive, directory_of}
 use Rattle.posix_defs.specs.Plain.{Plain, call_of, control_of, last_pid}
 use Rattle.posix_defs.specs.Files.Descriptors.{Descriptor, is_named, none_open}
 use Rattle.posix_defs.specs.Files.Descriptions.{Target, OnNode, OnPipe, OnSocket, Access, ReadOnly, ReadWrite, Description, Descriptions, description_at, may_read, may_write}
-use Rattle.posix_defs.specs.Files.State.{Files, HalfOpen, beside, descriptors_of, is_number, opened_node, opening_at, opens, pipe_at, pipe_there}
+use Rattle.posix_defs.specs.Files.State.{Files, HalfOpen, beside, descriptors_of, is_number, opened_file, opening_at, opens, pipe_at, pipe_there}
 use Rattle.posix_defs.specs.Calls.Opened.{Opened, opened_at}
 
 -- ---- ends of pipes
@@ -103,12 +103,12 @@ pub record IsHalfOpen (files : Files) (pid : ℕ) (opening : HalfOpen) : Type 0 
 
 -- ---- record locks
 
--- the descriptor is open on this node
+-- the descriptor is open on this file
 abbrev pub opens_by : Files → ℕ → Option Descriptor → Bool
 opens_by files number None = false
-opens_by files number (Some descriptor) = is_number number (opened_node files (description_at files.descriptions descriptor.description))
+opens_by files number (Some descriptor) = is_number number (opened_file (description_at files.descriptions descriptor.description))
 
--- a process has this node open
+-- a process has this file open
 abbrev pub has_open : Files → ℕ → ℕ → Bool
 has_open files pid number = list_any (opens_by files number) (descriptors_of files pid)
 
