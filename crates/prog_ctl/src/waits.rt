@@ -33,4 +33,11 @@ pub enum Awaited {
     },
     /// The other side of a FIFO, for `open`. Whether it waits, and for which, is known by who opens it.
     OtherSide,
+    /// Places of a file that no other process holds so that they are in the way, for `setlkw`.
+    Places {
+        fd: i64,
+        kind: i64,
+        start: i64,
+        length: i64,
+    },
 }
