@@ -288,7 +288,7 @@ pub fn would_block(
             poll_would_block(objects, place, timeout, &entries)
         }
         Awaited::OtherSide => open_would_block(objects, place),
-        Awaited::Places {
+        Awaited::Lock {
             fd,
             kind,
             start,

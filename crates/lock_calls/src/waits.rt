@@ -70,7 +70,7 @@ fn wanted_by(script: &Script, objects: &Objects, place: Place) -> Option<Wanted>
     if proc.status.is_some() {
         return None;
     }
-    let Some(Awaited::Places {
+    let Some(Awaited::Lock {
         fd,
         kind,
         start,
