@@ -506,7 +506,7 @@ fn awaited(
             timeout: operand_at(control, operands, 0),
             entries: entries_of(numbers_of(control, operands).as_slice()),
         }),
-        CallKind::Setlkw => Some(Awaited::Places {
+        CallKind::Setlkw => Some(Awaited::Lock {
             fd: operand_at(control, operands, 0),
             kind: operand_at(control, operands, 1),
             start: operand_at(control, operands, 2),

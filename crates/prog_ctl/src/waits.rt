@@ -33,8 +33,8 @@ pub enum Awaited {
     },
     /// The other side of a FIFO, for `open`. Whether it waits, and for which, is known by who opens it.
     OtherSide,
-    /// Places of a file that no other process holds so that they are in the way, for `setlkw`.
-    Places {
+    /// No lock of another in the way of a range, for `setlkw`.
+    Lock {
         fd: i64,
         kind: i64,
         start: i64,

@@ -117,7 +117,7 @@ has_open files pid number = list_any (opens_by files number) (descriptors_of fil
 pub record AreLocks (files : Files) : Type 0 where
   pub canonical : (pid number : ℕ) → IsCanonical (ranges_of files.locks pid number)
   pub apart : (pid other number : ℕ) → pid ≢ other → AreApart (ranges_of files.locks pid number) (ranges_of files.locks other number)
-  pub open : (pid number : ℕ) → ranges_of files.locks pid number ≢ [] → has_open files pid number ≡ true
+  pub opened : (pid number : ℕ) → ranges_of files.locks pid number ≢ [] → has_open files pid number ≡ true
 
 -- ---- half-done writes
 
