@@ -31,6 +31,7 @@ use file_calls::{
     read as read_file, readdir, write as write_file,
 };
 use kabi_types::{Call, Errno, Memory, Need, Reply, Script, may_wait};
+use lock_calls::{Waits, getlk, lock_would_block, setlk, setlkw};
 use path_calls::{chdir, link, mkdir, mkfifo, rename, rmdir, stat, unlink};
 use posix_defs::Turned;
 use proc_files::{FileBuffer, MOST_MOVED};
@@ -192,6 +193,28 @@ fn run_right(
             disposition,
         } => signal(script, objects, caller, *which, *disposition),
         Call::Mkfifo { path } => mkfifo(script, objects, purse, caller, path.items()),
+        Call::Setlk {
+            kind,
+            start,
+            length,
+            ..
+        } => setlk(
+            script, objects, purse, caller, on, *kind, *start, *length,
+        ),
+        Call::Setlkw {
+            kind,
+            start,
+            length,
+            ..
+        } => setlkw(
+            script, objects, purse, caller, on, *kind, *start, *length,
+        ),
+        Call::Getlk {
+            kind,
+            start,
+            length,
+            ..
+        } => getlk(script, objects, caller, on, *kind, *start, *length),
     }
 }
 
@@ -233,9 +256,15 @@ pub fn run(
     }
 }
 
-/// Whether a live process's call would block now. Of the call it asks only for what that waits for: a call that waits for nothing
-/// never blocks.
-pub fn would_block(objects: &Objects, pid: u32, wait: Option<Awaited>) -> bool
+/// Whether a live process's next call would block now. Of the call it asks only for what that waits for: a call that waits for nothing
+/// never blocks. Who waits for whom is found where that is asked and isn't known yet, and kept.
+pub fn would_block(
+    script: &Script,
+    objects: &Objects,
+    waits: &mut Option<Waits>,
+    pid: u32,
+    wait: Option<Awaited>,
+) -> bool
     requires { (script : Script) × (world : World) × StandsFor script objects.now world × (is_alive world.plain.table pid ≡ true) }
     ensures { (script : Script) (world : World) → StandsFor script objects.now world
         → (call : Call) → wait ≡ wait_of call → result ≡ blocks (machine script world.plain pid call) }
@@ -259,5 +288,13 @@ pub fn would_block(objects: &Objects, pid: u32, wait: Option<Awaited>) -> bool
             poll_would_block(objects, place, timeout, &entries)
         }
         Awaited::OtherSide => open_would_block(objects, place),
+        Awaited::Lock {
+            fd,
+            kind,
+            start,
+            length,
+        } => lock_would_block(
+            script, objects, waits, place, fd, kind, start, length,
+        ),
     }
 }

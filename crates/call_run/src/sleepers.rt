@@ -24,6 +24,7 @@ use crate::touching::is_apart;
 use crate::turns::waits_for;
 use arrayvec::ArrayVec;
 use kabi_types::{Call, Reply, Script};
+use lock_calls::Waits;
 use posix_defs::Turned;
 use std::marker::Model;
 use store_objects::Objects;
@@ -183,8 +184,8 @@ fn came_of(turned: &Turned) -> Came
     }
 }
 
-/// Whom a turn of this call, which came to this, may have woken, or kept from going on. This is the one place that says so: what makes a
-/// sleeper depend on more than queues, children and descriptions has its line here.
+/// Whom a turn of this call, which came to this, may have woken, or kept from going on, where no lock is held. This is the one place that
+/// says so: what makes a sleeper depend on more than queues, children and descriptions has its line here, or is asked before.
 fn stirs_of(call: &Call, came: Came, no_fifo: bool) -> Stirs
     ensures { result ≡ stirs_of no_fifo call.now came }
 {
@@ -205,13 +206,13 @@ fn is_sleep(turned: &Turned) -> bool
 
 /// Whether a live process's next call wouldn't block now. It stands by itself, since it is large and asked at several places.
 #[inline(never)]
-pub fn goes_on(script: &Script, objects: &Objects, pid: u32) -> bool
+pub fn goes_on(script: &Script, objects: &Objects, waits: &mut Option<Waits>, pid: u32) -> bool
     requires { (world : World) × StandsFor script.now objects.now world × (is_alive world.plain.table pid ≡ true) }
     ensures { (world : World) → StandsFor script.now objects.now world → is_alive world.plain.table pid ≡ true
         → result ≡ not (would_block script.now world.plain pid) }
 {
     let wait = waits_for(script, objects, pid);
-    !would_block(objects, pid, wait)
+    !would_block(script, objects, waits, pid, wait)
 }
 
 /// The place of a process among sleepers; else, where it would stand. They stand by rising pid, mostly near the place that the pid numbers.
@@ -269,7 +270,13 @@ fn is_passed(channel: Option<Channel>, pid: u32, fd: i64) -> bool
 }
 
 /// Asks again whether a sleeper that is alive would block.
-fn ask(script: &Script, objects: &Objects, sleeper: &mut Sleeper, stirred: &mut ArrayVec<u32, 128>)
+fn ask(
+    script: &Script,
+    objects: &Objects,
+    waits: &mut Option<Waits>,
+    sleeper: &mut Sleeper,
+    stirred: &mut ArrayVec<u32, 128>,
+)
     requires alive { (world : World) × StandsFor script.now objects.now world × (is_alive world.plain.table sleeper.old.pid ≡ true) }
     requires room { array_vec_len stirred.old < 128 }
     ensures same { sleeper.new ≡ record sleeper.old { blocks = sleeper.new.blocks } }
@@ -278,7 +285,7 @@ fn ask(script: &Script, objects: &Objects, sleeper: &mut Sleeper, stirred: &mut 
     ensures named { NamesOne stirred.old.items sleeper.old sleeper.new stirred.new.items }
     ensures room { array_vec_len stirred.new ≤ array_vec_len stirred.old + 1 }
 {
-    let blocks = !goes_on(script, objects, sleeper.pid);
+    let blocks = !goes_on(script, objects, waits, sleeper.pid);
     if blocks != sleeper.blocks {
         sleeper.blocks = blocks;
         stirred.push(sleeper.pid);
@@ -304,6 +311,7 @@ fn forget_at(told: &mut ArrayVec<Sleeper, 64>, stirred: &mut ArrayVec<u32, 128>,
 fn look_at(
     script: &Script,
     objects: &Objects,
+    waits: &mut Option<Waits>,
     told: &mut ArrayVec<Sleeper, 64>,
     stirred: &mut ArrayVec<u32, 128>,
     place: usize,
@@ -317,7 +325,7 @@ fn look_at(
     ensures room { array_vec_len stirred.new ≤ array_vec_len stirred.old + 1 }
 {
     if objects.runs(told[place].pid) {
-        ask(script, objects, &mut told[place], stirred);
+        ask(script, objects, waits, &mut told[place], stirred);
     } else {
         forget_at(told, stirred, place);
     }
@@ -340,10 +348,11 @@ fn ask_each(
     ensures named { NamesMore told.old.items stirred.old.items told.new.items stirred.new.items }
     ensures room { array_vec_len stirred.new ≤ array_vec_len stirred.old + 64 }
 {
+    let mut waits = None;
     let mut place = told.len();
     while place > 0 {
         place -= 1;
-        look_at(script, objects, told, stirred, place);
+        look_at(script, objects, &mut waits, told, stirred, place);
     }
 }
 
@@ -380,7 +389,7 @@ fn look_near(
         tell_apart(sleeper, channel, true);
         return false;
     }
-    ask(script, objects, sleeper, stirred);
+    ask(script, objects, &mut None, sleeper, stirred);
     true
 }
 
@@ -643,6 +652,11 @@ impl Sleepers {
         ensures named { NamesMore self.old.told self.old.stirred self.new.told self.new.stirred }
         ensures room { length self.new.stirred ≤ 65 }
     {
+        if !objects.locks.is_empty() {
+            // Whoever goes on may stand at a call that closes a circle.
+            self.ask_all(script, objects);
+            return;
+        }
         match stirs_of(call, came, objects.fifos.is_empty()) {
             Stirs::Nobody => {
                 if gives_number(call) {
@@ -677,7 +691,7 @@ impl Sleepers {
         ensures named { HasNamed (is_settled self.old.told) (is_settled self.new.told) self.new.stirred }
     {
         self.go_on(script, objects, pid, call, Came::Part);
-        self.lie_down(pid, !goes_on(script, objects, pid));
+        self.lie_down(pid, !goes_on(script, objects, &mut None, pid));
     }
 
     /// Behind a turn of this call of a process, which came to this: those whom it may have woken are asked, and whose call sleeps is kept
@@ -718,14 +732,17 @@ impl Sleepers {
         }
     }
 
-    /// A process's call was refused: it sleeps no more.
-    pub fn refused(&mut self, pid: u32)
+    /// A process's call was refused: it sleeps no more. Where a lock is held it may close a circle with the call at which it stands now.
+    pub fn refused(&mut self, script: &Script, objects: &Objects, pid: u32)
         ensures minded { (script : Script) (world : World) → IsReached script world.plain → AreMinded script world.plain self.old.told self.old.channels
             → AreMinded script (refused_in script world pid).plain self.new.told self.new.channels }
         ensures named { HasNamed (is_settled self.old.told) (is_settled self.new.told) self.new.stirred }
     {
         self.stirred.clear();
         self.get_up(pid);
+        if !objects.locks.is_empty() {
+            self.ask_all(script, objects);
+        }
     }
 
     /// A process was killed.

@@ -30,6 +30,7 @@ use bound_table::BoundTable;
 use fifo_nodes::FifoTable;
 use kabi_types::Errno;
 use kheap_slabs::{Desc, KHeap, Purse, Target};
+use lock_table::LockTable;
 use memfs_ops::FileTree;
 use proc_numbers::{Found, Named, close_one, opened};
 use proc_table::{Place, ProcTable};
@@ -48,6 +49,7 @@ pub fn close_number(
     tree: &mut FileTree,
     names: &mut BoundTable,
     fifos: &mut FifoTable,
+    locks: &mut LockTable,
     place: Place,
     on: &Named,
 ) -> Result<(), Errno>
@@ -77,7 +79,7 @@ pub fn close_number(
     let Some(found) = on.found else {
         return Err(Errno::EBADF);
     };
-    close_open(heap, purse, procs, tree, names, fifos, place, &found);
+    close_open(heap, purse, procs, tree, names, fifos, locks, place, &found);
     Ok(())
 }
 
@@ -92,6 +94,7 @@ pub(crate) fn close_at(
     tree: &mut FileTree,
     names: &mut BoundTable,
     fifos: &mut FifoTable,
+    locks: &mut LockTable,
     place: Place,
     fd: u32,
 )
@@ -122,7 +125,7 @@ pub(crate) fn close_at(
     let Some(found) = on.found else {
         return;
     };
-    close_open(heap, purse, procs, tree, names, fifos, place, &found);
+    close_open(heap, purse, procs, tree, names, fifos, locks, place, &found);
 }
 
 // A process closes a number of which was found what it names, whatever that is open on.
@@ -138,6 +141,7 @@ fn close_open(
     tree: &mut FileTree,
     names: &mut BoundTable,
     fifos: &mut FifoTable,
+    locks: &mut LockTable,
     place: Place,
     found: &Found,
 )
@@ -165,11 +169,35 @@ fn close_open(
     ensures stays { node_closed heap.old (named_at heap.old procs.now place.pid found.now.number) ≡ None → tree.new ≡ tree.old }
     ensures cached { KeepsCached tree.old tree.new }
 {
-    unname_going(heap, names, found);
+    let_go(heap, names, locks, place, found);
     let Some(node) = close_one(heap, procs, fifos, place, found.number) else {
         return;
     };
     tree.close_node(heap, purse, node);
+}
+
+// What goes before a number is closed: the name of a socket that goes with it, and the process's locks of a file that it names.
+fn let_go(
+    heap: &mut KHeap,
+    names: &mut BoundTable,
+    locks: &mut LockTable,
+    place: Place,
+    found: &Found,
+)
+{
+    unlock(heap, locks, place, found.desc.target);
+    unname_going(heap, names, found);
+}
+
+// The process has no lock of a file any more, where a number that it closes names one.
+fn unlock(heap: &mut KHeap, locks: &mut LockTable, place: Place, target: Target)
+{
+    if locks.is_empty() {
+        return;
+    }
+    if let Target::Inode(node) = target {
+        locks.drop_of(heap, node, place.pid);
+    }
 }
 
 // The socket that goes with a descriptor, if one does, has no name from now on.

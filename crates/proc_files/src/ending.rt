@@ -29,6 +29,7 @@ use desc_table::descriptor_of;
 use fifo_nodes::FifoTable;
 use kabi_types::MOST_DESCRIPTORS;
 use kheap_slabs::{Descriptor, KHeap, Purse};
+use lock_table::LockTable;
 use memfs_ops::FileTree;
 use proc_table::{Place, ProcTable};
 
@@ -45,6 +46,7 @@ pub fn close_each(
     tree: &mut FileTree,
     names: &mut BoundTable,
     fifos: &mut FifoTable,
+    locks: &mut LockTable,
     place: Place,
 )
     requires listed { AreListed heap.old procs.now }
@@ -77,7 +79,7 @@ pub fn close_each(
     }
     let marks = all_marks();
     let below = reach_of(heap, procs, place);
-    close_marked(heap, purse, procs, tree, names, fifos, place, &marks, below);
+    close_marked(heap, purse, procs, tree, names, fifos, locks, place, &marks, below);
     is_well_formed(heap);
 }
 
@@ -94,6 +96,7 @@ pub fn close_at_exec(
     tree: &mut FileTree,
     names: &mut BoundTable,
     fifos: &mut FifoTable,
+    locks: &mut LockTable,
     place: Place,
 )
     requires listed { AreListed heap.old procs.now }
@@ -123,7 +126,7 @@ pub fn close_at_exec(
 {
     let below = reach_of(heap, procs, place);
     let marks = marks_of(heap, procs, place, below);
-    close_marked(heap, purse, procs, tree, names, fifos, place, &marks, below);
+    close_marked(heap, purse, procs, tree, names, fifos, locks, place, &marks, below);
 }
 
 // Whether nothing is open in a process.
@@ -215,6 +218,7 @@ fn close_marked(
     tree: &mut FileTree,
     names: &mut BoundTable,
     fifos: &mut FifoTable,
+    locks: &mut LockTable,
     place: Place,
     marks: &[bool; 128],
     below: u32,
@@ -251,7 +255,7 @@ fn close_marked(
 {
     for fd in 0..below {
         let marked = mark_at(marks, fd);
-        close_if(heap, purse, procs, tree, names, fifos, place, fd, marked);
+        close_if(heap, purse, procs, tree, names, fifos, locks, place, fd, marked);
     }
 }
 
@@ -263,6 +267,7 @@ fn close_if(
     tree: &mut FileTree,
     names: &mut BoundTable,
     fifos: &mut FifoTable,
+    locks: &mut LockTable,
     place: Place,
     fd: u32,
     marked: bool,
@@ -299,5 +304,5 @@ fn close_if(
     if !marked {
         return;
     }
-    close_at(heap, purse, procs, tree, names, fifos, place, fd);
+    close_at(heap, purse, procs, tree, names, fifos, locks, place, fd);
 }

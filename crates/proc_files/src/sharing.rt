@@ -24,6 +24,7 @@ use bound_table::BoundTable;
 use fifo_nodes::FifoTable;
 use kabi_types::Errno;
 use kheap_slabs::{KHeap, Purse};
+use lock_table::LockTable;
 use memfs_ops::FileTree;
 use proc_numbers::{Named, count_of, may_be_descriptor, share_at};
 use proc_table::{Place, ProcTable};
@@ -44,6 +45,7 @@ pub fn dup_number(
     tree: &mut FileTree,
     names: &mut BoundTable,
     fifos: &mut FifoTable,
+    locks: &mut LockTable,
     place: Place,
     on: &Named,
     to: i64,
@@ -85,7 +87,7 @@ pub fn dup_number(
         return Ok(number);
     }
     is_well_formed(heap);
-    close_at(heap, back, procs, tree, names, fifos, place, number);
+    close_at(heap, back, procs, tree, names, fifos, locks, place, number);
     share_at(heap, purse, procs, place, number, found.key);
     Ok(number)
 }

@@ -87,6 +87,7 @@ fn shut_down(objects: &mut Objects, purse: &mut Purse, place: Place, status: u16
         &mut objects.tree,
         &mut objects.names,
         &mut objects.fifos,
+        &mut objects.locks,
         place,
     );
     objects.wait_in(place, None);
