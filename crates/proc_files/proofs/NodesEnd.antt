@@ -5,12 +5,12 @@ use Rattle.kheap_slabs.proofs.ObjectLemmas.{InUse-within}
 use Rattle.kheap_slabs.specs.Heap.{Heap}
 use Rattle.open_laws.specs.Owned.{HasItsOwners}
 use Rattle.open_laws.specs.Placed.{Numbers}
-use Rattle.posix_defs.specs.Files.Closing.{after_close}
 use Rattle.posix_defs.specs.Files.Descriptions.{Description, Descriptions, description_at}
 use Rattle.posix_defs.specs.Files.State.{Files, beside, node_of, nodes_among, opened_node}
 use Rattle.posix_defs.specs.Reaching.{ends_at, ends_node}
 use Rattle.proc_table.specs.Table.{TableView}
 use Rattle.proc_table.proofs.PlaceLemmas.{some_same}
+use Rattle.proc_numbers.specs.Closed.{without_number}
 use Rattle.proc_numbers.specs.Having.{AreListed, HaveOpen, node_closed}
 use Rattle.proc_numbers.specs.Naming.{named_at}
 use Rattle.proc_files.specs.Closing.{CachesChange, ClosesHolding}
@@ -37,12 +37,12 @@ only_goes files next went goes = record { fewer = λ n. (let same = goes.opened 
 
 -- what goes with a number, also where the caches change with it
 pub closing_goes : (old new : Heap) (kept : TableView) (pid fd : ℕ) (numbers : Numbers) (files : Files) → AreListed old kept → HasItsOwners old [] → AreListed new kept → HasItsOwners new [] → ClosesHolding old new kept pid fd
-    → HaveOpen numbers old kept files → HaveOpen numbers new kept (after_close files pid fd) → Goes files (after_close files pid fd) (node_closed old (named_at old kept pid fd))
+    → HaveOpen numbers old kept files → HaveOpen numbers new kept (without_number files pid fd) → Goes files (without_number files pid fd) (node_closed old (named_at old kept pid fd))
 closing_goes old new kept pid fd numbers files listed owners listed_new owners_new closes have then =
     let back : CachesChange new closes.mid =
     sym (ap (λ (h : Heap). record h { vnodes = closes.mid.vnodes; names = closes.mid.names; blocks = closes.mid.blocks; high = closes.mid.high }) closes.caches) in
     goes_with old closes.mid kept pid fd listed owners closes.closes (listed_beside new closes.mid back kept listed_new) (owners_beside new closes.mid back [] owners_new) numbers files have
-    (have_beside new closes.mid back numbers kept (after_close files pid fd) (after_close files pid fd) refl refl refl refl refl then) (node_closed old (named_at old kept pid fd)) refl
+    (have_beside new closes.mid back numbers kept (without_number files pid fd) (without_number files pid fd) refl refl refl refl refl then) (node_closed old (named_at old kept pid fd)) refl
 
 -- where each node is opened as often as before none went with it
 pub none_goes : (files next : Files) (went : Option ℕ) → Goes files next went → ((n : ℕ) → openings next n ≡ openings files n) → went ≡ None
