@@ -194,7 +194,7 @@ fn close_open(
 
 // A process has no lock any more of the file that a target is, if it is one.
 fn unlock(heap: &mut KHeap, locks: &mut LockTable, place: Place, target: Target)
-    requires locked { IsLockTable heap.old.locks locks.old }
+    requires { IsLockTable heap.old.locks locks.old }
     ensures locks { (held : Locks) → HoldsLocks heap.old.locks locks.old held → HoldsLocks heap.new.locks locks.new (let_go held place.pid (inode_in target)) }
     ensures locked { IsLockTable heap.new.locks locks.new }
     ensures beside { heap.new ≡ with_locks_of heap.old heap.new }

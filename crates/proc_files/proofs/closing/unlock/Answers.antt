@@ -2,6 +2,7 @@ use Rattle.std.proofs.Common.{◌≡◌, ◌∙◌, Option, refl, subst, sym}
 use Rattle.kheap_laws.proofs.PaidLemmas.{TakesNothing-refl}
 use Rattle.lock_table.specs.Chain.{HoldsLocks}
 use Rattle.posix_defs.specs.Files.State.{let_go}
+use Rattle.posix_defs.specs.Locks.{without}
 use Rattle.proc_files.proofs.Unlocking.{is_empty, lets_nothing_go, none_held, none_let_go}
 use Rattle.open_laws.specs.Described.{inode_in}
 use Rattle.proc_files.proofs.closing.unlock.Goals as goal
@@ -24,3 +25,10 @@ returns-in_default-clause-takes c = TakesNothing-refl c.args.heap.now
 pub returns-clause-locks : goal.returns-clause-locks
 returns-clause-locks c = λ held has.
     subst (λ what. HoldsLocks c.drop_of.new.heap.locks c.drop_of.new.self (let_go held c.args.place.pid (inode_in what))) (sym c.in-Inode.is) (c.drop_of.ensures.holds held has)
+
+pub returns-clause-locked : goal.returns-clause-locked
+returns-clause-locked c =
+    (without c.requires.0 c.args.place.pid c.in-Inode.node, c.drop_of.ensures.holds c.requires.0 c.requires.1)
+
+pub returns-clause-beside : goal.returns-clause-beside
+returns-clause-beside c = c.drop_of.ensures.kept
