@@ -4,6 +4,7 @@ use Rattle.kabi_types.specs.declared.calls.Call.{Call}
 use Rattle.kabi_types.specs.declared.replies.Reply.{Reply}
 use Rattle.kabi_types.specs.declared.scripts.Script.{Script}
 use Rattle.kheap_slabs.specs.declared.objects.Proc.{Proc}
+use Rattle.lock_table.specs.Chain.{HoldsLocks}
 use Rattle.memfs_ops.specs.FileTree.{Stands, one_more}
 use Rattle.posix_defs.specs.Account.{account_on, with_frames}
 use Rattle.posix_defs.specs.Answer.{Answer}
@@ -49,6 +50,8 @@ pub record StandsFor (script : Script) (objects : Objects) (world : World) : Typ
   pub memory : HasAccount objects.heap objects.procs world.account.frames
   -- one numbering of descriptions, pipes and sockets makes what is open the machine's, and the account of fronts true
   pub files : HaveFiles objects world.plain.files world.account
+  -- the chain of locks has the machine's
+  pub locks : HoldsLocks objects.heap.locks objects.locks world.plain.files.locks
   -- the disk has the machine's tree, and the caches keep what is kept of it
   pub tree : HasTree objects world
   -- of the machine alone: who is whose child, and that everybody works in a directory
@@ -62,6 +65,7 @@ pub record HasEntered (script : Script) (objects : Objects) (world : World) (dir
   pub processes : AreProcesses script objects world.plain
   pub memory : HasAccount objects.heap objects.procs world.account.frames
   pub files : HaveFiles objects world.plain.files world.account
+  pub locks : HoldsLocks objects.heap.locks objects.locks world.plain.files.locks
   pub tree : Stands objects.heap objects.tree world.plain.files.tree (one_more (pins_in world.plain) directory)
   pub entered : is_directory world.plain.files.tree directory ≡ true
   pub same : world.kept ≡ kept_by objects.tree
