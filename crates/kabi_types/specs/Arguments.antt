@@ -114,7 +114,7 @@ last_place start length = if length == 0 then greatest_place else start + length
 abbrev pub locked_fault : ℕ → ℤ → ℤ → ℤ → Option Errno
 locked_fault most kind start length =
     option_or (invalid_unless (is_within 0 most kind && (is_from 0 start && is_from 0 length)))
-    (if nat_lt greatest_place (last_place (count_of start) (count_of length)) then Some EOVERFLOW else None)
+    (if nat_lt greatest_place (count_of start + (count_of length - 1)) then Some EOVERFLOW else None)
 
 -- neither path of `rename` ends in `.` or `..`
 abbrev pub renamed_fault : List ℕ → List ℕ → Option Errno

@@ -193,7 +193,7 @@ fn check_locked(most: u32, kind: i64, start: i64, length: i64) -> Result<(), Err
     ensures { result_err result ≡ locked_fault most kind start length }
 {
     invalid_unless(is_within(0, most, kind) && is_from(0, start) && is_from(0, length))?;
-    if last_place(count_of(start), count_of(length)) > GREATEST_PLACE {
+    if count_of(start) + count_of(length).saturating_sub(1) > GREATEST_PLACE {
         return Err(Errno::EOVERFLOW);
     }
     Ok(())

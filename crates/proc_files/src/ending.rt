@@ -5,6 +5,7 @@ ghost use Rattle.std.specs.List.{list_all, list_any};
 ghost use Rattle.fifo_nodes.specs.Chain.{IsChain};
 ghost use Rattle.kheap_slabs.specs.Paid.{IsPaid};
 ghost use Rattle.kheap_slabs.specs.declared.objects.Proc.{Proc as HeldProc};
+ghost use Rattle.lock_table.specs.Chain.{HoldsLocks, IsLockTable};
 ghost use Rattle.memfs_ops.specs.Closing.{KeepsCached};
 ghost use Rattle.open_laws.specs.Owned.{HasItsOwners};
 ghost use Rattle.open_laws.specs.Placed.{Numbers};
@@ -52,15 +53,20 @@ pub fn close_each(
     requires listed { AreListed heap.old procs.now }
     requires owners { HasItsOwners heap.old [] }
     requires chain { IsChain heap.old fifos.old }
+    requires locked { IsLockTable heap.old.locks locks.old }
     requires there { IsPlaced procs.now place }
     requires hold { HoldSomeNames heap.old procs.now tree.old names.old }
     requires may { MayClose heap.old purse.old }
     ensures closed { (numbers : Numbers) (others : ℕ → ℕ) (files : Files)
         → HoldNames numbers others heap.old procs.now tree.old names.old files
         → HoldNames numbers others heap.new procs.now tree.new names.new (closed_each files place.pid) }
+    ensures locks { (numbers : Numbers) (others : ℕ → ℕ) (files : Files)
+        → HoldNames numbers others heap.old procs.now tree.old names.old files → HoldsLocks heap.old.locks locks.old files.locks
+        → HoldsLocks heap.new.locks locks.new (closed_each files place.pid).locks }
     ensures listed { AreListed heap.new procs.now }
     ensures owners { HasItsOwners heap.new [] }
     ensures chain { IsChain heap.new fifos.new }
+    ensures locked { IsLockTable heap.new.locks locks.new }
     ensures hold { HoldSomeNames heap.new procs.now tree.new names.new }
     ensures closes { ClosesEach heap.old heap.new procs.now place.pid }
     ensures places { length names.new ≡ length names.old }
@@ -102,15 +108,20 @@ pub fn close_at_exec(
     requires listed { AreListed heap.old procs.now }
     requires owners { HasItsOwners heap.old [] }
     requires chain { IsChain heap.old fifos.old }
+    requires locked { IsLockTable heap.old.locks locks.old }
     requires there { IsPlaced procs.now place }
     requires hold { HoldSomeNames heap.old procs.now tree.old names.old }
     requires may { MayClose heap.old purse.old }
     ensures closed { (numbers : Numbers) (others : ℕ → ℕ) (files : Files)
         → HoldNames numbers others heap.old procs.now tree.old names.old files
         → HoldNames numbers others heap.new procs.now tree.new names.new (after_exec_of files place.pid) }
+    ensures locks { (numbers : Numbers) (others : ℕ → ℕ) (files : Files)
+        → HoldNames numbers others heap.old procs.now tree.old names.old files → HoldsLocks heap.old.locks locks.old files.locks
+        → HoldsLocks heap.new.locks locks.new (after_exec_of files place.pid).locks }
     ensures listed { AreListed heap.new procs.now }
     ensures owners { HasItsOwners heap.new [] }
     ensures chain { IsChain heap.new fifos.new }
+    ensures locked { IsLockTable heap.new.locks locks.new }
     ensures hold { HoldSomeNames heap.new procs.now tree.new names.new }
     ensures changes { ChangesHolding heap.old heap.new procs.now place.pid }
     ensures places { length names.new ≡ length names.old }
@@ -226,6 +237,7 @@ fn close_marked(
     requires listed { AreListed heap.old procs.now }
     requires owners { HasItsOwners heap.old [] }
     requires chain { IsChain heap.old fifos.old }
+    requires locked { IsLockTable heap.old.locks locks.old }
     requires there { IsPlaced procs.now place }
     requires hold { HoldSomeNames heap.old procs.now tree.old names.old }
     requires within { below ≤ most_descriptors }
@@ -233,9 +245,13 @@ fn close_marked(
     ensures closed { (numbers : Numbers) (others : ℕ → ℕ) (files : Files)
         → HoldNames numbers others heap.old procs.now tree.old names.old files
         → HoldNames numbers others heap.new procs.now tree.new names.new (closed_where (is_marked marks.now) files place.pid below) }
+    ensures locks { (numbers : Numbers) (others : ℕ → ℕ) (files : Files)
+        → HoldNames numbers others heap.old procs.now tree.old names.old files → HoldsLocks heap.old.locks locks.old files.locks
+        → HoldsLocks heap.new.locks locks.new (closed_where (is_marked marks.now) files place.pid below).locks }
     ensures listed { AreListed heap.new procs.now }
     ensures owners { HasItsOwners heap.new [] }
     ensures chain { IsChain heap.new fifos.new }
+    ensures locked { IsLockTable heap.new.locks locks.new }
     ensures hold { HoldSomeNames heap.new procs.now tree.new names.new }
     ensures closes { ClosesMarked heap.old heap.new procs.now place.pid (is_marked marks.now) below }
     ensures places { length names.new ≡ length names.old }
@@ -275,15 +291,20 @@ fn close_if(
     requires listed { AreListed heap.old procs.now }
     requires owners { HasItsOwners heap.old [] }
     requires chain { IsChain heap.old fifos.old }
+    requires locked { IsLockTable heap.old.locks locks.old }
     requires there { IsPlaced procs.now place }
     requires hold { HoldSomeNames heap.old procs.now tree.old names.old }
     requires may { MayClose heap.old purse.old }
     ensures closed { (numbers : Numbers) (others : ℕ → ℕ) (files : Files)
         → HoldNames numbers others heap.old procs.now tree.old names.old files
         → HoldNames numbers others heap.new procs.now tree.new names.new (if marked then after_close files place.pid fd else files) }
+    ensures locks { (numbers : Numbers) (others : ℕ → ℕ) (files : Files)
+        → HoldNames numbers others heap.old procs.now tree.old names.old files → HoldsLocks heap.old.locks locks.old files.locks
+        → HoldsLocks heap.new.locks locks.new (if marked then after_close files place.pid fd else files).locks }
     ensures listed { AreListed heap.new procs.now }
     ensures owners { HasItsOwners heap.new [] }
     ensures chain { IsChain heap.new fifos.new }
+    ensures locked { IsLockTable heap.new.locks locks.new }
     ensures hold { HoldSomeNames heap.new procs.now tree.new names.new }
     ensures closes { ClosesIf heap.old heap.new procs.now place.pid fd marked }
     ensures places { length names.new ≡ length names.old }
