@@ -50,6 +50,12 @@ def moves_beside(asleep):
                  ["r1 = mmap 4096", "r2 r3 = pipe", *["r4 = dup r2"] * 28, "r10 = open \"/a\" O_RDWR|O_CREAT"])
 
 
+def wait_for_places(asleep):
+    """Who sleeps waits for a place of a file that the first process holds, and the last one asks for its pid."""
+    return chain(asleep, ["r12 = setlkw 0 F_WRLCK 0 1"], ["r12 = getpid"],
+                 ["open \"/f\" O_RDWR|O_CREAT", "setlk 0 F_WRLCK 0 1", "r15 = fork", "if r15 == 0 first", "waitpid -1 0", "exit 0", "label first"])
+
+
 # How many events sleepers take before their steps are all alike.
 ASLEEP = 3000
 
