@@ -1,0 +1,46 @@
+-- The chain of locks while it is walked, and while it is made anew.
+use Rattle.std.specs.Prelude.{◌≡◌, ℕ, zero, suc, ◌≤◌, List, [], ◌++◌, Option, None, Some, length}
+use Rattle.kheap_slabs.specs.Heap.{Heap}
+use Rattle.kheap_slabs.specs.Keys.{AreKeysOf}
+use Rattle.kheap_slabs.specs.Objects.{object, count}
+use Rattle.kheap_slabs.specs.Paid.{TakesNothing}
+use Rattle.kheap_slabs.specs.declared.objects.Lock.{Lock as HeldLock}
+use Rattle.lock_ranges.specs.declared.range.Range.{Range}
+use Rattle.posix_defs.specs.Locks.{Locks}
+use Rattle.lock_table.specs.Chain.{Chained}
+use Rattle.lock_table.specs.Setting.{cut, over}
+
+-- the key of the next one
+abbrev pub next_of : Option HeldLock → Option ℕ
+next_of None = None
+next_of (Some lock) = lock.next
+
+-- how many stand in the chain from this one on, of at most so many
+unfoldable pub chain_left : ℕ → List (Option HeldLock) → Option ℕ → ℕ
+chain_left zero objects at = 0
+chain_left (suc n) objects None = 0
+chain_left (suc n) objects (Some key) = suc (chain_left n objects (next_of (object objects key)))
+
+-- of the locks that stand here and behind this is so
+pub record Walks (objects : List (Option HeldLock)) (at : Option ℕ) (P : Locks → Type 0) : Type 0 where
+  pub keys : List ℕ
+  pub rest : Locks
+  pub chained : Chained objects at keys rest
+  pub few : length keys ≤ count objects
+  pub so : P rest
+
+-- those that stayed are chained anew, and those that stand here and behind still as they were; what becomes of all is what becomes of
+-- these from here on
+pub record Cuts (old new : Heap) (first at : Option ℕ) (over_now : Option Range) (pid node start last : ℕ) (locks : Locks) : Type 0 where
+  pub done_keys : List ℕ
+  pub done : Locks
+  pub anew : Chained new.locks first done_keys done
+  pub keys : List ℕ
+  pub rest : Locks
+  pub chained : Chained new.locks at keys rest
+  pub are : AreKeysOf new.locks (done_keys ++ keys)
+  pub few : length keys ≤ count old.locks
+  pub cut_is : cut pid node start last done rest ≡ cut pid node start last [] locks
+  pub over_is : over pid node start last over_now rest ≡ over pid node start last None locks
+  pub kept : new ≡ record old { locks = new.locks }
+  pub takes : TakesNothing old new
