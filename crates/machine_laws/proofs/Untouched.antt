@@ -85,7 +85,7 @@ leaves_tree script plain pid call = go (argument_fault call) refl
     go : (fault : Option Errno) → argument_fault call ≡ fault
         → LeadsTo (λ next. reaches_node plain pid call next ≡ false → next.files.tree ≡ plain.files.tree) (unless_wrong script plain pid fault (answer_to script plain pid call))
     go (Some e) is = λ none. refl
-    go None is = steps_lead plain pid call _ follows (answer_to script plain pid call) (right script plain pid call)
+    go None is = steps_lead plain pid call _ follows (answer_to script plain pid call) (right script plain pid call is)
       where
         follows : (goes_on : Bool) (next : Plain) → IsStep plain pid call goes_on next.files → reaches_node plain pid call next ≡ false → next.files.tree ≡ plain.files.tree
         follows goes_on next stepped none =
