@@ -33,6 +33,8 @@ pub mod StepsKeep
 pub mod ProcessesKept
 pub mod Keeping
 pub mod Texting
+pub mod LockLists
+pub mod Locking
 pub mod Wholeness
 pub mod Waiting
 pub mod Histories
