@@ -19,7 +19,6 @@ use Rattle.open_laws.specs.Placed.{Numbers}
 use Rattle.open_laws.proofs.GoingLemmas.{held_open_on, named_on, open_on}
 use Rattle.pipe_ends.proofs.LinkLemmas.{links_same}
 use Rattle.posix_defs.specs.Files.Closing.{after_close}
-use Rattle.posix_defs.specs.Files.Descriptors.{Descriptor}
 use Rattle.posix_defs.specs.Files.Descriptions.{Description}
 use Rattle.posix_defs.specs.Files.State.{Files, file_of_target, let_go, opened_file, with_locks}
 use Rattle.posix_defs.specs.Locks.{Locks}
@@ -33,7 +32,6 @@ use Rattle.proc_numbers.proofs.NumberNames.{descriptor_at_is}
 use Rattle.proc_numbers.proofs.WithLocks.{close_is, have_locked}
 use Rattle.proc_table.specs.Table.{TableView}
 use Rattle.proc_files.specs.Closing.{ClosesHolding}
-use Rattle.proc_files.specs.Holding.{HoldFiles}
 use Rattle.proc_files.specs.Holders.{holders}
 use Rattle.proc_files.specs.NameHolding.{HoldNames, HoldSomeNames}
 use Rattle.proc_files.proofs.Closings.{Goes}
