@@ -100,7 +100,7 @@ leaves_others old new is same procs pipes socks size = record {
 
 -- The objects with that heap and that tree.
 abbrev pub mid_of : Objects → Heap → TreeView → Objects
-mid_of old heap fs = record { heap = heap; procs = old.procs; tree = fs; names = old.names; fifos = old.fifos }
+mid_of old heap fs = record { heap = heap; procs = old.procs; tree = fs; names = old.names; fifos = old.fifos; locks = old.locks }
 
 -- The store goes on where processes, pipes, sockets and the table of names are what they were.
 moves_on : (script : Script) (old : Objects) (heap : Heap) (fs : TreeView) → LeavesOthers old.heap heap → AreKept script old → KeepsTree heap fs → IsKept heap old.procs → FileMoves old (mid_of old heap fs)

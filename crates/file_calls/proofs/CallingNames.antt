@@ -145,7 +145,7 @@ module _ (script : Script) (old mid : Objects) (pid : ℕ) (control : Control) (
 
 -- the objects with that heap, that tree, and these names
 abbrev pub mid_of : Objects → Heap → TreeView → List (Option ℕ) → Objects
-mid_of old heap fs names = record { heap = heap; procs = old.procs; tree = fs; names = names; fifos = old.fifos }
+mid_of old heap fs names = record { heap = heap; procs = old.procs; tree = fs; names = names; fifos = old.fifos; locks = old.locks }
 
 -- Whatever files they hold, the call is answered so, and they hold those that it leads to, where what is new has numbers.
 abbrev pub AnswersSo : Objects → Heap → TreeView → List (Option ℕ) → Script → ℕ → (Plain → Answer) → Reply → Type 0

@@ -110,7 +110,7 @@ socks_in h chunks socks high = record h { chunks = chunks; socks = socks; high =
 
 -- the objects with that heap, and another table of names
 abbrev pub freed_as : Objects → Heap → List (Option ℕ) → Objects
-freed_as objects heap names = record { heap = heap; procs = objects.procs; tree = objects.tree; names = names; fifos = objects.fifos }
+freed_as objects heap names = record { heap = heap; procs = objects.procs; tree = objects.tree; names = names; fifos = objects.fifos; locks = objects.locks }
 
 kept_so : (script : Script) (old : Objects) (chunks : List (Option Chunk)) (socks : List (Option Sock)) (high : ℕ) (names : List (Option ℕ)) → AreKept script old
     → HasItsOwners (socks_in old.heap chunks socks high) [] → AreBound (name_of socks) names → length names ≡ length old.names

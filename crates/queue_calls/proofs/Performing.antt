@@ -59,7 +59,7 @@ module _ (script : Script) (objects : Objects) (heap : Heap) (pid : ℕ) (contro
     (names : (key : ℕ) → name_of heap.socks key ≡ name_of objects.heap.socks key) where
   -- the objects mid
   abbrev pub mid : Objects
-  mid = record { heap = heap; procs = objects.procs; tree = objects.tree; names = objects.names; fifos = objects.fifos }
+  mid = record { heap = heap; procs = objects.procs; tree = objects.tree; names = objects.names; fifos = objects.fifos; locks = objects.locks }
 
   moves : OpenMoves objects mid
   moves = moves_opened objects mid pid kept.holds refl refl refl refl kept.chain (alive_who_runs objects pid control runs) changes listed owners names

@@ -93,7 +93,7 @@ leaves_more old new beside links = record {
 
 module _ (script : Script) (old : Objects) (new : Heap) (is : IsKept new old.procs) (rest : LeavesRest old.heap new) (names : (key : ℕ) → name_of new.socks key ≡ name_of old.heap.socks key) where
   abbrev pub mid : Objects
-  mid = record { heap = new; procs = old.procs; tree = old.tree; names = old.names; fifos = old.fifos }
+  mid = record { heap = new; procs = old.procs; tree = old.tree; names = old.names; fifos = old.fifos; locks = old.locks }
 
   caches : CachesStay old.heap new
   caches = record { vnodes = rest.vnodes; names = rest.names; blocks = rest.blocks; size = rest.size }

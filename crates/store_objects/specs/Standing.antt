@@ -14,6 +14,7 @@ use Rattle.posix_defs.specs.Family.{IsFamily}
 use Rattle.posix_defs.specs.Memory.{Frames, Memory}
 use Rattle.posix_defs.specs.MemoryCalls.{remembered}
 use Rattle.posix_defs.specs.Files.State.{HalfOpen, with_opening}
+use Rattle.posix_defs.specs.Files.Whole.{AreLocks}
 use Rattle.posix_defs.specs.Plain.{Plain, answered, control_of, last_pid, with_files, with_table}
 use Rattle.posix_defs.specs.Process.{ignores_of, is_alive, with_directory, with_ignores}
 use Rattle.posix_defs.specs.Signals.{with_disposition}
@@ -73,11 +74,12 @@ pub record HasEntered (script : Script) (objects : Objects) (world : World) (dir
   pub family : IsFamily world.plain.table
   pub works : AreDirectories world.plain.files.tree (directories_of world.plain.table)
 
--- What each machine that is reached has, of which calls on files and names make use: descriptions open nodes as they may, and who
--- is bound is bound to a socket's name, but nobody who waits.
+-- What each machine that is reached has, of which calls on files and names make use: descriptions open nodes as they may, who
+-- is bound is bound to a socket's name, but nobody who waits, and locks are of files that their holders have open.
 pub record IsSound (plain : Plain) : Type 0 where
   pub nodes : AreOpenNodes plain.files
   pub names : HaveNames plain.files
+  pub locks : AreLocks plain.files
 
 -- ---- worlds after a step
 
