@@ -32,7 +32,7 @@ use Rattle.kheap_slabs.proofs.PurseLemmas.{need_bytes-more}
 use Rattle.kheap_laws.proofs.OwnerLemmas.{IsOwned-same, empty_heap-owned}
 use Rattle.kheap_laws.proofs.TableLemmas.{OwnsItsObjects-along}
 use Rattle.lock_table.specs.Chain.{HoldsLocks}
-use Rattle.lock_table.specs.Reordered.{empty}
+use Rattle.lock_table.proofs.Reordering.{same_list}
 use Rattle.posix_defs.specs.Control.{settled}
 use Rattle.posix_defs.specs.History.{boots}
 use Rattle.posix_defs.specs.Memory.{boot_frames}
@@ -104,7 +104,7 @@ none_begins : (limit : ℕ) → HoldsLocks (replicate limit None) None []
 none_begins limit = record {
   held = [];
   chain = record { keys = []; chained = refl; are = no_keys limit };
-  same = empty;
+  same = same_list [];
   canonical = λ pid node. tt;
 }
 
