@@ -35,6 +35,8 @@ pub mod Keeping
 pub mod Texting
 pub mod LockLists
 pub mod Locking
+pub mod LockLess
+pub mod Chains
 pub mod Wholeness
 pub mod Waiting
 pub mod Histories
