@@ -6,9 +6,9 @@ ghost use Rattle.file_calls.specs.Bytes.{ReadsCached};
 ghost use Rattle.kabi_types.specs.Arguments.{argument_fault};
 ghost use Rattle.kabi_types.specs.declared.calls.Call.{Call};
 ghost use Rattle.kabi_types.specs.declared.replies.Reply.TheVariants.{Val};
-ghost use Rattle.kabi_types.specs.declared.scripts.Script.{Script};
 ghost use Rattle.kheap_slabs.specs.Heap.{live_bytes};
 ghost use Rattle.kheap_slabs.specs.Paid.{TakesNothing};
+ghost use Rattle.lock_calls.specs.Waiting.{AreKnown};
 ghost use Rattle.posix_defs.specs.Machine.{answer_to, blocks, machine};
 ghost use Rattle.posix_defs.specs.Needs.{bound, need_of, slack};
 ghost use Rattle.posix_defs.specs.Process.{is_alive};
@@ -265,9 +265,11 @@ pub fn would_block(
     pid: u32,
     wait: Option<Awaited>,
 ) -> bool
-    requires { (script : Script) × (world : World) × StandsFor script objects.now world × (is_alive world.plain.table pid ≡ true) }
-    ensures { (script : Script) (world : World) → StandsFor script objects.now world
-        → (call : Call) → wait ≡ wait_of call → result ≡ blocks (machine script world.plain pid call) }
+    requires stands { (world : World) × StandsFor script.now objects.now world × (is_alive world.plain.table pid ≡ true) }
+    requires known { AreKnown script.now objects.now waits.old }
+    ensures known { AreKnown script.now objects.now waits.new }
+    ensures blocks { (world : World) → StandsFor script.now objects.now world → IsSound world.plain
+        → (call : Call) → wait ≡ wait_of call → result ≡ blocks (machine script.now world.plain pid call) }
 {
     let Some(wait) = wait else {
         return false;

@@ -6,6 +6,7 @@ ghost use Rattle.std.specs.List.{AllByRecursion};
 ghost use Rattle.arrayvec.specs.ArrayVec.{array_vec_len};
 ghost use Rattle.kabi_types.specs.declared.calls.Call.{Call as CallOf};
 ghost use Rattle.kabi_types.specs.declared.scripts.Script.{Script};
+ghost use Rattle.lock_calls.specs.Waiting.{AreKnown};
 ghost use Rattle.machine_laws.specs.Reached.{IsReached};
 ghost use Rattle.posix_defs.specs.Machine.{would_block};
 ghost use Rattle.posix_defs.specs.Minding.{HasNamed};
@@ -146,6 +147,7 @@ fn wakes_nobody(call: &Call, no_fifo: bool) -> bool
             | Call::Poll { .. }
             | Call::Signal { .. }
             | Call::Mkfifo { .. }
+            | Call::Getlk { .. }
     )
 }
 
@@ -207,8 +209,10 @@ fn is_sleep(turned: &Turned) -> bool
 /// Whether a live process's next call wouldn't block now. It stands by itself, since it is large and asked at several places.
 #[inline(never)]
 pub fn goes_on(script: &Script, objects: &Objects, waits: &mut Option<Waits>, pid: u32) -> bool
-    requires { (world : World) × StandsFor script.now objects.now world × (is_alive world.plain.table pid ≡ true) }
-    ensures { (world : World) → StandsFor script.now objects.now world → is_alive world.plain.table pid ≡ true
+    requires stands { (world : World) × StandsFor script.now objects.now world × (is_alive world.plain.table pid ≡ true) }
+    requires known { AreKnown script.now objects.now waits.old }
+    ensures known { AreKnown script.now objects.now waits.new }
+    ensures goes { (world : World) → StandsFor script.now objects.now world → IsReached script.now world.plain → is_alive world.plain.table pid ≡ true
         → result ≡ not (would_block script.now world.plain pid) }
 {
     let wait = waits_for(script, objects, pid);
@@ -279,8 +283,10 @@ fn ask(
 )
     requires alive { (world : World) × StandsFor script.now objects.now world × (is_alive world.plain.table sleeper.old.pid ≡ true) }
     requires room { array_vec_len stirred.old < 128 }
+    requires known { AreKnown script.now objects.now waits.old }
+    ensures known { AreKnown script.now objects.now waits.new }
     ensures same { sleeper.new ≡ record sleeper.old { blocks = sleeper.new.blocks } }
-    ensures blocks { (world : World) → StandsFor script.now objects.now world → is_alive world.plain.table sleeper.old.pid ≡ true
+    ensures blocks { (world : World) → StandsFor script.now objects.now world → IsReached script.now world.plain → is_alive world.plain.table sleeper.old.pid ≡ true
         → would_block script.now world.plain sleeper.old.pid ≡ sleeper.new.blocks }
     ensures named { NamesOne stirred.old.items sleeper.old sleeper.new stirred.new.items }
     ensures room { array_vec_len stirred.new ≤ array_vec_len stirred.old + 1 }
@@ -320,6 +326,8 @@ fn look_at(
     requires within { place < array_vec_len told.old }
     requires rising { AreRising 0 told.old.items }
     requires room { array_vec_len stirred.old < 128 }
+    requires known { AreKnown script.now objects.now waits.old }
+    ensures known { AreKnown script.now objects.now waits.new }
     ensures looked { IsLookedAt script.now objects.now told.old.items place told.new.items }
     ensures named { NamesMore told.old.items stirred.old.items told.new.items stirred.new.items }
     ensures room { array_vec_len stirred.new ≤ array_vec_len stirred.old + 1 }
@@ -575,7 +583,7 @@ impl Sleepers {
     fn ask_all(&mut self, script: &Script, objects: &Objects)
         requires stands { (world : World) × StandsFor script.now objects.now world }
         requires room { length self.old.stirred ≤ 1 }
-        ensures minded { (world : World) → StandsFor script.now objects.now world → AreMinded script.now world.plain self.new.told self.new.channels }
+        ensures minded { (world : World) → StandsFor script.now objects.now world → IsReached script.now world.plain → AreMinded script.now world.plain self.new.told self.new.channels }
         ensures fewer { AreFewer self.old.told self.new.told }
         ensures named { NamesMore self.old.told self.old.stirred self.new.told self.new.stirred }
         ensures room { length self.new.stirred ≤ 65 }
@@ -622,6 +630,7 @@ impl Sleepers {
         requires behind { (old new : World) × (call : CallOf) × (told : TurnedOf) × IsBehind script.now objects.now old new pid call told self.old.told self.old.channels
             × (stirs_of false call (came_of told) ≡ Through fd) }
         requires up { told_of self.old.told pid ≡ None }
+        requires free { objects.now.locks ≡ None }
         requires room { length self.old.stirred ≤ 1 }
         ensures minded { (old new : World) (call : CallOf) (told : TurnedOf) → IsBehind script.now objects.now old new pid call told self.old.told self.old.channels
             → stirs_of false call (came_of told) ≡ Through fd → AreMinded script.now new.plain self.new.told self.new.channels }
@@ -734,8 +743,10 @@ impl Sleepers {
 
     /// A process's call was refused: it sleeps no more. Where a lock is held it may close a circle with the call at which it stands now.
     pub fn refused(&mut self, script: &Script, objects: &Objects, pid: u32)
-        ensures minded { (script : Script) (world : World) → IsReached script world.plain → AreMinded script world.plain self.old.told self.old.channels
-            → AreMinded script (refused_in script world pid).plain self.new.told self.new.channels }
+        requires { (world : World) × StandsFor script.now objects.now world }
+        ensures minded { (world : World) → IsReached script.now world.plain → AreMinded script.now world.plain self.old.told self.old.channels
+            → StandsFor script.now objects.now (refused_in script.now world pid) → IsReached script.now (refused_in script.now world pid).plain
+            → AreMinded script.now (refused_in script.now world pid).plain self.new.told self.new.channels }
         ensures named { HasNamed (is_settled self.old.told) (is_settled self.new.told) self.new.stirred }
     {
         self.stirred.clear();
@@ -748,7 +759,7 @@ impl Sleepers {
     /// A process was killed.
     pub fn killed(&mut self, script: &Script, objects: &Objects)
         requires { (world : World) × StandsFor script.now objects.now world }
-        ensures minded { (world : World) → StandsFor script.now objects.now world → AreMinded script.now world.plain self.new.told self.new.channels }
+        ensures minded { (world : World) → StandsFor script.now objects.now world → IsReached script.now world.plain → AreMinded script.now world.plain self.new.told self.new.channels }
         ensures named { HasNamed (is_settled self.old.told) (is_settled self.new.told) self.new.stirred }
     {
         self.stirred.clear();

@@ -1,15 +1,27 @@
 //! Which lock is in the way: `getlk`.
 
+ghost use Rattle.std.specs.Prelude.{◌≡◌, None, Option};
+ghost use Rattle.std.specs.Option.{option_map};
+ghost use Rattle.kabi_types.specs.Arguments.{argument_fault};
+ghost use Rattle.kabi_types.specs.declared.calls.Call.{Call};
+ghost use Rattle.kheap_slabs.specs.Paid.{TakesNothing};
+ghost use Rattle.lock_table.specs.Holding.{info_of};
+ghost use Rattle.posix_defs.specs.Calls.OnLocks.{getlk, lock_told};
+ghost use Rattle.posix_defs.specs.Locks.{Lock};
+ghost use Rattle.posix_defs.specs.World.{World};
+ghost use Rattle.proc_numbers.specs.Found.{IsOpened};
+ghost use Rattle.proc_table.specs.Table.{IsPlaced};
+ghost use Rattle.store_objects.specs.Objects.{AreKept, Runs};
+ghost use Rattle.store_objects.specs.Standing.{IsSound, StandsFor};
+ghost use Rattle.store_objects.specs.Walking.{Serves};
+
 use crate::claiming::file_of;
-use crate::requests::range_of;
+use crate::requests::{F_UNLCK, range_of};
 use kabi_types::{Reply, Script};
 use lock_table::LockInfo;
 use posix_defs::Turned;
 use proc_numbers::Named;
 use store_objects::{Caller, Objects, go_on};
-
-/// What is told where no lock is in the way.
-const F_UNLCK: u32 = 2;
 
 /// Tells of another process's lock that is in the way of places of the file that a number is open on whose it is and its kind: of
 /// the one of least start, and of these of the one of the lowest pid. It tells 0 and F_UNLCK where there is none.
@@ -26,9 +38,26 @@ pub fn getlk(
     kind: i64,
     start: i64,
     length: i64,
-) -> Turned {
+) -> Turned
+    requires stands { (world : World) × StandsFor script.now objects.old world × IsSound world.plain }
+    requires runs { Runs objects.old caller.now.place.pid caller.now.control }
+    requires placed { IsPlaced objects.old.procs caller.now.place }
+    requires opened { IsOpened objects.old.heap objects.old.procs caller.now.place.pid on.now }
+    requires right { argument_fault (Call.Getlk on.now.fd kind start length) ≡ None }
+    ensures kept { AreKept script.now objects.new }
+    ensures takes { TakesNothing objects.old.heap objects.new.heap }
+    ensures does { Serves script.now objects.old caller.now.place.pid (Call.Getlk on.now.fd kind start length) (λ plain. getlk script.now plain caller.now.place.pid on.now.fd kind start length) result objects.new }
+{
+    objects.heap_is_well_formed();
     let range = range_of(kind, start, length);
-    let reply = match file_of(objects, on) {
+    let file = file_of(
+        &objects.heap,
+        &objects.procs,
+        &mut objects.tree,
+        caller.place,
+        on,
+    );
+    let reply = match file {
         Ok(node) => told(objects.locks.conflict(
             &objects.heap,
             node,
@@ -41,7 +70,9 @@ pub fn getlk(
 }
 
 /// Whose a lock is, and its kind.
-fn told(lock: Option<LockInfo>) -> Reply {
+fn told(lock: Option<LockInfo>) -> Reply
+    ensures { (first : Option Lock) → lock ≡ option_map info_of first → result ≡ lock_told first }
+{
     match lock {
         Some(lock) => Reply::Pair(lock.pid, lock.kind),
         None => Reply::Pair(0, F_UNLCK),

@@ -1,5 +1,18 @@
 //! Whether a `setlkw` would sleep.
 
+ghost use Rattle.std.specs.Prelude.{◌≡◌, not};
+ghost use Rattle.kabi_types.specs.declared.calls.Call.{Call};
+ghost use Rattle.lock_table.specs.Chain.{HoldsLocks, IsLockTable};
+ghost use Rattle.lock_table.specs.Holding.{asked_by};
+ghost use Rattle.posix_defs.specs.Calls.OnLocks.{circles, is_clear};
+ghost use Rattle.posix_defs.specs.Locks.{Locks};
+ghost use Rattle.posix_defs.specs.Machine.{blocks, machine};
+ghost use Rattle.posix_defs.specs.World.{World};
+ghost use Rattle.proc_table.specs.Table.{IsPlaced};
+ghost use Rattle.store_objects.specs.Objects.{AreKept};
+ghost use Rattle.store_objects.specs.Standing.{IsSound, StandsFor};
+ghost use Rattle.lock_calls.specs.Waiting.{AreKnown};
+
 use crate::waits::{Waits, Wanted, wanted};
 use kabi_types::Script;
 use proc_table::Place;
@@ -17,17 +30,28 @@ pub fn lock_would_block(
     kind: i64,
     start: i64,
     length: i64,
-) -> bool {
+) -> bool
+    requires kept { AreKept script.now objects.now }
+    requires there { IsPlaced objects.now.procs place }
+    requires known { AreKnown script.now objects.now waits.old }
+    ensures known { AreKnown script.now objects.now waits.new }
+    ensures blocks { (world : World) → StandsFor script.now objects.now world → IsSound world.plain
+        → result ≡ blocks (machine script.now world.plain place.pid (Call.Setlkw fd kind start length)) }
+{
     match wanted(objects, place, fd, kind, start, length) {
         Some(wanted) => {
-            is_stopped(objects, place, &wanted) && !circles(script, objects, waits, place.pid)
+            is_stopped(objects, place, &wanted) && !circles(script, objects, waits, place)
         }
         None => false,
     }
 }
 
 /// Whether a lock of another process is in the way.
-fn is_stopped(objects: &Objects, place: Place, wanted: &Wanted) -> bool {
+fn is_stopped(objects: &Objects, place: Place, wanted: &Wanted) -> bool
+    requires { IsLockTable objects.now.heap.locks objects.now.locks }
+    ensures { (locks : Locks) → HoldsLocks objects.now.heap.locks objects.now.locks locks
+        → result ≡ not (is_clear locks place.pid wanted.now.node (asked_by wanted.now.range)) }
+{
     let first = objects
         .locks
         .conflict(&objects.heap, wanted.node, place.pid, &wanted.range);
@@ -35,11 +59,17 @@ fn is_stopped(objects: &Objects, place: Place, wanted: &Wanted) -> bool {
 }
 
 /// Whether a chain of waits leads from a process back to itself.
-fn circles(script: &Script, objects: &Objects, waits: &mut Option<Waits>, pid: u32) -> bool {
+fn circles(script: &Script, objects: &Objects, waits: &mut Option<Waits>, place: Place) -> bool
+    requires kept { AreKept script.now objects.now }
+    requires there { IsPlaced objects.now.procs place }
+    requires known { AreKnown script.now objects.now waits.old }
+    ensures known { AreKnown script.now objects.now waits.new }
+    ensures circles { (world : World) → StandsFor script.now objects.now world → IsSound world.plain → result ≡ circles script.now world.plain place.pid }
+{
     let known = match waits {
         Some(known) => *known,
         None => Waits::of(script, objects),
     };
     *waits = Some(known);
-    known.circle(objects, pid)
+    known.circle(objects, place.pid)
 }

@@ -1,5 +1,22 @@
 //! Who waits for whom.
 
+ghost use Rattle.std.specs.Prelude.{◌≡◌, ◌<◌, ◌≤◌, ◌×◌, ℕ, IsSome, None, Some, false, length, true};
+ghost use Rattle.std.specs.Int.{bit_at};
+ghost use Rattle.kabi_types.specs.declared.calls.Call.{Call};
+ghost use Rattle.kabi_types.specs.declared.scripts.Script.{Script as ScriptOf};
+ghost use Rattle.lock_table.specs.Chain.{HoldsLocks, IsLockTable};
+ghost use Rattle.lock_table.specs.Holding.{asked_by};
+ghost use Rattle.posix_defs.specs.Calls.OnLocks.{circles, wanted_by};
+ghost use Rattle.posix_defs.specs.Locks.{Locks, stops};
+ghost use Rattle.posix_defs.specs.Plain.{call_of};
+ghost use Rattle.posix_defs.specs.Process.{is_alive};
+ghost use Rattle.posix_defs.specs.World.{World};
+ghost use Rattle.proc_table.specs.Table.{IsPlaced, key_of};
+ghost use Rattle.store_objects.specs.Objects.{AreKept};
+ghost use Rattle.store_objects.specs.Standing.{IsSound, StandsFor};
+ghost use Rattle.lock_calls.specs.Claiming.{all_wanted};
+ghost use Rattle.lock_calls.specs.Waiting.{AreRows, IsRowOf, bit_if, pid_at, stops_at};
+
 use crate::claiming::{may_hold, node_of};
 use crate::requests::right_range;
 use kabi_types::Script;
@@ -29,7 +46,11 @@ pub struct Waits {
 
 impl Waits {
     /// Who waits for whom now.
-    pub fn of(script: &Script, objects: &Objects) -> Waits {
+    pub fn of(script: &Script, objects: &Objects) -> Waits
+        requires { AreKept script.now objects.now }
+        ensures { AreRows script.now objects.now result.rows }
+    {
+        objects.heap_is_well_formed();
         let mut rows = [0; MOST];
         let mut at = 0;
         for place in objects.procs.listed() {
@@ -40,12 +61,17 @@ impl Waits {
     }
 
     /// Whether a chain of waits leads from a process back to itself.
-    pub fn circle(&self, objects: &Objects, pid: u32) -> bool {
+    pub fn circle(&self, objects: &Objects, pid: u32) -> bool
+        requires { IsSome (key_of objects.now.procs.listed pid) }
+        ensures { (script : ScriptOf) (world : World) → AreRows script objects.now self.now.rows → StandsFor script objects.now world → IsSound world.plain
+            → result ≡ circles script world.plain pid }
+    {
         circle(&self.rows, place_of(objects.procs.listed(), pid))
     }
 }
 
-/// For which places of a file a number asks, with these operands of a `setlkw`; None where it would be refused before it waits.
+/// For which places of a file a number asks, with these operands of a `setlkw`; None where it would be refused before it waits. Whether
+/// the node is a directory isn't looked at, of which nobody holds places.
 pub(crate) fn wanted(
     objects: &Objects,
     place: Place,
@@ -53,7 +79,12 @@ pub(crate) fn wanted(
     kind: i64,
     start: i64,
     length: i64,
-) -> Option<Wanted> {
+) -> Option<Wanted>
+    requires kept { (script : ScriptOf) × AreKept script objects.now }
+    requires there { IsPlaced objects.now.procs place }
+    ensures { (script : ScriptOf) (world : World) → StandsFor script objects.now world
+        → all_wanted world.plain.files.tree result ≡ wanted_by world.plain.files place.pid (Call.Setlkw fd kind start length) }
+{
     let range = right_range(fd, kind, start, length)?;
     let found = opened(&objects.heap, &objects.procs, place, fd).found?;
     let node = node_of(found.desc.target)?;
@@ -65,7 +96,13 @@ pub(crate) fn wanted(
 }
 
 /// For which places a process that is there would wait with its next call, if it stands at such a call.
-fn wanted_by(script: &Script, objects: &Objects, place: Place) -> Option<Wanted> {
+fn wanted_by(script: &Script, objects: &Objects, place: Place) -> Option<Wanted>
+    requires kept { AreKept script.now objects.now }
+    requires there { IsPlaced objects.now.procs place }
+    ensures asks { (world : World) → StandsFor script.now objects.now world → is_alive world.plain.table place.pid ≡ true
+        → all_wanted world.plain.files.tree result ≡ wanted_by world.plain.files place.pid (call_of script.now world.plain place.pid) }
+    ensures ended { (world : World) → StandsFor script.now objects.now world → is_alive world.plain.table place.pid ≡ false → result ≡ None }
+{
     let proc = objects.procs.at(&objects.heap, place);
     if proc.status.is_some() {
         return None;
@@ -83,7 +120,11 @@ fn wanted_by(script: &Script, objects: &Objects, place: Place) -> Option<Wanted>
 }
 
 /// Those that hold what is in the way of a process, as bits.
-fn row_of(script: &Script, objects: &Objects, place: Place) -> u64 {
+fn row_of(script: &Script, objects: &Objects, place: Place) -> u64
+    requires kept { AreKept script.now objects.now }
+    requires there { IsPlaced objects.now.procs place }
+    ensures { IsRowOf script.now objects.now place.pid result }
+{
     match wanted_by(script, objects, place) {
         Some(wanted) => holders_of(objects, place.pid, &wanted),
         None => 0,
@@ -91,27 +132,40 @@ fn row_of(script: &Script, objects: &Objects, place: Place) -> u64 {
 }
 
 /// Those that hold what is in the way of what a process wants, as bits.
-fn holders_of(objects: &Objects, pid: u32, wanted: &Wanted) -> u64 {
+fn holders_of(objects: &Objects, pid: u32, wanted: &Wanted) -> u64
+    requires { IsLockTable objects.now.heap.locks objects.now.locks }
+    ensures { (locks : Locks) → HoldsLocks objects.now.heap.locks objects.now.locks locks → (at : ℕ)
+        → bit_at result at ≡ bit_if (stops_at locks pid wanted.now (pid_at objects.now.procs.listed at)) }
+{
     let mut holders = 0;
-    let mut bit = 1;
+    let mut at = 0;
     for other in objects.procs.listed() {
         if stops(objects, pid, wanted, other.pid) {
-            holders |= bit;
+            holders |= 1 << at;
         }
-        bit <<= 1;
+        at += 1;
     }
     holders
 }
 
 /// Whether another process holds what is in the way.
-fn stops(objects: &Objects, pid: u32, wanted: &Wanted, other: u32) -> bool {
+fn stops(objects: &Objects, pid: u32, wanted: &Wanted, other: u32) -> bool
+    requires { IsLockTable objects.now.heap.locks objects.now.locks }
+    ensures { (locks : Locks) → HoldsLocks objects.now.heap.locks objects.now.locks locks
+        → result ≡ stops locks pid wanted.now.node (asked_by wanted.now.range) other }
+{
     objects
         .locks
         .stops(&objects.heap, wanted.node, pid, &wanted.range, other)
 }
 
-/// The place of a process that is there among all, which stand by rising pid.
-fn place_of(listed: &[Place], pid: u32) -> u32 {
+/// The place of a process that is there among all.
+fn place_of(listed: &[Place], pid: u32) -> u32
+    requires few { length listed.now ≤ 64 }
+    requires there { IsSome (key_of listed.now pid) }
+    ensures place { pid_at listed.now result ≡ Some pid }
+    ensures within { result < 64 }
+{
     let mut at = 0;
     for place in listed {
         if place.pid == pid {
@@ -119,5 +173,5 @@ fn place_of(listed: &[Place], pid: u32) -> u32 {
         }
         at += 1;
     }
-    0
+    unreachable!()
 }

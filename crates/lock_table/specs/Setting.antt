@@ -1,12 +1,9 @@
 -- How places are let go and held, one lock after the other, in whatever order they stand.
 use Rattle.std.specs.Prelude.{ℕ, nat_lt, min, max, Bool, ◌&&◌, if◌then◌else◌, List, [], ◌∷◌, Option, None, Some}
-use Rattle.kheap_slabs.specs.Objects.{put, without}
-use Rattle.kheap_slabs.specs.declared.objects.Lock.{Lock as HeldLock}
 use Rattle.lock_ranges.specs.Ranges.{beyond, until}
 use Rattle.lock_ranges.specs.Widening.{reaches}
 use Rattle.lock_ranges.specs.declared.range.Range.{Range}
 use Rattle.posix_defs.specs.Locks.{Lock, Locks, is_of, lock_of}
-use Rattle.lock_table.specs.Chain.{held_of, plain_of}
 
 -- ---- the places that are to be held, with those that they reach
 
@@ -70,15 +67,3 @@ abbrev pub held_wide : ℕ → ℕ → Range → Locks → Locks
 held_wide pid node asked locks =
     let wide = widened pid node asked asked locks in
     lock_of pid node wide ∷ let_go pid node wide.start wide.last locks
-
--- ---- in the heap
-
--- a lock stays with a range, before the first of those that stayed, or is freed
-abbrev pub chained_again : List (Option HeldLock) → ℕ → HeldLock → Option ℕ → Option Range → List (Option HeldLock)
-chained_again objects key lock first None = without objects key
-chained_again objects key lock first (Some range) = put objects key (record lock { range = range; next = first })
-
--- the first of those that stayed
-abbrev pub first_again : ℕ → Option ℕ → Option Range → Option ℕ
-first_again key first None = first
-first_again key first (Some range) = Some key

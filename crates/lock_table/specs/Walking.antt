@@ -2,7 +2,7 @@
 use Rattle.std.specs.Prelude.{◌≡◌, ℕ, zero, suc, ◌≤◌, List, [], ◌++◌, Option, None, Some, length}
 use Rattle.kheap_slabs.specs.Heap.{Heap}
 use Rattle.kheap_slabs.specs.Keys.{AreKeysOf}
-use Rattle.kheap_slabs.specs.Objects.{object, count}
+use Rattle.kheap_slabs.specs.Objects.{object, count, put, without}
 use Rattle.kheap_slabs.specs.Paid.{TakesNothing}
 use Rattle.kheap_slabs.specs.declared.objects.Lock.{Lock as HeldLock}
 use Rattle.lock_ranges.specs.declared.range.Range.{Range}
@@ -44,3 +44,15 @@ pub record Cuts (old new : Heap) (first at : Option ℕ) (over_now : Option Rang
   pub over_is : over pid node start last over_now rest ≡ over pid node start last None locks
   pub kept : new ≡ record old { locks = new.locks }
   pub takes : TakesNothing old new
+
+-- ---- one lock of the chain
+
+-- a lock stays with a range, before the first of those that stayed, or is freed
+abbrev pub chained_again : List (Option HeldLock) → ℕ → HeldLock → Option ℕ → Option Range → List (Option HeldLock)
+chained_again objects key lock first None = without objects key
+chained_again objects key lock first (Some range) = put objects key (record lock { range = range; next = first })
+
+-- the first of those that stayed
+abbrev pub first_again : ℕ → Option ℕ → Option Range → Option ℕ
+first_again key first None = first
+first_again key first (Some range) = Some key

@@ -1,4 +1,4 @@
-ghost use Rattle.std.specs.Prelude.{◌≡◌, ◌+◌, ◌≤◌, ◌<◌, ◌×◌, ◌∷◌, [], List, Option, None, Some, is_none};
+ghost use Rattle.std.specs.Prelude.{◌≡◌, ◌+◌, ◌≤◌, ◌<◌, ◌∷◌, [], List, Option, None, Some, is_none};
 ghost use Rattle.std.specs.Option.{option_map};
 ghost use Rattle.kabi_types.specs.Counts.{with_count};
 ghost use Rattle.kabi_types.specs.declared.classes.Class.TheVariants as class;
@@ -8,7 +8,8 @@ ghost use Rattle.lock_ranges.specs.Ranges.{greatest};
 ghost use Rattle.posix_defs.specs.Locks.{Lock as PlainLock, Locks, Request, after_set, first_in_way, is_in_way, lock_of, stops, without};
 ghost use Rattle.lock_table.specs.Chain.{HasLocks, HoldsLocks, IsLockChain, IsLockTable, plain_of};
 ghost use Rattle.lock_table.specs.Holding.{IsAsked, asked_by, earliest, info_of};
-ghost use Rattle.lock_table.specs.Setting.{chained_again, cut, first_again, held_wide, let_go, over, widened};
+ghost use Rattle.lock_table.specs.Setting.{cut, held_wide, let_go, over, widened};
+ghost use Rattle.lock_table.specs.Walking.{chained_again, first_again};
 
 use crate::locks::{LockInfo, LockRange, earlier, is_in_way, kept_by, over_by, told, widened_by};
 use kabi_types::Class;

@@ -85,6 +85,7 @@ unfolding ended
 kept_closed tree = record {
   shut = λ files pid fd who kept. record { rooted = kept.rooted; pipes = kept.pipes; joined = kept.joined; piped = kept.piped; directories = kept.directories };
   wakes = λ files pid who kept. record { rooted = kept.rooted; pipes = kept.pipes; joined = kept.joined; piped = kept.piped; directories = kept.directories };
+  unlocks = λ files locks kept. record { rooted = kept.rooted; pipes = kept.pipes; joined = kept.joined; piped = kept.piped; directories = kept.directories };
   gone = λ files place description kept is none. gone files place description kept is none description.target refl;
 }
   where

@@ -1,5 +1,5 @@
 -- Locks are beside all else in the heap: whichever there are, it stands for the same; and which of them go with a number.
-use Rattle.std.proofs.Common.{◌≡◌, ℕ, true, List, [], ◌∷◌, Option, None, Some, is_none, refl, ap, sym, ◌∙◌, subst}
+use Rattle.std.proofs.Common.{◌≡◌, ℕ, true, List, [], ◌∷◌, length, Option, None, Some, is_none, refl, ap, sym, ◌∙◌, subst}
 use Rattle.std.specs.Option.{option_map}
 use Rattle.fifo_nodes.proofs.ChainLemmas.{chain_kept}
 use Rattle.fifo_nodes.specs.Chain.{IsChain}
@@ -12,7 +12,7 @@ use Rattle.kheap_slabs.specs.declared.objects.Target.{Target as HeldTarget}
 use Rattle.kheap_slabs.specs.declared.objects.Target.TheVariants as target
 use Rattle.kheap_slabs.specs.Heap.{Heap}
 use Rattle.lock_table.specs.Chain.{Chained, HoldsLocks}
-use Rattle.lock_table.specs.Reordered.{IsReordered}
+use Rattle.lock_table.proofs.Reordering.{as_long}
 use Rattle.memfs_ops.specs.FileTree.{TreeView}
 use Rattle.open_laws.specs.Described.{inode_in, target_in}
 use Rattle.open_laws.specs.Open.{descriptor_by}
@@ -21,7 +21,6 @@ use Rattle.open_laws.specs.Placed.{Numbers}
 use Rattle.open_laws.proofs.GoingLemmas.{held_open_on, named_on, open_on}
 use Rattle.pipe_ends.proofs.LinkLemmas.{links_same}
 use Rattle.posix_defs.specs.Files.Closing.{after_close}
-use Rattle.posix_defs.specs.Files.Descriptors.{Descriptor}
 use Rattle.posix_defs.specs.Files.Descriptions.{Description}
 use Rattle.posix_defs.specs.Files.State.{Files, file_of_target, let_go, opened_file, with_locks}
 use Rattle.posix_defs.specs.Locks.{Locks}
@@ -35,7 +34,6 @@ use Rattle.proc_numbers.proofs.NumberNames.{descriptor_at_is}
 use Rattle.proc_numbers.proofs.WithLocks.{close_is, have_locked}
 use Rattle.proc_table.specs.Table.{TableView}
 use Rattle.proc_files.specs.Closing.{ClosesHolding}
-use Rattle.proc_files.specs.Holding.{HoldFiles}
 use Rattle.proc_files.specs.Holders.{holders}
 use Rattle.proc_files.specs.NameHolding.{HoldNames, HoldSomeNames}
 use Rattle.proc_files.proofs.Closings.{Goes}
@@ -161,15 +159,13 @@ pub is_empty : (first : Option ℕ) → is_none first ≡ true → first ≡ Non
 is_empty None none = refl
 is_empty (Some key) none = absurd (cc)
 
--- none in another order are none
-none_reordered : {X : Type 0} (xs ys : List X) → IsReordered xs ys → xs ≡ [] → ys ≡ []
-none_reordered _ _ none is = refl
-none_reordered _ _ (behind x xs ys same) is = absurd (cc)
-none_reordered _ _ (swapped x y xs) is = absurd (cc)
-none_reordered _ _ (through xs ys zs first second) is = none_reordered ys zs second (none_reordered xs ys first is)
+-- so they are none
+no_more : (held locks : Locks) → length held ≡ length locks → held ≡ [] → locks ≡ []
+no_more held [] same none = refl
+no_more held (lock ∷ locks) same none = absurd (let one : 0 ≡ length (lock ∷ locks) = sym (ap (λ (l : Locks). length l) none) ∙ same in cc)
 
 pub none_held : (shelf : List (Option HeldLock)) (first : Option ℕ) (locks : Locks) → first ≡ None → HoldsLocks shelf first locks → locks ≡ []
-none_held shelf first locks none holds = none_reordered holds.held locks holds.same (by_keys holds.chain.keys holds.held holds.chain.chained)
+none_held shelf first locks none holds = no_more holds.held locks (as_long holds.same) (by_keys holds.chain.keys holds.held holds.chain.chained)
   where
     by_keys : (keys : List ℕ) (held : Locks) → Chained shelf first keys held → held ≡ []
     by_keys [] [] chained = refl

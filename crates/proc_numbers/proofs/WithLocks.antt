@@ -1,5 +1,5 @@
 -- Locks are beside what is open: whichever there are, what is open is the same.
-use Rattle.std.proofs.Common.{◌≡◌, ℕ, List, Option, None, Some, refl}
+use Rattle.std.proofs.Common.{◌≡◌, ℕ, Option, None, Some, refl}
 use Rattle.kheap_slabs.specs.Heap.{Heap}
 use Rattle.open_laws.specs.Placed.{Numbers}
 use Rattle.posix_defs.specs.Files.Closing.{after_close, close_in}

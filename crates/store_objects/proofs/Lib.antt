@@ -17,6 +17,7 @@ pub mod FewPins
 pub mod HoldsFiles
 pub mod PageNamings
 pub mod Families
+pub mod LockedOn
 pub mod Keeping
 pub mod GoingOn
 pub mod RunningProcs

@@ -1,4 +1,4 @@
-use Rattle.std.proofs.Common.{◌≡◌, ◌∙◌, ℕ, List, [], Option, ap, refl, subst, sym}
+use Rattle.std.proofs.Common.{◌≡◌, ◌∙◌, List, [], Option, ap, refl, subst, sym}
 use Rattle.fifo_nodes.specs.Chain.{IsChain}
 use Rattle.kheap_laws.proofs.PaidLemmas.{IsPaid-nothing, IsPaid-trans}
 use Rattle.kheap_slabs.specs.Heap.{Heap}

@@ -1,4 +1,4 @@
-use Rattle.std.proofs.Common.{◌≡◌, ◌∙◌, Option, refl, subst, sym}
+use Rattle.std.proofs.Common.{◌∙◌, subst, sym}
 use Rattle.kheap_laws.proofs.PaidLemmas.{TakesNothing-refl}
 use Rattle.lock_table.specs.Chain.{HoldsLocks}
 use Rattle.posix_defs.specs.Files.State.{let_go}

@@ -1,4 +1,4 @@
-use Rattle.std.proofs.Common.{◌≡◌, ◌∙◌, [], None, Some, true, false, cond, ne_eqb, ap, is_some, refl, pos, subst, sym, w64, arith}
+use Rattle.std.proofs.Common.{◌≡◌, ◌∙◌, List, [], Option, None, Some, true, false, cond, ne_eqb, ap, is_some, refl, pos, subst, sym, w64, arith}
 use Rattle.std.proofs.lemmas.Int.{to_z-of_z}
 use Rattle.kabi_types.specs.Arguments.{count_of, may_be_descriptor}
 use Rattle.kabi_types.specs.declared.replies.Reply.TheVariants.{Val}

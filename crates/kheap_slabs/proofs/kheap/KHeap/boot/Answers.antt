@@ -7,7 +7,7 @@ invariant_of-result c =
     let memory = c.in_ok-memory.ensures in
     let files = c.in_ok-files.ensures in
     let queues = c.in_ok-queues.ensures in
-    rw (memory.procs, memory.nodes, memory.pages, memory.leaves, files.descs, files.vnodes, files.names, files.blocks, queues.pipes, queues.chunks, queues.socks, locks) (IsMetered-boot c.args.heap c.requires.most)
+    rw (memory.procs, memory.nodes, memory.pages, memory.leaves, files.descs, files.vnodes, files.names, files.blocks, queues.pipes, queues.chunks, queues.socks, locks, c.bytes.ensures) (IsMetered-boot c.args.heap c.requires.most)
 
 pub returns-clause-live : goal.returns-clause-live
 returns-clause-live c =
@@ -15,4 +15,4 @@ returns-clause-live c =
     let memory = c.in_ok-memory.ensures in
     let files = c.in_ok-files.ensures in
     let queues = c.in_ok-queues.ensures in
-    rw (memory.procs, memory.nodes, memory.pages, memory.leaves, files.descs, files.vnodes, files.names, files.blocks, queues.pipes, queues.chunks, queues.socks, locks) (none_live c.args.heap)
+    rw (memory.procs, memory.nodes, memory.pages, memory.leaves, files.descs, files.vnodes, files.names, files.blocks, queues.pipes, queues.chunks, queues.socks, locks, c.bytes.ensures) (none_live c.args.heap)
