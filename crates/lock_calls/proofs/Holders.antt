@@ -14,6 +14,7 @@ use Rattle.posix_defs.specs.Files.Descriptors.{Descriptor, Descriptors}
 use Rattle.posix_defs.specs.Files.State.{Files, descriptors_of}
 use Rattle.posix_defs.specs.Files.Whole.{AreLocks, has_open, opens_by}
 use Rattle.posix_defs.specs.Locks.{Lock, Locks, Request, is_in_way, is_of, meets, ranges_of, stops}
+use Rattle.posix_defs.specs.Tree.{is_directory}
 use Rattle.posix_defs.specs.World.{World}
 use Rattle.proc_numbers.specs.Having.{places_in}
 use Rattle.proc_table.specs.Procs.{no_descriptors, numbers_in, proc_of}
@@ -73,9 +74,9 @@ never e f = cc
 
 module _ (files : Files) (are : AreLocks files) (pid by : ℕ) (wanted : WantedHere) where
   pub stopped_so : is_stopped_by files.locks pid by (wanted_in files.tree wanted) ≡ stops files.locks pid wanted.node (asked_by wanted.range) by
-  stopped_so = go (Rattle.posix_defs.specs.Tree.is_directory files.tree wanted.node) refl
+  stopped_so = go (is_directory files.tree wanted.node) refl
     where
-      go : (directory : Bool) → Rattle.posix_defs.specs.Tree.is_directory files.tree wanted.node ≡ directory
+      go : (directory : Bool) → is_directory files.tree wanted.node ≡ directory
           → is_stopped_by files.locks pid by (cond directory None (Some (record { node = wanted.node; asked = asked_by wanted.range }))) ≡ stops files.locks pid wanted.node (asked_by wanted.range) by
       go true is = sym (stops_none files.locks pid wanted.node by (asked_by wanted.range) (λ some. never is (are.files by wanted.node some)))
       go false is = refl
