@@ -107,7 +107,7 @@ module _ (waits : ℕ → ℕ → Bool) where
 
 -- ---- circles
 
-who_is_made : (n pid : ℕ) → 0 < pid → pid ≤ n → among (range_with_len 1 n) pid
+pub who_is_made : (n pid : ℕ) → 0 < pid → pid ≤ n → among (range_with_len 1 n) pid
 who_is_made n zero h below = absurd (omega arith)
 who_is_made n (suc i) h below = (i, subst (λ m. i < m) (sym (length-range_with_len 1 n)) (omega arith), get_or-range_with_len 1 n i (suc i) (omega arith) ∙ next)
   where

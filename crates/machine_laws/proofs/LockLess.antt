@@ -39,13 +39,13 @@ ended_holds_none script plain reached pid number dead = go (ranges_of plain.file
     some : (range : Range) (ranges : List Range) → range ∷ ranges ≡ [] → ⊥
     some range ranges e = cc
 
-    open : OpensFile plain.files pid number → ⊥
-    open opens = let placed : IsPlaced plain = (reached_keeps reached).0 in let places = placed.places in
+    has_none : OpensFile plain.files pid number → ⊥
+    has_none opens = let placed : IsPlaced plain = (reached_keeps reached).0 in let places = placed.places in
         not_some (ap (λ list. descriptor_at list opens.fd) (places.ended pid dead) ∙ none_open_at opens.fd) opens.held
 
     go : (ranges : List Range) → ranges_of plain.files.locks pid number ≡ ranges → ranges ≡ []
     go [] is = refl
-    go (range ∷ ranges) is = absurd (open (let locked = reached_locked script plain reached in locked.open pid number (λ none. some range ranges (sym is ∙ none))))
+    go (range ∷ ranges) is = absurd (has_none (let locked = reached_locked script plain reached in locked.opened pid number (λ none. some range ranges (sym is ∙ none))))
 
 -- ---- nobody holds a lock
 
@@ -123,7 +123,7 @@ module _ (plain : Plain) (pid : ℕ) (call : Call) (next : Files) (none : HasNon
   step_none (step.accepts fd opened place to taken named on free first is) = same _ is refl
   step_none (step.receives fd addr n opened place k which named on moves is) = same _ is refl
   step_none (step.sends fd addr n done opened place k which named on moves is) = same _ is refl
-  step_none (step.locks fd opened number asked sets named target places clear is) = absurd (true_false (is_setting call) sets other)
+  step_none (step.locks fd opened number asked sets named target file places clear is) = absurd (true_false (is_setting call) sets other)
   step_none (step.starts is) = by _ is (exec_none plain.files pid none)
   step_none (step.forks which is) = same _ is refl
   step_none (step.ends_caller over ending is) = by _ is (closed_none plain.files pid none)

@@ -31,7 +31,7 @@ pub fn no_two_processes_hold_a_place_that_they_cant_share()
 /// Who holds places of a file has it open, so who has ended holds none: with each descriptor of a file that a process closes, in whatever
 /// way, its locks of that file go.
 pub fn who_has_ended_holds_no_lock()
-    ensures open { (script : Script) (plain : Plain) → IsReached script plain → (pid number : ℕ) → ranges_of plain.files.locks pid number ≢ []
+    ensures opened { (script : Script) (plain : Plain) → IsReached script plain → (pid number : ℕ) → ranges_of plain.files.locks pid number ≢ []
         → has_open plain.files pid number ≡ true }
     ensures ended { (script : Script) (plain : Plain) → IsReached script plain → (pid number : ℕ) → is_alive plain.table pid ≡ false
         → ranges_of plain.files.locks pid number ≡ [] }
