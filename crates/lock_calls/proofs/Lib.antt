@@ -1,0 +1,4 @@
+pub mod Requests
+pub mod Claims
+pub mod Holders
+pub mod Circles
