@@ -193,7 +193,7 @@ released_keeps files place other named = go (is_named files.descriptors place) r
     go false is = gone is (description_at files.descriptions place)
 
 module _ (files : Files) (pid fd : ℕ) (descriptor : Descriptor) (is : descriptor_at (descriptors_of files pid) fd ≡ Some descriptor) where
-  file : Option ℕ
+  abbrev file : Option ℕ
   file = opened_file (description_at files.descriptions descriptor.description)
 
   -- what another number names stays
@@ -209,7 +209,6 @@ module _ (files : Files) (pid fd : ℕ) (descriptor : Descriptor) (is : descript
   }
 
   open_still : (who number : ℕ) → ranges_of (let_go files.locks pid file) who number ≢ [] → OpensFile files who number → OpensFile (close_in files pid fd (Some descriptor)) who number
-  unfolding file
   open_still who number some opens = elim (eqb_tells who pid) [
     | inr apart ↦ others_open who number opens (ap (λ list. descriptor_at list opens.fd) (others_after files pid who fd None apart.1) ∙ opens.held)
     | inl alike ↦ own alike.1
@@ -230,7 +229,6 @@ module _ (files : Files) (pid fd : ℕ) (descriptor : Descriptor) (is : descript
               (ap (λ w. descriptor_at (descriptors_of files w) fd) (sym this) ∙ ap (descriptor_at (descriptors_of files who)) (sym here) ∙ opens.held)) ∙ opens.file
 
 close_locked : (files : Files) (pid fd : ℕ) → Locked files → Locked (after_close files pid fd)
-unfolding file
 close_locked files pid fd locked = go (descriptor_at (descriptors_of files pid) fd) refl
   where
     go : (o : Option Descriptor) → descriptor_at (descriptors_of files pid) fd ≡ o → Locked (close_in files pid fd o)
