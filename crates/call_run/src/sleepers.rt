@@ -630,6 +630,7 @@ impl Sleepers {
         requires behind { (old new : World) × (call : CallOf) × (told : TurnedOf) × IsBehind script.now objects.now old new pid call told self.old.told self.old.channels
             × (stirs_of false call (came_of told) ≡ Through fd) }
         requires up { told_of self.old.told pid ≡ None }
+        requires free { objects.now.locks ≡ None }
         requires room { length self.old.stirred ≤ 1 }
         ensures minded { (old new : World) (call : CallOf) (told : TurnedOf) → IsBehind script.now objects.now old new pid call told self.old.told self.old.channels
             → stirs_of false call (came_of told) ≡ Through fd → AreMinded script.now new.plain self.new.told self.new.channels }

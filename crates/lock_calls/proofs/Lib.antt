@@ -1,0 +1,6 @@
+pub mod Requests
+pub mod Claims
+pub mod Holders
+pub mod Circles
+pub mod Beside
+pub mod Granting

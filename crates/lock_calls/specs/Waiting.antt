@@ -1,5 +1,5 @@
 -- Who waits for whom, as a row of bits for each place of the table of processes.
-use Rattle.std.specs.Prelude.{ℕ, ◌≡◌, ◌<◌, cond, Bool, false, List, Option, None, Some, IfSome, slice_get, slice_index_or}
+use Rattle.std.specs.Prelude.{ℕ, ◌≡◌, ◌<◌, cond, Bool, false, List, Option, None, Some, IfSome, slice_get, slice_index}
 use Rattle.std.specs.Int.{bit_at}
 use Rattle.std.specs.Option.{option_map}
 use Rattle.kabi_types.specs.declared.scripts.Script.{Script}
@@ -40,7 +40,7 @@ IsRowOf script objects pid row =
 
 -- each process has its row, at its place
 abbrev pub AreRows : Script → Objects → List ℕ → Type 0
-AreRows script objects rows = (at pid : ℕ) → pid_at objects.procs.listed at ≡ Some pid → IsRowOf script objects pid (slice_index_or rows at 0)
+AreRows script objects rows = (at pid : ℕ) → pid_at objects.procs.listed at ≡ Some pid → IsRowOf script objects pid (slice_index rows at)
 
 -- the same, if they are known
 abbrev pub AreKnown : Script → Objects → Option Waits → Type 0

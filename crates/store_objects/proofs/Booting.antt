@@ -31,8 +31,8 @@ use Rattle.kheap_slabs.proofs.ObjectLemmas.{count-none, count-put_new, object-no
 use Rattle.kheap_slabs.proofs.PurseLemmas.{need_bytes-more}
 use Rattle.kheap_laws.proofs.OwnerLemmas.{IsOwned-same, empty_heap-owned}
 use Rattle.kheap_laws.proofs.TableLemmas.{OwnsItsObjects-along}
-use Rattle.lock_table.proofs.Holding.{none_begins}
 use Rattle.lock_table.specs.Chain.{HoldsLocks}
+use Rattle.lock_table.proofs.Reordering.{same_list}
 use Rattle.posix_defs.specs.Control.{settled}
 use Rattle.posix_defs.specs.History.{boots}
 use Rattle.posix_defs.specs.Memory.{boot_frames}
@@ -97,6 +97,15 @@ no_keys {X} limit = record {
   used = λ key there. absurd (omega (arith, there.1));
   listed = λ key used. absurd (let found = object_of (replicate {A = Option X} limit None) key used in object-none limit key found.0 found.1);
   once = λ i j before within same. omega arith;
+}
+
+-- no lock is held where none is there
+none_begins : (limit : ℕ) → HoldsLocks (replicate limit None) None []
+none_begins limit = record {
+  held = [];
+  chain = record { keys = []; chained = refl; are = no_keys limit };
+  same = same_list [];
+  canonical = λ pid node. tt;
 }
 
 none_of : {X Y : Type 0} (f : X → Y) (limit : ℕ) → each_of f (replicate limit None) ≡ []

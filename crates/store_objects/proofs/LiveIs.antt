@@ -10,6 +10,10 @@ use Rattle.kabi_types.specs.Counts.{need_bytes}
 use Rattle.kabi_types.specs.declared.classes.Need.{Need}
 use Rattle.kabi_types.specs.declared.scripts.Script.{Script}
 use Rattle.kheap_slabs.specs.Objects.{count, object}
+use Rattle.kheap_slabs.specs.declared.objects.Lock.{Lock as HeldLock}
+use Rattle.lock_table.specs.Chain.{Chained, HoldsLocks}
+use Rattle.lock_table.proofs.Reordering.{as_long}
+use Rattle.posix_defs.specs.Locks.{Locks}
 use Rattle.kheap_slabs.specs.declared.objects.Chunk.{Chunk}
 use Rattle.kheap_slabs.specs.declared.objects.Desc.{Desc}
 use Rattle.kheap_slabs.specs.declared.objects.Pipe.{Pipe as HeldPipe}
@@ -22,7 +26,6 @@ use Rattle.kheap_slabs.specs.Queues.{OwnedQueue, OwnsChunks}
 use Rattle.kheap_slabs.specs.Spaces.{OwnsNodes, keys_in}
 use Rattle.kheap_laws.proofs.OwnerLemmas.{IsOwned-space}
 use Rattle.chunk_queue.specs.Chained.{place_of}
-use Rattle.lock_table.proofs.Holding.{as_many_held}
 use Rattle.pipe_ends.specs.Standing.{StandsFor as PipeStandsFor}
 use Rattle.open_laws.specs.Described.{Counted, CountedList, counted_in, uncounted}
 use Rattle.open_laws.specs.Open.{AreOpen, HaveFronts}
@@ -225,6 +228,17 @@ chunks_are numbers h list files account owns are fronts =
     let in_socks = sock_chunks numbers h files account are.socketed fronts in
     counted ∙ together ∙ parts ∙ both ∙ ap (λ n. n + sum_by (λ (p : QueueParts). chunks_of (place_of p)) (sock_queues h.socks)) in_pipes
     ∙ ap (λ n. chunks_taken (pipe_lengths files) account.pipes + n) in_socks
+
+-- as many locks as the chain has
+length-chained : (shelf : List (Option HeldLock)) (first : Option ℕ) (keys : List ℕ) (locks : Locks) → Chained shelf first keys locks → length keys ≡ length locks
+length-chained shelf first [] [] chained = refl
+length-chained shelf first [] (lock ∷ locks) chained = absurd (chained)
+length-chained shelf first (key ∷ keys) [] chained = absurd (chained)
+length-chained shelf first (key ∷ keys) (lock ∷ locks) chained = ap suc (length-chained shelf chained.1 keys locks chained.3)
+
+as_many_held : (shelf : List (Option HeldLock)) (first : Option ℕ) (locks : Locks) → HoldsLocks shelf first locks → count shelf ≡ length locks
+as_many_held shelf first locks holds =
+    count_of_keys shelf holds.chain.keys holds.chain.are ∙ length-chained shelf first holds.chain.keys holds.held holds.chain.chained ∙ as_long holds.same
 
 -- What the heap has in use is what the world takes.
 pub live_is : (script : Script) (objects : Objects) (world : World) → StandsFor script objects world → IsWellFormed objects.heap

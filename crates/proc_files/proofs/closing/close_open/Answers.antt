@@ -1,4 +1,4 @@
-use Rattle.std.proofs.Common.{◌≡◌, ◌∙◌, List, [], Option, ap, refl, subst, sym}
+use Rattle.std.proofs.Common.{◌∙◌, List, [], Option, Some, ap, pos, refl, subst, sym}
 use Rattle.fifo_nodes.specs.Chain.{IsChain}
 use Rattle.kheap_laws.proofs.PaidLemmas.{IsPaid-nothing, IsPaid-trans}
 use Rattle.kheap_slabs.specs.Heap.{Heap}
@@ -12,6 +12,7 @@ use Rattle.proc_numbers.proofs.Fronts.{queues_same, queues_then}
 use Rattle.proc_numbers.specs.Found.{IsOpened, held_in}
 use Rattle.proc_numbers.specs.Having.{AreListed, node_closed}
 use Rattle.proc_numbers.specs.Naming.{named_at}
+use Rattle.proc_numbers.specs.declared.lookups.Named.{Named}
 use Rattle.proc_files.proofs.Closed.{close_on}
 use Rattle.proc_files.proofs.Unlocking.{chain_locked, hold_locked, listed_locked, locks_closed, locks_stay, names_closed, opened_locked, owners_locked, some_locked}
 use Rattle.proc_files.specs.Closing.{ClosesHolding}
@@ -34,8 +35,9 @@ close_found-requires-clause-chain c =
 
 pub close_found-requires-clause-opened : goal.close_found-requires-clause-opened
 close_found-requires-clause-opened c =
-    subst (λ (h : Heap). IsOpened h c.args.procs.now c.args.place.pid _) (sym c.unlock.ensures.beside)
-    (opened_locked c.args.heap.now c.unlock.new.heap.locks c.args.procs.now c.args.place.pid _ c.requires.opened)
+    let on : Named = record { fd = pos c.args.found.now.number; found = Some c.args.found.now } in
+    subst (λ (h : Heap). IsOpened h c.args.procs.now c.args.place.pid on) (sym c.unlock.ensures.beside)
+    (opened_locked c.args.heap.now c.unlock.new.heap.locks c.args.procs.now c.args.place.pid on c.requires.opened)
 
 pub close_found-requires-clause-hold : goal.close_found-requires-clause-hold
 close_found-requires-clause-hold c =

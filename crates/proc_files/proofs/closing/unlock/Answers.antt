@@ -3,8 +3,7 @@ use Rattle.kheap_laws.proofs.PaidLemmas.{TakesNothing-refl}
 use Rattle.lock_table.specs.Chain.{HoldsLocks}
 use Rattle.posix_defs.specs.Files.State.{let_go}
 use Rattle.posix_defs.specs.Locks.{without}
-use Rattle.lock_table.proofs.Holding.{none_held}
-use Rattle.proc_files.proofs.Unlocking.{is_empty, lets_nothing_go, none_let_go}
+use Rattle.proc_files.proofs.Unlocking.{is_empty, lets_nothing_go, none_held, none_let_go}
 use Rattle.open_laws.specs.Described.{inode_in}
 use Rattle.proc_files.proofs.closing.unlock.Goals as goal
 
