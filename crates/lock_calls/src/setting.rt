@@ -1,6 +1,6 @@
 //! Places of a file are held, or let go: `setlk` and `setlkw`.
 
-ghost use Rattle.std.specs.Prelude.{◌≡◌, ◌≤◌, ◌×◌, None};
+ghost use Rattle.std.specs.Prelude.{◌≡◌, ◌≤◌, ◌×◌, ℕ, None};
 ghost use Rattle.kabi_types.specs.Arguments.{argument_fault};
 ghost use Rattle.kabi_types.specs.declared.calls.Call.{Call};
 ghost use Rattle.kabi_types.specs.declared.scripts.Script.{Script as ScriptOf};
@@ -8,6 +8,8 @@ ghost use Rattle.kheap_slabs.specs.Paid.{CanPay, IsPaid, TakesNothing};
 ghost use Rattle.lock_table.specs.Chain.{HoldsLocks, IsLockTable};
 ghost use Rattle.lock_table.specs.Holding.{IsAsked, asked_by};
 ghost use Rattle.posix_defs.specs.Calls.OnLocks.{circles, is_clear, setlk, setlkw};
+ghost use Rattle.open_laws.specs.Placed.{Numbers};
+ghost use Rattle.posix_defs.specs.Files.State.{Files};
 ghost use Rattle.posix_defs.specs.Locks.{Locks};
 ghost use Rattle.posix_defs.specs.World.{World};
 ghost use Rattle.proc_numbers.specs.Found.{IsOpened};
@@ -17,6 +19,7 @@ ghost use Rattle.store_objects.specs.Standing.{IsSound, StandsFor};
 ghost use Rattle.store_objects.specs.Walking.{Serves};
 ghost use Rattle.memfs_ops.specs.FileTree.{IsUsed};
 ghost use Rattle.proc_files.specs.Answering.{StaysOffNodes};
+ghost use Rattle.proc_files.specs.Holding.{HoldFiles};
 ghost use Rattle.lock_calls.specs.Setting.{ChangesLocks, HasTried, WaitsOrFails, locks_after, told_of};
 
 use crate::claiming::claimed;
@@ -141,6 +144,8 @@ fn set_claimed(
     requires left { 2 ≤ purse.old.left.lock }
     ensures tries { (script : ScriptOf) (world : World) → StandsFor script objects.old world → IsSound world.plain
         → HasTried objects.old objects.new world.plain caller.now.place.pid on.now.fd (asked_by range.now) result }
+    ensures holds { (numbers : Numbers) (others : ℕ → ℕ) (files : Files) → HoldFiles numbers others objects.old.heap objects.old.procs objects.old.tree files
+        → HoldFiles numbers others objects.new.heap objects.new.procs objects.new.tree files }
     ensures stays { StaysOffNodes objects.old.heap objects.old.procs caller.now.place.pid on.now.fd objects.old.tree objects.new.tree }
     ensures used { IsUsed objects.old.tree objects.new.tree }
     ensures beside { ChangesLocks objects.old objects.new }

@@ -6,6 +6,10 @@ use Rattle.lock_ranges.specs.Widening.{IsAmong}
 use Rattle.lock_ranges.specs.declared.range.Range.{Range}
 use Rattle.lock_table.specs.Reordered.{IsReordered, empty, more, swap, trans}
 
+unfoldable pub one_if : Bool → ℕ
+one_if true = 1
+one_if false = 0
+
 module _ {X : Type 0} where
   pub same_list : (xs : List X) → IsReordered xs xs
   same_list [] = empty
@@ -97,16 +101,13 @@ module _ {X : Type 0} where
 
   -- ---- how many pass a test
 
-  pub one_if : Bool → ℕ
-  one_if true = 1
-  one_if false = 0
-
   pub times : (X → Bool) → List X → ℕ
   times p [] = 0
   times p (x ∷ xs) = one_if (p x) + times p xs
 
   pub as_often : (p : X → Bool) {xs ys : List X} → IsReordered xs ys → times p xs ≡ times p ys
   unfolding times
+  unfolding one_if
   as_often p empty = refl
   as_often p (more x xs ys so) = ap (λ n. one_if (p x) + n) (as_often p so)
   as_often p (swap x y xs) = omega arith
@@ -114,10 +115,12 @@ module _ {X : Type 0} where
 
   pub times_more : (p : X → Bool) (x : X) (xs : List X) → times p (x ∷ xs) ≡ one_if (p x) + times p xs
   unfolding times
+  unfolding one_if
   times_more p x xs = refl
 
   pub times_none : (p : X → Bool) → times p [] ≡ 0
   unfolding times
+  unfolding one_if
   times_none p = refl
 
   -- ---- members
