@@ -16,7 +16,7 @@ use Rattle.posix_defs.specs.Machine.{blocks, machine, unless_wrong, would_block}
 use Rattle.posix_defs.specs.Plain.{Plain, call_of, last_pid}
 use Rattle.posix_defs.specs.Process.{is_alive}
 use Rattle.posix_defs.specs.Calls.Opened.{Opened, answer_on, opened_at}
-use Rattle.posix_defs.specs.Calls.OnLocks.{circles, claimed, granted_or, is_clear, is_stopped_by, leads, request_of, setlkw, waits_for, wanted_by, wanted_of, wanted_on}
+use Rattle.posix_defs.specs.Calls.OnLocks.{circles, claimed, granted, granted_or, is_clear, is_stopped_by, leads, request_of, setlkw, waits_for, wanted_by, wanted_of, wanted_on}
 use Rattle.machine_laws.specs.Chains as chain
 use Rattle.machine_laws.specs.Chains.{Chain, among, anyone}
 use Rattle.machine_laws.specs.Placed.{IsPlaced}
@@ -165,7 +165,7 @@ module _ (script : Script) (plain : Plain) (pid : ℕ) where
       → granted_or script plain pid (request_of kind start size) Stopped r ≡ Stopped
   stopped_at fd kind start size other (Err e) stopped = no stopped
   stopped_at fd kind start size other (Ok number) stopped =
-      ap (λ b. cond b _ Stopped) (some_first plain.files.locks pid number other (request_of kind start size) stopped)
+      ap (λ b. cond b (granted script plain pid number (request_of kind start size)) Stopped) (some_first plain.files.locks pid number other (request_of kind start size) stopped)
 
   by_call : (which : Call) (other : ℕ) → is_stopped_by plain.files.locks pid other (wanted_by plain.files pid which) ≡ true → machine script plain pid which ≡ Stopped
   unfolding setlkw
@@ -203,7 +203,7 @@ module _ (script : Script) (plain : Plain) (pid : ℕ) where
 
       claims : (r : Result ℕ Errno) → blocks (granted_or script plain pid (request_of kind start size) Stopped r) ≡ false
       claims (Err e) = refl
-      claims (Ok number) = clear (is_clear plain.files.locks pid number (request_of kind start size)) _ refl
+      claims (Ok number) = clear (is_clear plain.files.locks pid number (request_of kind start size)) (granted script plain pid number (request_of kind start size)) refl
 
       on : (o : Option Opened) → blocks (answer_on script plain pid (λ opened. granted_or script plain pid (request_of kind start size) Stopped (claimed plain.files opened (request_of kind start size).kind)) o) ≡ false
       on None = refl
