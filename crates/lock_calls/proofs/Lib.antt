@@ -5,3 +5,5 @@ pub mod Circles
 pub mod Beside
 pub mod Granting
 pub mod Setting
+pub mod Rows
+pub mod Blocking
