@@ -11,7 +11,7 @@ ghost use Rattle.posix_defs.specs.World.{World};
 ghost use Rattle.proc_table.specs.Table.{IsPlaced};
 ghost use Rattle.store_objects.specs.Objects.{AreKept};
 ghost use Rattle.store_objects.specs.Standing.{IsSound, StandsFor};
-ghost use Rattle.lock_calls.specs.Waiting.{AreKnown};
+ghost use Rattle.lock_calls.specs.Waiting.{AreKnown, AreRows};
 
 use crate::waits::{Waits, Wanted, wanted};
 use kabi_types::Script;
@@ -38,11 +38,13 @@ pub fn lock_would_block(
     ensures blocks { (world : World) → StandsFor script.now objects.now world → IsSound world.plain
         → result ≡ blocks (machine script.now world.plain place.pid (Call.Setlkw fd kind start length)) }
 {
-    match wanted(objects, place, fd, kind, start, length) {
-        Some(wanted) => {
-            is_stopped(objects, place, &wanted) && !circles(script, objects, waits, place)
-        }
-        None => false,
+    let Some(wanted) = wanted(objects, place, fd, kind, start, length) else {
+        return false;
+    };
+    if is_stopped(objects, place, &wanted) {
+        !circles(script, objects, waits, place)
+    } else {
+        false
     }
 }
 
@@ -66,10 +68,19 @@ fn circles(script: &Script, objects: &Objects, waits: &mut Option<Waits>, place:
     ensures known { AreKnown script.now objects.now waits.new }
     ensures circles { (world : World) → StandsFor script.now objects.now world → IsSound world.plain → result ≡ circles script.now world.plain place.pid }
 {
-    let known = match waits {
-        Some(known) => *known,
-        None => Waits::of(script, objects),
-    };
+    let known = known_or_found(script, objects, *waits);
     *waits = Some(known);
     known.circle(objects, place.pid)
+}
+
+/// Who waits for whom: what is known already, or what is found now.
+fn known_or_found(script: &Script, objects: &Objects, waits: Option<Waits>) -> Waits
+    requires kept { AreKept script.now objects.now }
+    requires known { AreKnown script.now objects.now waits }
+    ensures { AreRows script.now objects.now result.rows }
+{
+    match waits {
+        Some(known) => known,
+        None => Waits::of(script, objects),
+    }
 }
