@@ -1,11 +1,8 @@
 //! Whether a `setlkw` would sleep.
 
-ghost use Rattle.std.specs.Prelude.{◌≡◌, not};
+ghost use Rattle.std.specs.Prelude.{◌≡◌};
 ghost use Rattle.kabi_types.specs.declared.calls.Call.{Call};
-ghost use Rattle.lock_table.specs.Chain.{HoldsLocks, IsLockTable};
-ghost use Rattle.lock_table.specs.Holding.{asked_by};
-ghost use Rattle.posix_defs.specs.Calls.OnLocks.{circles, is_clear};
-ghost use Rattle.posix_defs.specs.Locks.{Locks};
+ghost use Rattle.posix_defs.specs.Calls.OnLocks.{circles};
 ghost use Rattle.posix_defs.specs.Machine.{blocks, machine};
 ghost use Rattle.posix_defs.specs.World.{World};
 ghost use Rattle.proc_table.specs.Table.{IsPlaced};
@@ -13,8 +10,10 @@ ghost use Rattle.store_objects.specs.Objects.{AreKept};
 ghost use Rattle.store_objects.specs.Standing.{IsSound, StandsFor};
 ghost use Rattle.lock_calls.specs.Waiting.{AreKnown, AreRows};
 
-use crate::waits::{Waits, Wanted, wanted};
+use crate::requests::right_range;
+use crate::waits::{Waits, is_held_up};
 use kabi_types::Script;
+use proc_numbers::opened;
 use proc_table::Place;
 use store_objects::Objects;
 
@@ -38,26 +37,15 @@ pub fn lock_would_block(
     ensures blocks { (world : World) → StandsFor script.now objects.now world → IsSound world.plain
         → result ≡ blocks (machine script.now world.plain place.pid (Call.Setlkw fd kind start length)) }
 {
-    let Some(wanted) = wanted(objects, place, fd, kind, start, length) else {
+    let Some(range) = right_range(fd, kind, start, length) else {
         return false;
     };
-    if is_stopped(objects, place, &wanted) {
+    let on = opened(&objects.heap, &objects.procs, place, fd);
+    if is_held_up(objects, place, &on, &range) {
         !circles(script, objects, waits, place)
     } else {
         false
     }
-}
-
-/// Whether a lock of another process is in the way.
-fn is_stopped(objects: &Objects, place: Place, wanted: &Wanted) -> bool
-    requires { IsLockTable objects.now.heap.locks objects.now.locks }
-    ensures { (locks : Locks) → HoldsLocks objects.now.heap.locks objects.now.locks locks
-        → result ≡ not (is_clear locks place.pid wanted.now.node (asked_by wanted.now.range)) }
-{
-    let first = objects
-        .locks
-        .conflict(&objects.heap, wanted.node, place.pid, &wanted.range);
-    first.is_some()
 }
 
 /// Whether a chain of waits leads from a process back to itself.
