@@ -4,3 +4,4 @@ pub mod Holders
 pub mod Circles
 pub mod Beside
 pub mod Granting
+pub mod Setting
