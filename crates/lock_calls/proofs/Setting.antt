@@ -8,8 +8,10 @@ use Rattle.kabi_types.specs.declared.replies.Reply.{Reply}
 use Rattle.kabi_types.specs.declared.replies.Reply.TheVariants.{Fail, Val}
 use Rattle.kabi_types.specs.declared.scripts.Control.{Control}
 use Rattle.kabi_types.specs.declared.scripts.Script.{Script}
-use Rattle.kheap_slabs.specs.Heap.{IsWellFormed}
+use Rattle.kheap_slabs.specs.Heap.{Heap, IsWellFormed}
+use Rattle.kheap_slabs.specs.Objects.{count}
 use Rattle.lock_table.specs.Chain.{HoldsLocks, IsLockTable}
+use Rattle.memfs_ops.specs.FileTree.{IsUsed}
 use Rattle.open_laws.specs.Placed.{Numbers}
 use Rattle.posix_defs.specs.Answer.{Answer, Blocked, failed, replied}
 use Rattle.posix_defs.specs.Calls.OnLocks.{circles, granted, granted_or, is_clear, setlk, setlkw}
@@ -18,6 +20,7 @@ use Rattle.posix_defs.specs.Files.State.{Files, with_locks}
 use Rattle.posix_defs.specs.Locks.{Locks, Request, after_set}
 use Rattle.posix_defs.specs.Memory.{Frames}
 use Rattle.posix_defs.specs.MemoryCalls.{frames_after}
+use Rattle.posix_defs.specs.Needs.{need_of}
 use Rattle.posix_defs.specs.Plain.{Plain, with_files}
 use Rattle.posix_defs.specs.Reaching.{path_to_leave, path_to_walk, paths_of}
 use Rattle.posix_defs.specs.World.{World}
@@ -26,6 +29,7 @@ use Rattle.posix_defs.specs.declared.turner.Turned.TheVariants as turned
 use Rattle.proc_files.specs.Answering.{AnswersHolding, StaysOffNodes}
 use Rattle.proc_files.specs.Closing.{ChangesHolding}
 use Rattle.proc_files.specs.Holding.{HoldFiles, HoldSome}
+use Rattle.proc_files.proofs.OpenFiles.{used_reads}
 use Rattle.store_objects.proofs.Answered.{answered_holding}
 use Rattle.store_objects.proofs.Keeping.{listed_in}
 use Rattle.store_objects.proofs.Leaving.{files_in}
@@ -37,7 +41,7 @@ use Rattle.store_objects.specs.FileMoves.{CachesWithin}
 use Rattle.store_objects.specs.Objects.{AreKept, Runs}
 use Rattle.store_objects.specs.Standing.{IsSound, StandsFor}
 use Rattle.store_objects.specs.Trees.{others_in}
-use Rattle.store_objects.specs.Walking.{Serves}
+use Rattle.store_objects.specs.Walking.{Serves, WorldReached}
 use Rattle.store_objects.specs.declared.objects.Objects.{Objects}
 use Rattle.file_calls.proofs.CallingOpens.{kept_mid, moves, runs_mid, unchanged}
 use Rattle.file_calls.proofs.Reached.{NamesNumbers, leaves_numbers, some_on}
@@ -118,3 +122,43 @@ module _ (script : Script) (old mid : Objects) (plain : Plain) (pid : ℕ) (fd :
     is ∙ ap (granted_or script plain pid asked stopped) tried.1 ∙ ap (λ b. cond b (granted script plain pid tried.0 asked) stopped) (sym tried.2) ∙ stop refl,
     tried.3,
   )
+
+-- ---- what is cached
+
+no_more : (now was need : ℕ) → now ≡ was → now ≤ was + need
+no_more now was need same = omega (arith, same)
+
+pub within_set : (old mid : Objects) (which : Call) → ChangesLocks old mid → IsUsed old.tree mid.tree → CachesWithin old mid which
+within_set old mid which changes used = record {
+  names = no_more (count mid.heap.names) (count old.heap.names) (need_of which).name (ap (λ (h : Heap). count h.names) changes.heap);
+  blocks = no_more (count mid.heap.blocks) (count old.heap.blocks) (need_of which).block (ap (λ (h : Heap). count h.blocks) changes.heap);
+  vnodes = no_more (count mid.heap.vnodes) (count old.heap.vnodes) (need_of which).vnode (ap (λ (h : Heap). count h.vnodes) changes.heap);
+  reads = used_reads old.tree mid.tree used;
+}
+
+-- ---- what the chain stands for
+
+pub table_tried : (old mid : Objects) (plain : Plain) (pid : ℕ) (fd : ℤ) (asked : Request) (done : Result Bool Errno) → HasTried old mid plain pid fd asked done → IsLockTable mid.heap.locks mid.locks
+table_tried old mid plain pid fd asked (Err errno) tried = (plain.files.locks, tried.1)
+table_tried old mid plain pid fd asked (Ok set) tried = (locks_after plain.files.locks pid tried.0 asked set, tried.3)
+
+-- ---- who sleeps
+
+-- nothing is other than before
+pub slept : (script : Script) (old : Objects) (pid : ℕ) (which : Call) (world : World) → StandsFor script old world → path_to_leave world.plain pid which ≡ None
+    → WorldReached script old world pid which Blocked turned.Sleep
+slept script old pid which world stands unnamed = record {
+  next = world;
+  stands = stands;
+  tells = (refl, refl);
+  account = refl;
+  keeps = record {
+    names = omega arith;
+    blocks = omega arith;
+    vnodes = omega arith;
+    reads = omega arith;
+    untouched = λ none. (refl, refl);
+    left = λ ok. cc;
+    known = λ known. refl;
+  };
+}
