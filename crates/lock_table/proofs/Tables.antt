@@ -1,6 +1,7 @@
 -- What a table of locks stands for, before and after its calls.
-use Rattle.std.proofs.Common.{◌≡◌, ℕ, ◌+◌, ◌<◌, ◌≤◌, ◌↔◌, ◌&&◌, Bool, List, [], ◌∷◌, length, Option, None, Some, refl, ap, sym, subst, ◌∙◌, arith, replicate}
+use Rattle.std.proofs.Common.{◌≡◌, ℕ, ◌+◌, ◌<◌, ◌≤◌, ◌↔◌, ◌&&◌, eqb, Bool, List, [], ◌∷◌, length, Option, None, Some, refl, ap, sym, subst, ◌∙◌, arith, replicate}
 use Rattle.std.specs.List.{list_any}
+use Rattle.std.specs.Option.{option_map}
 use Rattle.chunk_queue.proofs.AccountLemmas.{count-keys}
 use Rattle.kheap_slabs.specs.Objects.{object, count}
 use Rattle.kheap_slabs.specs.declared.objects.Lock.{Lock as HeldLock}
@@ -9,8 +10,8 @@ use Rattle.lock_ranges.specs.Ranges.{greatest}
 use Rattle.lock_ranges.specs.declared.range.Kind.{Kind}
 use Rattle.lock_ranges.specs.declared.range.Range.{Range}
 use Rattle.posix_defs.specs.Locks.{Locks, Request, after_set, first_in_way, is_in_way, stops, without}
-use Rattle.lock_table.specs.Chain.{Chained, HasLocks, HoldsLocks, IsLockChain, IsLockTable}
-use Rattle.lock_table.specs.Holding.{earliest}
+use Rattle.lock_table.specs.Chain.{Chained, HasLocks, HoldsLocks, IsLockChain, IsLockTable, plain_of}
+use Rattle.lock_table.specs.Holding.{earliest, info_of}
 use Rattle.lock_table.specs.Reordered.{empty}
 use Rattle.lock_table.specs.Setting.{cut, held_wide, let_go}
 use Rattle.lock_table.proofs.Chaining.{as_many, none_behind}
@@ -31,7 +32,7 @@ module _ (objects : List (Option HeldLock)) (first : Option ℕ) where
     first_is pid node asked = earliest_is holds.held locks pid node asked holds.same holds.canonical
 
     pub stops_is : (pid node : ℕ) (asked : Request) (by : ℕ) → stops holds.held pid node asked by ≡ stops locks pid node asked by
-    stops_is pid node asked by = any_same (λ lock. (lock.pid == by) && is_in_way pid node asked lock) holds.same
+    stops_is pid node asked by = any_same (λ lock. eqb lock.pid by && is_in_way pid node asked lock) holds.same
 
     module _ (new : List (Option HeldLock)) (now : Option ℕ) (pid node : ℕ) where
       pub holds_held : (range : Range) → range.start ≤ range.last → range.last ≤ greatest → IsLockChain new now (held_wide pid node range holds.held)
@@ -93,3 +94,8 @@ holds_at_boot limit = record {
   same = empty;
   canonical = λ pid node. tt;
 }
+
+-- what is told of a lock of the heap is told of the lock that it stands for
+pub told_is : (lock : Option HeldLock) → option_map (λ held. info_of (plain_of held)) lock ≡ option_map info_of (option_map plain_of lock)
+told_is None = refl
+told_is (Some lock) = refl

@@ -4,6 +4,7 @@ use Rattle.std.proofs.lemmas.List.{append-nil}
 use Rattle.std.proofs.lemmas.List.Elements.{Contains-append_left, Contains-append_right}
 use Rattle.kheap_laws.proofs.KeyLemmas.{AreKeysOf-swap}
 use Rattle.kheap_laws.proofs.OnceLemmas.{IsOnce-head}
+use Rattle.kheap_slabs.specs.Heap.{Heap}
 use Rattle.kheap_slabs.specs.Keys.{AreKeysOf}
 use Rattle.kheap_slabs.specs.Objects.{object, InUse, count, put, without}
 use Rattle.kheap_slabs.specs.declared.objects.Lock.{Lock as HeldLock}
@@ -37,6 +38,13 @@ module _ (objects : List (Option HeldLock)) (key : ℕ) (held : HeldLock) (there
         few = omega (arith, walks.few, size);
         so = on head.rest (subst (λ (h : HeldLock). P (plain_of h ∷ head.rest)) same (subst P head.locks_are walks.so));
       }
+
+  -- and what is so of those that are left
+  pub walk_at : (P : Locks → Type 0) → Walks objects (Some key) P → (rest : Locks) × P (plain_of held ∷ rest)
+  walk_at P walks =
+      let head = head_of objects key walks.keys walks.rest walks.chained in
+      let same : held_of head.lock head.next ≡ held = (let one = head.there in let two = there in cc) in
+      (head.rest, subst (λ (h : HeldLock). P (plain_of h ∷ head.rest)) same (subst P head.locks_are walks.so))
 
   pub walk_less : (P : Locks → Type 0) → Walks objects (Some key) P → chain_left (count objects) objects held.next < chain_left (count objects) objects (Some key)
   walk_less P walks =
@@ -173,3 +181,18 @@ module _ (objects : List (Option HeldLock)) (most : ℕ) (first : Option ℕ) (l
         others_same : (range : Option Range) (other : ℕ) → other ≢ key → object (chained_again objects key held first range) other ≡ object objects other
         others_same None other differs = object-without_other objects key other differs
         others_same (Some range) other differs = object-put_other objects key other (record held { range = range; next = first }) differs
+
+-- one more lock of the chain is looked at, by what the code has of it
+pub cuts_step : (objects new : List (Option HeldLock)) (most : ℕ) (first first_now : Option ℕ) (key : ℕ) (held : HeldLock) (left left_now now : Option Range) (pid node start last : ℕ) (locks : Locks)
+    → object objects key ≡ Some held → now ≡ kept_by pid node start last (plain_of held) → new ≡ chained_again objects key held first now → first_now ≡ first_again key first now
+    → left_now ≡ over_by pid node start last left (plain_of held) → Cuts objects most first (Some key) left pid node start last locks
+    → Cuts new most first_now held.next left_now pid node start last locks
+cuts_step objects new most first first_now key held left left_now now pid node start last locks there is changed begins over_is cuts =
+    subst (λ (os : List (Option HeldLock)). Cuts os most first_now held.next left_now pid node start last locks) (sym changed)
+    (subst (λ f. Cuts (chained_again objects key held first now) most f held.next left_now pid node start last locks) (sym begins)
+    (subst (λ l. Cuts (chained_again objects key held first now) most (first_again key first now) held.next l pid node start last locks) (sym over_is)
+    (cuts_on objects most first left pid node start last locks key held there now is cuts)))
+
+pub kept_through : (a b c : Heap) (locks : List (Option HeldLock)) → b ≡ record a { locks = b.locks } → c ≡ record b { locks = locks } → c ≡ record a { locks = c.locks }
+kept_through a b c locks one two =
+    two ∙ ap (λ (h : Heap). record h { locks = locks }) one ∙ ap (λ l. record a { locks = l }) (sym (ap (λ (h : Heap). h.locks) two))
