@@ -7,13 +7,17 @@ use Rattle.kheap_slabs.specs.declared.objects.Target.{Target as HeldTarget}
 use Rattle.kheap_slabs.specs.declared.objects.Target.TheVariants as held
 use Rattle.lock_ranges.specs.declared.range.Kind.{Kind}
 use Rattle.lock_table.specs.Holding.{asked_by}
-use Rattle.open_laws.specs.Described.{target_in}
+use Rattle.open_laws.specs.Described.{access_in, target_in}
 use Rattle.open_laws.specs.Placed.{Numbers}
 use Rattle.posix_defs.specs.Calls.OnLocks.{Wanted, claim_of, file_of, may_hold, wanted_of}
+use Rattle.posix_defs.specs.Calls.Opened.{Opened}
 use Rattle.posix_defs.specs.Files.Descriptions.{Access}
+use Rattle.posix_defs.specs.Files.State.{Files}
 use Rattle.posix_defs.specs.Locks.{Request}
 use Rattle.posix_defs.specs.Tree.{Tree, is_directory}
-use Rattle.lock_calls.specs.Claiming.{file_or_fault, node_in, wanted_in}
+use Rattle.proc_numbers.specs.Found.{opened_in}
+use Rattle.proc_numbers.specs.declared.lookups.Found.{Found}
+use Rattle.lock_calls.specs.Claiming.{claimed_by, file_by, file_or_fault, node_in, wanted_in}
 use Rattle.lock_calls.specs.declared.waits.Wanted.{Wanted as WantedHere}
 
 -- a node that isn't a directory is a file
@@ -51,3 +55,20 @@ wants_none tree access node asked may = go (is_directory tree node)
     go : (directory : Bool) → None ≡ wanted_of asked (claim_of access asked.kind (cond directory None (Some node)))
     go true = refl
     go false = sym (ap (λ b. wanted_of asked (cond b (Ok node) (Err EBADF))) may)
+
+-- ---- what is claimed
+
+-- where there is no file that is told, whoever asks
+pub by_err : (files : Files) (kind : Option Kind) (o : Option Opened) (errno : Errno) → Err errno ≡ file_by files o → Err errno ≡ claimed_by files kind o
+by_err files kind None errno e = e
+by_err files kind (Some opened) errno e = sym (claim_none opened.is.access kind (file_of files.tree opened.is.target) errno (sym e))
+
+pub by_ok : (numbers : Numbers) (files : Files) (kind : Option Kind) (found : Found) (number : ℕ) (may : Bool) → Ok number ≡ file_by files (Some (opened_in numbers found))
+    → may_hold (access_in found.desc.access) kind ≡ may → claimed_by files kind (Some (opened_in numbers found)) ≡ cond may (Ok number) (Err EBADF)
+by_ok numbers files kind found number may e is =
+    claim_by (access_in found.desc.access) kind (file_of files.tree (target_in numbers found.desc.target)) number (sym e) ∙ ap (λ b. cond b (Ok number) (Err EBADF)) is
+
+-- of a file and a directory, by what is told of it
+pub by_node : (tree : Tree) (number : ℕ) (b : Bool) → is_directory tree number ≡ b → file_or_fault (unless_directory tree number) ≡ cond b (Err EINVAL) (Ok number)
+by_node tree number true is = ap (λ b. file_or_fault (cond b None (Some number))) is
+by_node tree number false is = ap (λ b. file_or_fault (cond b None (Some number))) is

@@ -4,3 +4,6 @@ pub mod Holders
 pub mod Circles
 pub mod Beside
 pub mod Granting
+pub mod Setting
+pub mod Rows
+pub mod Blocking

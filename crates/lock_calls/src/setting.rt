@@ -24,7 +24,7 @@ ghost use Rattle.lock_calls.specs.Setting.{ChangesLocks, HasTried, WaitsOrFails,
 
 use crate::claiming::claimed;
 use crate::requests::range_of;
-use crate::waits::Waits;
+use crate::waits::{Waits, is_held_up};
 use kabi_types::{Errno, Reply, Script};
 use kheap_slabs::Purse;
 use lock_table::LockRange;
@@ -91,11 +91,11 @@ pub fn setlkw(
     ensures does { Serves script.now objects.old caller.now.place.pid (Call.Setlkw on.now.fd kind start length) (λ plain. setlkw script.now plain caller.now.place.pid on.now.fd kind start length) result objects.new }
 {
     let range = range_of(kind, start, length);
-    match set_claimed(objects, purse, caller, on, &range) {
-        Ok(true) => go_on(script, objects, caller, Reply::Val(0)),
-        Ok(false) => wait(script, objects, caller),
-        Err(errno) => go_on(script, objects, caller, Reply::Fail(errno)),
+    if is_held_up(objects, caller.place, on, &range) {
+        return wait(script, objects, caller);
     }
+    let reply = told(set_claimed(objects, purse, caller, on, &range));
+    go_on(script, objects, caller, reply)
 }
 
 /// What is told of places that were set or not, or of why they weren't asked for.
@@ -145,7 +145,7 @@ fn set_claimed(
     ensures tries { (script : ScriptOf) (world : World) → StandsFor script objects.old world → IsSound world.plain
         → HasTried objects.old objects.new world.plain caller.now.place.pid on.now.fd (asked_by range.now) result }
     ensures holds { (numbers : Numbers) (others : ℕ → ℕ) (files : Files) → HoldFiles numbers others objects.old.heap objects.old.procs objects.old.tree files
-        → HoldFiles numbers others objects.new.heap objects.new.procs objects.new.tree files }
+        → HoldFiles numbers others objects.new.heap objects.old.procs objects.new.tree files }
     ensures stays { StaysOffNodes objects.old.heap objects.old.procs caller.now.place.pid on.now.fd objects.old.tree objects.new.tree }
     ensures used { IsUsed objects.old.tree objects.new.tree }
     ensures beside { ChangesLocks objects.old objects.new }
