@@ -24,6 +24,7 @@ type Ask = (u32, u32, u32, u64, u64);
 // A process, and a range that it holds with its kind.
 type Told = (u32, u32, u64, u64);
 
+#[derive(Clone, Copy)]
 enum Step {
     Set(Ask),
     // All of a process of a file goes.
