@@ -105,22 +105,22 @@ plain_least lock (next ∷ locks) =
     chosen false one other = refl
 
 -- the code's, of those that pass
-soonest : Option Lock → Locks → Option Lock
+abbrev soonest : Option Lock → Locks → Option Lock
 soonest first [] = first
 soonest first (lock ∷ locks) = soonest (Some (sooner first lock)) locks
 
 soonest_of : (pid node : ℕ) (asked : Request) (first : Option Lock) (locks : Locks) → earliest pid node asked first locks ≡ soonest first (filter (is_in_way pid node asked) locks)
-unfolding soonest
 soonest_of pid node asked first [] = refl
-soonest_of pid node asked first (lock ∷ locks) = by (is_in_way pid node asked lock) refl
+soonest_of pid node asked first (lock ∷ locks) =
+    by (is_in_way pid node asked lock) (soonest_of pid node asked (Some (sooner first lock)) locks) (soonest_of pid node asked first locks)
   where
-    by : (b : Bool) → is_in_way pid node asked lock ≡ b
+    by : (b : Bool) → earliest pid node asked (Some (sooner first lock)) locks ≡ soonest (Some (sooner first lock)) (filter (is_in_way pid node asked) locks)
+        → earliest pid node asked first locks ≡ soonest first (filter (is_in_way pid node asked) locks)
         → earliest pid node asked (cond b (Some (sooner first lock)) first) locks ≡ soonest first (cond b (lock ∷ filter (is_in_way pid node asked) locks) (filter (is_in_way pid node asked) locks))
-    by true is = soonest_of pid node asked (Some (sooner first lock)) locks
-    by false is = soonest_of pid node asked first locks
+    by true yes no = yes
+    by false yes no = no
 
 soonest_least : (lock : Lock) (locks : Locks) → (z : Lock) × (soonest (Some lock) locks ≡ Some z) × IsLeast (lock ∷ locks) z
-unfolding soonest
 soonest_least lock [] = (lock, refl, record { there = inl refl; first = (first_itself lock, tt) })
 soonest_least lock (next ∷ locks) =
     let two = first_of_two lock next (comes_first lock next) refl in
@@ -207,7 +207,6 @@ one_least held locks some pid node asked one other same canonical least plain =
 
 pub earliest_is : (held locks : Locks) (pid node : ℕ) (asked : Request) → IsReordered held locks → ((pid node : ℕ) → IsCanonical (ranges_of locks pid node))
     → earliest pid node asked None held ≡ first_in_way locks pid node asked
-unfolding soonest
 earliest_is held locks pid node asked same canonical =
     soonest_of pid node asked None held
     ∙ go (filter (is_in_way pid node asked) held) (filter (is_in_way pid node asked) locks) refl refl (filtered (is_in_way pid node asked) same)

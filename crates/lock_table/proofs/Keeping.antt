@@ -34,23 +34,21 @@ without_other pid node lock locks other = ap (λ b. cond (not b) (lock ∷ witho
 
 -- ---- what stays, in the order in which it stood
 
-one_kept : Option Range → Lock → Locks
+abbrev one_kept : Option Range → Lock → Locks
 one_kept None lock = []
 one_kept (Some range) lock = record lock { range = range } ∷ []
 
-kept : (pid node start last : ℕ) → Lock → Locks
+abbrev kept : (pid node start last : ℕ) → Lock → Locks
 kept pid node start last lock = one_kept (kept_by pid node start last lock) lock
 
 abbrev pub all_kept : ℕ → ℕ → ℕ → ℕ → Locks → Locks
 all_kept pid node start last locks = each_to (kept pid node start last) locks
 
 stays_kept : (pid node start last : ℕ) (range : Option Range) (lock : Lock) (done : Locks) → stays pid node start last range lock done ≡ one_kept range lock ++ done
-unfolding one_kept
 stays_kept pid node start last None lock done = refl
 stays_kept pid node start last (Some range) lock done = refl
 
 pub cut_kept : (pid node start last : ℕ) (done locks : Locks) → IsReordered (cut pid node start last done locks) (all_kept pid node start last locks ++ done)
-unfolding kept
 cut_kept pid node start last done [] = same_list done
 cut_kept pid node start last done (lock ∷ locks) =
     let one = one_kept (kept_by pid node start last lock) lock in
@@ -64,16 +62,12 @@ cut_kept pid node start last done (lock ∷ locks) =
 -- ---- all places are let go
 
 kept_other : (pid node start last : ℕ) (lock : Lock) → is_of pid node lock ≡ false → kept pid node start last lock ≡ lock ∷ []
-unfolding kept
-unfolding one_kept
 kept_other pid node start last lock other = ap (λ b. one_kept (cond b (left_of start last lock.range) (Some lock.range)) lock) other
 
 kept_own : (pid node start last : ℕ) (lock : Lock) → is_of pid node lock ≡ true → kept pid node start last lock ≡ one_kept (left_of start last lock.range) lock
-unfolding kept
 kept_own pid node start last lock own = ap (λ b. one_kept (cond b (left_of start last lock.range) (Some lock.range)) lock) own
 
 none_left : (lock : Lock) → lock.range.last ≤ greatest → one_kept (left_of 0 greatest lock.range) lock ≡ []
-unfolding one_kept
 none_left lock within =
     ap (λ b. one_kept (cond b (Some (until 0 lock.range)) (cond (ltb greatest lock.range.last) (Some (beyond greatest lock.range)) None)) lock) (le-ltb lock.range.start 0 (omega arith))
     ∙ ap (λ b. one_kept (cond b (Some (beyond greatest lock.range)) None) lock) (le-ltb greatest lock.range.last within)
@@ -101,17 +95,16 @@ all_let_go held locks pid node same canonical =
 
 -- ---- the pieces of a range
 
-first_piece : ℕ → Range → List Range
+abbrev first_piece : ℕ → Range → List Range
 first_piece start range = cond (ltb range.start start) (until start range ∷ []) []
 
-last_piece : ℕ → Range → List Range
+abbrev last_piece : ℕ → Range → List Range
 last_piece last range = cond (ltb last range.last) (beyond last range ∷ []) []
 
-pieces : ℕ → ℕ → Range → List Range
+abbrev pieces : ℕ → ℕ → Range → List Range
 pieces start last range = first_piece start range ++ last_piece last range
 
 first_before : (start : ℕ) (range : Range) (ranges : List Range) → before start (range ∷ ranges) ≡ first_piece start range ++ before start ranges
-unfolding first_piece
 first_before start range ranges = by (ltb range.start start)
   where
     by : (b : Bool) → cond b (until start range ∷ before start ranges) (before start ranges) ≡ cond b (until start range ∷ []) [] ++ before start ranges
@@ -119,7 +112,6 @@ first_before start range ranges = by (ltb range.start start)
     by false = refl
 
 last_behind : (last : ℕ) (range : Range) (ranges : List Range) → behind last (range ∷ ranges) ≡ last_piece last range ++ behind last ranges
-unfolding last_piece
 last_behind last range ranges = by (ltb last range.last)
   where
     by : (b : Bool) → cond b (beyond last range ∷ behind last ranges) (behind last ranges) ≡ cond b (beyond last range ∷ []) [] ++ behind last ranges
@@ -127,7 +119,6 @@ last_behind last range ranges = by (ltb last range.last)
     by false = refl
 
 pieces_apart : (start last : ℕ) (ranges : List Range) → IsReordered (each_to (pieces start last) ranges) (before start ranges ++ behind last ranges)
-unfolding pieces
 pieces_apart start last [] = empty
 pieces_apart start last (range ∷ ranges) =
     let whole = before start (range ∷ ranges) ++ behind last (range ∷ ranges) in
@@ -140,15 +131,13 @@ pieces_apart start last (range ∷ ranges) =
 
 -- ---- the pieces of locks
 
-lock_pieces : (pid node start last : ℕ) → Lock → Locks
+abbrev lock_pieces : (pid node start last : ℕ) → Lock → Locks
 lock_pieces pid node start last lock = cond (is_of pid node lock) (map (lock_of pid node) (pieces start last lock.range)) (lock ∷ [])
 
 pieces_own : (pid node start last : ℕ) (lock : Lock) → is_of pid node lock ≡ true → lock_pieces pid node start last lock ≡ map (lock_of pid node) (pieces start last lock.range)
-unfolding lock_pieces
 pieces_own pid node start last lock own = ap (λ b. cond b (map (lock_of pid node) (pieces start last lock.range)) (lock ∷ [])) own
 
 pieces_other : (pid node start last : ℕ) (lock : Lock) → is_of pid node lock ≡ false → lock_pieces pid node start last lock ≡ lock ∷ []
-unfolding lock_pieces
 pieces_other pid node start last lock other = ap (λ b. cond b (map (lock_of pid node) (pieces start last lock.range)) (lock ∷ [])) other
 
 -- all that are not the process's, and the pieces of those that are
@@ -174,7 +163,7 @@ pieces_beside pid node start last (lock ∷ locks) = elim (cases_Bool (is_of pid
 
 -- ---- one lock at most has both pieces
 
-is_cut : (pid node start last : ℕ) → Lock → Bool
+abbrev is_cut : (pid node start last : ℕ) → Lock → Bool
 is_cut pid node start last lock = is_of pid node lock && is_over start last lock.range
 
 all_behind : (start : ℕ) (range : Range) (ranges : List Range) → start ≤ range.last → AllByRecursion (LiesBefore range) ranges → AllByRecursion (λ (r : Range). start ≤ r.start) ranges
@@ -185,7 +174,6 @@ not_over : (start last : ℕ) (range : Range) → start ≤ range.start → is_o
 not_over start last range from = and_left (ltb range.start start) (ltb last range.last) (le-ltb range.start start from)
 
 none_cut : (pid node start last : ℕ) (locks : Locks) → AllByRecursion (λ (r : Range). start ≤ r.start) (ranges_of locks pid node) → times (is_cut pid node start last) locks ≡ 0
-unfolding is_cut
 none_cut pid node start last [] from = times_none (is_cut pid node start last)
 none_cut pid node start last (lock ∷ locks) from = elim (cases_Bool (is_of pid node lock)) [
   | inl own ↦
@@ -199,49 +187,40 @@ none_cut pid node start last (lock ∷ locks) from = elim (cases_Bool (is_of pid
 ]
   where
     none_more : times (is_cut pid node start last) locks ≡ 0 → one_if false + times (is_cut pid node start last) locks ≡ 0
-    unfolding one_if
     none_more none = omega (arith, none)
 
 few_cut : (pid node start last : ℕ) (locks : Locks) → start ≤ last → IsCanonical (ranges_of locks pid node) → times (is_cut pid node start last) locks ≤ 1
-unfolding is_cut
 few_cut pid node start last [] order canonical = omega (arith, times_none (is_cut pid node start last))
 few_cut pid node start last (lock ∷ locks) order canonical = elim (cases_Bool (is_of pid node lock)) [
   | inl own ↦
       let ranges : IsCanonical (lock.range ∷ ranges_of locks pid node) = subst IsCanonical (ranges_own pid node lock locks own) canonical in
-      by_over (is_over start last lock.range) refl own ranges
+      by_over (is_over start last lock.range) refl own ranges (few_cut pid node start last locks order ranges.3)
   | inr other ↦
       let no : (is_of pid node lock && is_over start last lock.range) ≡ false = and_left (is_of pid node lock) (is_over start last lock.range) other in
       no_more no (few_cut pid node start last locks order (subst IsCanonical (ranges_other pid node lock locks other) canonical))
 ]
   where
     no_more : (is_of pid node lock && is_over start last lock.range) ≡ false → times (is_cut pid node start last) locks ≤ 1 → times (is_cut pid node start last) (lock ∷ locks) ≤ 1
-    unfolding one_if
     no_more no few = omega (arith, times_more (is_cut pid node start last) lock locks ∙ ap (λ b. one_if b + times (is_cut pid node start last) locks) no, few)
 
     one_more : (is_of pid node lock && is_over start last lock.range) ≡ true → times (is_cut pid node start last) locks ≡ 0 → times (is_cut pid node start last) (lock ∷ locks) ≤ 1
-    unfolding one_if
     one_more yes none = omega (arith, times_more (is_cut pid node start last) lock locks ∙ ap (λ b. one_if b + times (is_cut pid node start last) locks) yes, none)
 
-    by_over : (b : Bool) → is_over start last lock.range ≡ b → is_of pid node lock ≡ true → IsCanonical (lock.range ∷ ranges_of locks pid node) → times (is_cut pid node start last) (lock ∷ locks) ≤ 1
-    by_over true is own ranges =
+    by_over : (b : Bool) → is_over start last lock.range ≡ b → is_of pid node lock ≡ true → IsCanonical (lock.range ∷ ranges_of locks pid node)
+        → times (is_cut pid node start last) locks ≤ 1 → times (is_cut pid node start last) (lock ∷ locks) ≤ 1
+    by_over true is own ranges few =
         let longer : last < lock.range.last = ltb-true last lock.range.last (and_parts (ltb lock.range.start start) (ltb last lock.range.last) is).1 in
         one_more (ap (λ b. b && is_over start last lock.range) own ∙ is)
         (none_cut pid node start last locks (all_behind start lock.range (ranges_of locks pid node) (omega arith) ranges.2))
-    by_over false is own ranges =
-        no_more (ap (λ b. b && is_over start last lock.range) own ∙ is) (few_cut pid node start last locks order ranges.3)
+    by_over false is own ranges few = no_more (ap (λ b. b && is_over start last lock.range) own ∙ is) few
 
 -- ---- what stays and what is left over are all the pieces
 
-rest_of : (pid node : ℕ) → Option Range → Locks
+abbrev rest_of : (pid node : ℕ) → Option Range → Locks
 rest_of pid node None = []
 rest_of pid node (Some range) = lock_of pid node range ∷ []
 
 not_cut : (pid node start last : ℕ) (lock : Lock) → is_cut pid node start last lock ≡ false → lock_pieces pid node start last lock ≡ kept pid node start last lock
-unfolding is_cut
-unfolding pieces
-unfolding first_piece
-unfolding last_piece
-unfolding one_kept
 not_cut pid node start last lock no = elim (cases_Bool (is_of pid node lock)) [
   | inl own ↦
       pieces_own pid node start last lock own
@@ -259,18 +238,12 @@ not_cut pid node start last lock no = elim (cases_Bool (is_of pid node lock)) [
     by false false own none = refl
 
 is_cut_over : (pid node start last : ℕ) (lock : Lock) (rest : Option Range) (b : Bool) → is_cut pid node start last lock ≡ b → over_by pid node start last rest lock ≡ cond b (Some (beyond last lock.range)) rest
-unfolding is_cut
 is_cut_over pid node start last lock rest b is = ap (λ c. cond c (Some (beyond last lock.range)) rest) is
 
 -- one that is cut in the middle
 cut_middle : (pid node start last : ℕ) (lock : Lock) → is_cut pid node start last lock ≡ true
     → (lock_pieces pid node start last lock ≡ lock_of pid node (until start lock.range) ∷ lock_of pid node (beyond last lock.range) ∷ [])
         × (kept pid node start last lock ≡ lock_of pid node (until start lock.range) ∷ [])
-unfolding is_cut
-unfolding pieces
-unfolding first_piece
-unfolding last_piece
-unfolding one_kept
 cut_middle pid node start last lock is =
     let parts = and_parts (is_of pid node lock) (is_over start last lock.range) is in
     let ends = and_parts (ltb lock.range.start start) (ltb last lock.range.last) parts.1 in (
@@ -287,16 +260,16 @@ module _ (pid node start last : ℕ) where
   nothing_over : (rest : Option Range) (locks : Locks) → times (is_cut pid node start last) locks ≡ 0
       → (over pid node start last rest locks ≡ rest) × (all_kept pid node start last locks ≡ each_to (lock_pieces pid node start last) locks)
   nothing_over rest [] none = (refl, refl)
-  nothing_over rest (lock ∷ locks) none = by (is_cut pid node start last lock) refl
+  nothing_over rest (lock ∷ locks) none = by (is_cut pid node start last lock) refl (nothing_over rest locks)
     where
       by : (b : Bool) → is_cut pid node start last lock ≡ b
+          → (times (is_cut pid node start last) locks ≡ 0 → (over pid node start last rest locks ≡ rest) × (all_kept pid node start last locks ≡ each_to (lock_pieces pid node start last) locks))
           → (over pid node start last rest (lock ∷ locks) ≡ rest) × (all_kept pid node start last (lock ∷ locks) ≡ each_to (lock_pieces pid node start last) (lock ∷ locks))
-      unfolding one_if
-      by true is = absurd (omega (arith, none, times_more (is_cut pid node start last) lock locks ∙ ap (λ b. one_if b + times (is_cut pid node start last) locks) is))
-      by false is =
+      by true is behind_it = absurd (omega (arith, none, times_more (is_cut pid node start last) lock locks ∙ ap (λ b. one_if b + times (is_cut pid node start last) locks) is))
+      by false is behind_it =
           let more_none : times (is_cut pid node start last) locks ≡ 0 =
           omega (arith, none, times_more (is_cut pid node start last) lock locks ∙ ap (λ b. one_if b + times (is_cut pid node start last) locks) is) in
-          let later = nothing_over rest locks more_none in (
+          let later = behind_it more_none in (
             ap (λ r. over pid node start last r locks) (is_cut_over pid node start last lock rest false is) ∙ later.0,
             ap (λ l. l ++ all_kept pid node start last locks) (sym (not_cut pid node start last lock is)) ∙ ap (λ l. lock_pieces pid node start last lock ++ l) later.1,
           )
@@ -304,14 +277,13 @@ module _ (pid node start last : ℕ) where
   -- where one is at most
   one_over : (locks : Locks) → times (is_cut pid node start last) locks ≤ 1
       → IsReordered (rest_of pid node (over pid node start last None locks) ++ all_kept pid node start last locks) (each_to (lock_pieces pid node start last) locks)
-  unfolding rest_of
   one_over [] few = empty
-  one_over (lock ∷ locks) few = by (is_cut pid node start last lock) refl
+  one_over (lock ∷ locks) few = by (is_cut pid node start last lock) refl (one_over locks)
     where
       by : (b : Bool) → is_cut pid node start last lock ≡ b
+          → (times (is_cut pid node start last) locks ≤ 1 → IsReordered (rest_of pid node (over pid node start last None locks) ++ all_kept pid node start last locks) (each_to (lock_pieces pid node start last) locks))
           → IsReordered (rest_of pid node (over pid node start last None (lock ∷ locks)) ++ all_kept pid node start last (lock ∷ locks)) (each_to (lock_pieces pid node start last) (lock ∷ locks))
-      unfolding one_if
-      by true is =
+      by true is later_on =
           let none : times (is_cut pid node start last) locks ≡ 0 =
           omega (arith, few, times_more (is_cut pid node start last) lock locks ∙ ap (λ b. one_if b + times (is_cut pid node start last) locks) is) in
           let later = nothing_over (Some (beyond last lock.range)) locks none in
@@ -324,7 +296,7 @@ module _ (pid node start last : ℕ) where
           (subst (λ l. IsReordered (two ∷ (l ++ all_kept pid node start last locks)) (each_to (lock_pieces pid node start last) (lock ∷ locks))) (sym parts.1)
           (subst (λ l. IsReordered (two ∷ one ∷ l) (each_to (lock_pieces pid node start last) (lock ∷ locks))) (sym later.1)
           (subst (λ l. IsReordered (two ∷ one ∷ behind_it) (l ++ behind_it)) (sym parts.0) (swap two one behind_it))))
-      by false is =
+      by false is later_on =
           let fewer : times (is_cut pid node start last) locks ≤ 1 =
           omega (arith, few, times_more (is_cut pid node start last) lock locks ∙ ap (λ b. one_if b + times (is_cut pid node start last) locks) is) in
           let rest = rest_of pid node (over pid node start last None locks) in
@@ -334,10 +306,9 @@ module _ (pid node start last : ℕ) where
           (sym (is_cut_over pid node start last lock None false is))
           (subst (λ l. IsReordered (rest ++ (mine ++ all_kept pid node start last locks)) (l ++ behind_it)) (sym (not_cut pid node start last lock is))
           (trans (rest ++ (mine ++ all_kept pid node start last locks)) (mine ++ (rest ++ all_kept pid node start last locks)) (mine ++ behind_it)
-          (to_front rest mine (all_kept pid node start last locks)) (behind_others mine (one_over locks fewer))))
+          (to_front rest mine (all_kept pid node start last locks)) (behind_others mine (later_on fewer))))
 
   with_rest : (range : Option Range) (locks : Locks) → with_range pid node start last range locks ≡ rest_of pid node range ++ locks
-  unfolding rest_of
   with_rest None locks = refl
   with_rest (Some range) locks = refl
 

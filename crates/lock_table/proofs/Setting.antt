@@ -17,16 +17,14 @@ use Rattle.lock_table.proofs.Reordering.{all_still, among_still, back, behind_ot
 
 -- ---- what is asked for, with what it reaches
 
-grows : Range → Range → Range → Range
+abbrev grows : Range → Range → Range → Range
 grows asked wide range = cond (reaches asked range) (taking_in wide range) wide
 
-all_grown : Range → Range → List Range → Range
+abbrev all_grown : Range → Range → List Range → Range
 all_grown asked wide [] = wide
 all_grown asked wide (range ∷ ranges) = all_grown asked (grows asked wide range) ranges
 
 widened_grown : (pid node : ℕ) (asked wide : Range) (locks : Locks) → widened pid node asked wide locks ≡ all_grown asked wide (ranges_of locks pid node)
-unfolding all_grown
-unfolding grows
 widened_grown pid node asked wide [] = refl
 widened_grown pid node asked wide (lock ∷ locks) = elim (cases_Bool (is_of pid node lock)) [
   | inl own ↦
@@ -61,16 +59,14 @@ max_is a b = elim (cases_lt a b) [
 ]
 
 grown : (asked wide : Range) (ranges : List Range) → Grown asked wide (all_grown asked wide ranges) ranges
-unfolding all_grown
 grown asked wide [] = record { kind = refl; from = omega arith; to = omega arith; all = tt; start_is = inl refl; last_is = inl refl }
-grown asked wide (range ∷ ranges) = by (reaches asked range) refl
+grown asked wide (range ∷ ranges) = by (reaches asked range) refl (grown asked (taking_in wide range) ranges) (grown asked wide ranges)
   where
-    by : (b : Bool) → reaches asked range ≡ b → Grown asked wide (all_grown asked (grows asked wide range) ranges) (range ∷ ranges)
-    unfolding grows
-    by true is =
+    by : (b : Bool) → reaches asked range ≡ b → Grown asked (taking_in wide range) (all_grown asked (taking_in wide range) ranges) ranges → Grown asked wide (all_grown asked wide ranges) ranges
+        → Grown asked wide (all_grown asked (grows asked wide range) ranges) (range ∷ ranges)
+    by true is it as_it_was =
         subst (λ w. Grown asked wide (all_grown asked w ranges) (range ∷ ranges)) (sym (ap (λ c. cond c (taking_in wide range) wide) is))
-        (let it = grown asked (taking_in wide range) ranges in
-        let end = all_grown asked (taking_in wide range) ranges in record {
+        (record {
           kind = it.kind;
           from = omega (arith, it.from);
           to = omega (arith, it.to);
@@ -90,9 +86,9 @@ grown asked wide (range ∷ ranges) = by (reaches asked range) refl
             | inr among ↦ inr (inr among)
           ];
         })
-    by false is =
+    by false is taken it =
         subst (λ w. Grown asked wide (all_grown asked w ranges) (range ∷ ranges)) (sym (ap (λ c. cond c (taking_in wide range) wide) is))
-        (let it = grown asked wide ranges in record {
+        (record {
           kind = it.kind;
           from = it.from;
           to = it.to;
@@ -132,8 +128,6 @@ is_widened held locks pid node asked same =
 
 -- ---- setting
 
-asked_range : Request → Kind → Range
-asked_range asked kind = record { kind = kind; start = asked.start; last = asked.last }
 
 pub set_to_hold : (held locks : Locks) (pid node : ℕ) (range : Range) → IsReordered held locks → range.start ≤ range.last → range.last ≤ greatest
     → IsCanonical (ranges_of locks pid node)
@@ -184,11 +178,11 @@ ranges_append pid node (lock ∷ locks) others = elim (cases_Bool (is_of pid nod
 -- of what isn't a process's of a file it has none
 none_without : (pid node : ℕ) (locks : Locks) → ranges_of (without locks pid node) pid node ≡ []
 none_without pid node [] = refl
-none_without pid node (lock ∷ locks) = by (is_of pid node lock) refl
+none_without pid node (lock ∷ locks) = by (is_of pid node lock) refl (none_without pid node locks)
   where
-    by : (b : Bool) → is_of pid node lock ≡ b → ranges_of (cond (not b) (lock ∷ without locks pid node) (without locks pid node)) pid node ≡ []
-    by true is = none_without pid node locks
-    by false is = ranges_other pid node lock (without locks pid node) is ∙ none_without pid node locks
+    by : (b : Bool) → is_of pid node lock ≡ b → ranges_of (without locks pid node) pid node ≡ [] → ranges_of (cond (not b) (lock ∷ without locks pid node) (without locks pid node)) pid node ≡ []
+    by true is none = none
+    by false is none = ranges_other pid node lock (without locks pid node) is ∙ none
 
 -- who asks for another's, or of another file
 abbrev IsElse : ℕ → ℕ → ℕ → ℕ → Type 0
@@ -204,18 +198,19 @@ is_else pid node other number (inr differs) lock own =
 
 still_without : (pid node other number : ℕ) (locks : Locks) → IsElse pid node other number → ranges_of (without locks pid node) other number ≡ ranges_of locks other number
 still_without pid node other number [] differs = refl
-still_without pid node other number (lock ∷ locks) differs = by (is_of pid node lock) refl
+still_without pid node other number (lock ∷ locks) differs = by (is_of pid node lock) refl (still_without pid node other number locks differs)
   where
-    by_other : (c : Bool) → is_of other number lock ≡ c → ranges_of (lock ∷ without locks pid node) other number ≡ ranges_of (lock ∷ locks) other number
-    by_other true is =
-        ranges_own other number lock (without locks pid node) is ∙ ap (λ (l : List Range). lock.range ∷ l) (still_without pid node other number locks differs)
+    by_other : (c : Bool) → is_of other number lock ≡ c → ranges_of (without locks pid node) other number ≡ ranges_of locks other number
+        → ranges_of (lock ∷ without locks pid node) other number ≡ ranges_of (lock ∷ locks) other number
+    by_other true is same =
+        ranges_own other number lock (without locks pid node) is ∙ ap (λ (l : List Range). lock.range ∷ l) same
         ∙ sym (ranges_own other number lock locks is)
-    by_other false is =
-        ranges_other other number lock (without locks pid node) is ∙ still_without pid node other number locks differs ∙ sym (ranges_other other number lock locks is)
+    by_other false is same = ranges_other other number lock (without locks pid node) is ∙ same ∙ sym (ranges_other other number lock locks is)
 
-    by : (b : Bool) → is_of pid node lock ≡ b → ranges_of (cond (not b) (lock ∷ without locks pid node) (without locks pid node)) other number ≡ ranges_of (lock ∷ locks) other number
-    by true is = still_without pid node other number locks differs ∙ sym (ranges_other other number lock locks (differs lock is))
-    by false is = by_other (is_of other number lock) refl
+    by : (b : Bool) → is_of pid node lock ≡ b → ranges_of (without locks pid node) other number ≡ ranges_of locks other number
+        → ranges_of (cond (not b) (lock ∷ without locks pid node) (without locks pid node)) other number ≡ ranges_of (lock ∷ locks) other number
+    by true is same = same ∙ sym (ranges_other other number lock locks (differs lock is))
+    by false is same = by_other (is_of other number lock) refl same
 
 none_new : (pid node other number : ℕ) (ranges : List Range) → IsElse pid node other number → ranges_of (map (lock_of pid node) ranges) other number ≡ []
 none_new pid node other number [] differs = refl
