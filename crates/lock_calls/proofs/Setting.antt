@@ -162,3 +162,18 @@ slept script old pid which world stands unnamed = record {
     known = λ known. refl;
   };
 }
+
+-- so it is of some world that the store stood for
+pub table_set : (script : Script) (old mid : Objects) (pid : ℕ) (fd : ℤ) (asked : Request) (done : Result Bool Errno) → (world : World) × StandsFor script old world × IsSound world.plain
+    → ((s : Script) (world : World) → StandsFor s old world → IsSound world.plain → HasTried old mid world.plain pid fd asked done) → IsLockTable mid.heap.locks mid.locks
+table_set script old mid pid fd asked done some tries = table_tried old mid some.0.plain pid fd asked done (tries script some.0 some.1 some.2)
+
+pub some_set : (script : Script) (old mid : Objects) → IsWellFormed old.heap → (world : World) × StandsFor script old world × IsSound world.plain
+    → ((numbers : Numbers) (others : ℕ → ℕ) (files : Files) → HoldFiles numbers others old.heap old.procs old.tree files → HoldFiles numbers others mid.heap old.procs mid.tree files)
+    → HoldSome mid.heap old.procs mid.tree
+some_set script old mid well some holds = record {
+  numbers = some.1.files.numbers;
+  others = others_in some.0.plain;
+  files = some.0.plain.files;
+  hold = holds some.1.files.numbers (others_in some.0.plain) some.0.plain.files (holds_files script old some.0 some.1 well some.2);
+}

@@ -60,6 +60,7 @@ pub fn setlk(
     ensures paid { IsPaid objects.old.heap purse.old objects.new.heap purse.new }
     ensures does { Serves script.now objects.old caller.now.place.pid (Call.Setlk on.now.fd kind start length) (λ plain. setlk script.now plain caller.now.place.pid on.now.fd kind start length) result objects.new }
 {
+    objects.heap_is_well_formed();
     let range = range_of(kind, start, length);
     let reply = told(set_claimed(objects, purse, caller, on, &range));
     go_on(script, objects, caller, reply)
@@ -90,6 +91,7 @@ pub fn setlkw(
     ensures paid { IsPaid objects.old.heap purse.old objects.new.heap purse.new }
     ensures does { Serves script.now objects.old caller.now.place.pid (Call.Setlkw on.now.fd kind start length) (λ plain. setlkw script.now plain caller.now.place.pid on.now.fd kind start length) result objects.new }
 {
+    objects.heap_is_well_formed();
     let range = range_of(kind, start, length);
     if is_held_up(objects, caller.place, on, &range) {
         return wait(script, objects, caller);
