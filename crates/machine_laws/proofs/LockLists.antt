@@ -1,5 +1,5 @@
 -- What each process holds of each file, where locks go and where others come.
-use Rattle.std.proofs.Common.{◌≡◌, ◌≢◌, ℕ, ◌==◌, ◌&&◌, not, nat_le, Bool, true, false, cond, List, [], ◌∷◌, ◌++◌, map, Option, None, Some, is_none, refl, ap, sym, ◌∙◌, subst, ◌⊎◌, inl, inr, append-nil}
+use Rattle.std.proofs.Common.{◌≡◌, ◌≢◌, ℕ, ◌==◌, ◌&&◌, ◌||◌, not, nat_le, Bool, true, false, cond, List, [], ◌∷◌, ◌++◌, map, Option, None, Some, is_none, refl, ap, sym, ◌∙◌, subst, ◌⊎◌, inl, inr, append-nil}
 use Rattle.std.specs.List.{filter}
 use Rattle.std.proofs.lemmas.Bool.Decides.{eqb_tells}
 use Rattle.lock_ranges.specs.Ranges.{AreApart, IsCanonical, clashes, first_conflict, set}
@@ -7,7 +7,7 @@ use Rattle.lock_ranges.specs.declared.range.Kind.{Kind}
 use Rattle.lock_ranges.specs.declared.range.Range.{Range}
 use Rattle.lock_ranges.proofs.Conflicts.{apart_both, apart_held, apart_let_go}
 use Rattle.lock_ranges.proofs.Shape.{IsCanonical-set}
-use Rattle.posix_defs.specs.Locks.{Lock, Locks, Request, after_set, comes_first, first_in_way, first_of, first_with, is_in_way, is_of, lock_of, meets, ranges_of, with_ranges, without}
+use Rattle.posix_defs.specs.Locks.{Lock, Locks, Request, after_set, comes_first, first_in_way, first_of, first_with, is_in_way, is_of, lock_of, meets, ranges_of, stops, with_ranges, without}
 use Rattle.posix_defs.specs.Files.State.{let_go}
 use Rattle.posix_defs.specs.Calls.OnLocks.{is_clear}
 use Rattle.machine_laws.specs.FileSteps.{ArePlaces}
@@ -32,6 +32,10 @@ other_of a b differ = elim (eqb_tells a b) [ inl alike ↦ absurd (differ alike.
 both_true : (a b : Bool) → (a && b) ≡ true → (a ≡ true) × (b ≡ true)
 both_true true b e = (refl, e)
 both_true false b e = true_false false e refl
+
+either_true : (a b : Bool) → (a || b) ≡ true → (a ≡ true) ⊎ (b ≡ true)
+either_true true b e = inl refl
+either_true false b e = inr e
 
 and_false : (a : Bool) → (a && false) ≡ false
 and_false true = refl
@@ -266,3 +270,27 @@ held_before locks pid (Some node) who number some = elim (key pid node who numbe
 
 pub none_of_it : (locks : Locks) (pid : ℕ) (file : Option ℕ) (number : ℕ) → file ≡ Some number → ranges_of (let_go locks pid file) pid number ≡ []
 none_of_it locks pid file number is = ap (λ o. ranges_of (let_go locks pid o) pid number) is ∙ ranges_without pid number locks
+
+-- who stops another holds some of the file
+pub stopper_holds : (locks : Locks) (pid number by : ℕ) (asked : Request) → stops locks pid number asked by ≡ true → ranges_of locks by number ≢ []
+stopper_holds [] pid number by asked e = true_false false e refl
+stopper_holds (lock ∷ locks) pid number by asked e = go (is_of by number lock) refl (stopper_holds locks pid number by asked)
+  where
+    filled : is_of by number lock ≡ true → ranges_of (lock ∷ locks) by number ≢ []
+    filled is none = no (sym (ranges_own by number lock locks is) ∙ none)
+      where
+        no : lock.range ∷ ranges_of locks by number ≡ [] → ⊥
+        no f = cc
+
+    itself_in_way : (a b c d : Bool) → (a && (b && (c && d))) ≡ true → (a && c) ≡ true
+    itself_in_way true true true d f = refl
+    itself_in_way true true false d f = f
+    itself_in_way true false c d f = true_false false f refl
+    itself_in_way false b c d f = true_false false f refl
+
+    go : (b : Bool) → is_of by number lock ≡ b → (stops locks pid number asked by ≡ true → ranges_of locks by number ≢ []) → ranges_of (lock ∷ locks) by number ≢ []
+    go true is rest = filled is
+    go false is rest none = elim (either_true (lock.pid == by && is_in_way pid number asked lock) (stops locks pid number asked by) e) [
+      | inl this ↦ true_false (is_of by number lock) (itself_in_way (lock.pid == by) (not (lock.pid == pid)) (lock.node == number) (meets lock.range asked) this) is
+      | inr later ↦ rest later (sym (ranges_past by number lock locks is) ∙ none)
+    ]

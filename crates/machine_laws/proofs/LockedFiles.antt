@@ -1,21 +1,21 @@
 -- In every machine that is reached nobody holds places of a directory.
-use Rattle.std.proofs.Common.{◌≡◌, ◌≢◌, ℕ, zero, suc, Bool, true, false, List, [], ◌∷◌, length, Option, None, Some, refl, ap, sym, ◌∙◌, subst, inl, inr}
-use Rattle.std.specs.List.{filter, range_with_len}
-use Rattle.kabi_types.specs.Arguments.{argument_fault, count_of}
+use Rattle.std.proofs.Common.{◌≡◌, ◌≢◌, ℕ, zero, suc, Bool, true, false, List, [], ◌∷◌, length, replicate, Option, None, Some, refl, ap, sym, ◌∙◌, subst, inl, inr}
+use Rattle.std.specs.List.{filter, list_any, range_with_len}
+use Rattle.kabi_types.specs.Arguments.{argument_fault, count_of, most_descriptors}
 use Rattle.kabi_types.specs.declared.calls.Call.{Call}
 use Rattle.kabi_types.specs.declared.errnos.Errno.{Errno}
 use Rattle.kabi_types.specs.declared.scripts.Script.{Script}
 use Rattle.posix_defs.specs.Ending.{closed_by}
-use Rattle.posix_defs.specs.Locks.{Locks, after_set, ranges_of}
+use Rattle.posix_defs.specs.Locks.{Locks, Request, after_set, ranges_of, stops}
 use Rattle.posix_defs.specs.Machine.{answer_to, machine, unless_wrong}
 use Rattle.posix_defs.specs.Plain.{Plain, call_of, control_of}
 use Rattle.posix_defs.specs.Process.{is_alive}
 use Rattle.posix_defs.specs.Tree.{is_directory}
 use Rattle.posix_defs.specs.Files.Closing.{after_close, after_closes, after_end_of, after_ends_of, after_exec_of, all_numbers, close_in}
-use Rattle.posix_defs.specs.Files.Descriptors.{Descriptor, descriptor_at, is_cloexec}
+use Rattle.posix_defs.specs.Files.Descriptors.{Descriptor, descriptor_at, is_cloexec, none_open}
 use Rattle.posix_defs.specs.Files.Descriptions.{Target, OnNode, OnPipe, OnSocket, Description, description_at}
 use Rattle.posix_defs.specs.Files.State.{Files, descriptors_of, file_of_target, opened_file, with_locks}
-use Rattle.posix_defs.specs.Files.Whole.{AreLocks}
+use Rattle.posix_defs.specs.Files.Whole.{AreLocks, HasPlaces, has_open, opens_by}
 use Rattle.machine_laws.specs.FileSteps as step
 use Rattle.machine_laws.specs.FileSteps.{IsStep, LeadsTo}
 use Rattle.machine_laws.specs.Piped.{ArePiped}
@@ -25,7 +25,7 @@ use Rattle.machine_laws.proofs.Inductions.{by_induction}
 use Rattle.machine_laws.proofs.Joining.{Joined, joined_holds}
 use Rattle.machine_laws.proofs.Keeping.{Whole, reached_whole}
 use Rattle.machine_laws.proofs.Leading.{steps_lead}
-use Rattle.machine_laws.proofs.LockLists.{held_before, key, ranges_set_others}
+use Rattle.machine_laws.proofs.LockLists.{held_before, key, ranges_set_others, stopper_holds}
 use Rattle.machine_laws.proofs.Locking.{Locked, OpensFile, has_it_open, opens_it, reached_locked}
 use Rattle.machine_laws.proofs.Openers.{by_opener, node_in}
 use Rattle.machine_laws.proofs.Piping.{reached_piped}
@@ -207,3 +207,20 @@ are_locks script texts plain reached = let locked = reached_locked script plain 
   opened = λ pid number some. has_it_open plain.files pid number (locked.opened pid number some);
   files = reached_files script texts plain reached;
 }
+
+-- who stops another is alive
+pub stopper_lives : (plain : Plain) (pid number by : ℕ) (asked : Request) → AreLocks plain.files → HasPlaces plain → stops plain.files.locks pid number asked by ≡ true
+    → is_alive plain.table by ≡ true
+stopper_lives plain pid number by asked locks places stopped = go (is_alive plain.table by) refl
+  where
+    none_opens : (k : ℕ) → list_any (opens_by plain.files number) (replicate k None) ≡ false
+    none_opens zero = refl
+    none_opens (suc k) = none_opens k
+
+    go : (b : Bool) → is_alive plain.table by ≡ b → b ≡ true
+    go true is = refl
+    go false is = sym (opens_none is) ∙ locks.opened by number (stopper_holds plain.files.locks pid number by asked stopped)
+      where
+        opens_none : is_alive plain.table by ≡ false → has_open plain.files by number ≡ false
+        unfolding none_open
+        opens_none dead = ap (list_any (opens_by plain.files number)) (places.ended by dead) ∙ none_opens most_descriptors
