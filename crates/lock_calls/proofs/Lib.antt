@@ -1,0 +1,9 @@
+pub mod Requests
+pub mod Claims
+pub mod Holders
+pub mod Circles
+pub mod Beside
+pub mod Granting
+pub mod Setting
+pub mod Rows
+pub mod Blocking

@@ -1,10 +1,10 @@
 -- Who waits for whom, as a row of bits for each place of the table of processes.
-use Rattle.std.specs.Prelude.{ℕ, ◌≡◌, ◌<◌, cond, Bool, false, List, Option, None, Some, IfSome, slice_get, slice_index_or}
+use Rattle.std.specs.Prelude.{ℕ, ◌≡◌, ◌<◌, cond, not, Bool, false, List, Option, None, Some, IfSome, slice_get, slice_index}
 use Rattle.std.specs.Int.{bit_at}
 use Rattle.std.specs.Option.{option_map}
 use Rattle.kabi_types.specs.declared.scripts.Script.{Script}
 use Rattle.lock_table.specs.Holding.{asked_by}
-use Rattle.posix_defs.specs.Calls.OnLocks.{waits_for}
+use Rattle.posix_defs.specs.Calls.OnLocks.{Wanted as PlainWanted, is_clear, waits_for}
 use Rattle.posix_defs.specs.Locks.{Locks, stops}
 use Rattle.posix_defs.specs.Plain.{Plain}
 use Rattle.posix_defs.specs.World.{World}
@@ -17,6 +17,11 @@ use Rattle.lock_calls.specs.declared.waits.Wanted.{Wanted}
 -- the process of a place of the table
 abbrev pub pid_at : List Place → ℕ → Option ℕ
 pid_at listed at = option_map (λ place. place.pid) (slice_get listed at)
+
+-- a lock of another is in the way of what a process wants, if it wants something
+abbrev pub is_held_up : Locks → ℕ → Option PlainWanted → Bool
+is_held_up locks pid None = false
+is_held_up locks pid (Some wanted) = not (is_clear locks pid wanted.node wanted.asked)
 
 -- a bit that is set where this is so
 abbrev pub bit_if : Bool → ℕ
@@ -40,7 +45,7 @@ IsRowOf script objects pid row =
 
 -- each process has its row, at its place
 abbrev pub AreRows : Script → Objects → List ℕ → Type 0
-AreRows script objects rows = (at pid : ℕ) → pid_at objects.procs.listed at ≡ Some pid → IsRowOf script objects pid (slice_index_or rows at 0)
+AreRows script objects rows = (at pid : ℕ) → pid_at objects.procs.listed at ≡ Some pid → IsRowOf script objects pid (slice_index rows at)
 
 -- the same, if they are known
 abbrev pub AreKnown : Script → Objects → Option Waits → Type 0

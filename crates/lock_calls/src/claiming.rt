@@ -46,9 +46,13 @@ pub(crate) fn claimed(
     ensures stays { StaysOffNodes heap.now procs.now place.pid on.now.fd tree.old tree.new }
 {
     let file = file_of(heap, procs, tree, place, on)?;
-    match on.found {
-        Some(found) if may_hold(&found, kind) => Ok(file),
-        Some(_) | None => Err(Errno::EBADF),
+    let Some(found) = on.found else {
+        return Err(Errno::EBADF);
+    };
+    if may_hold(&found, kind) {
+        Ok(file)
+    } else {
+        Err(Errno::EBADF)
     }
 }
 

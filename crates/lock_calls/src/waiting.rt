@@ -1,20 +1,19 @@
 //! Whether a `setlkw` would sleep.
 
-ghost use Rattle.std.specs.Prelude.{◌≡◌, not};
+ghost use Rattle.std.specs.Prelude.{◌≡◌};
 ghost use Rattle.kabi_types.specs.declared.calls.Call.{Call};
-ghost use Rattle.lock_table.specs.Chain.{HoldsLocks, IsLockTable};
-ghost use Rattle.lock_table.specs.Holding.{asked_by};
-ghost use Rattle.posix_defs.specs.Calls.OnLocks.{circles, is_clear};
-ghost use Rattle.posix_defs.specs.Locks.{Locks};
+ghost use Rattle.posix_defs.specs.Calls.OnLocks.{circles};
 ghost use Rattle.posix_defs.specs.Machine.{blocks, machine};
 ghost use Rattle.posix_defs.specs.World.{World};
 ghost use Rattle.proc_table.specs.Table.{IsPlaced};
 ghost use Rattle.store_objects.specs.Objects.{AreKept};
 ghost use Rattle.store_objects.specs.Standing.{IsSound, StandsFor};
-ghost use Rattle.lock_calls.specs.Waiting.{AreKnown};
+ghost use Rattle.lock_calls.specs.Waiting.{AreKnown, AreRows};
 
-use crate::waits::{Waits, Wanted, wanted};
+use crate::requests::right_range;
+use crate::waits::{Waits, is_held_up};
 use kabi_types::Script;
+use proc_numbers::opened;
 use proc_table::Place;
 use store_objects::Objects;
 
@@ -38,24 +37,15 @@ pub fn lock_would_block(
     ensures blocks { (world : World) → StandsFor script.now objects.now world → IsSound world.plain
         → result ≡ blocks (machine script.now world.plain place.pid (Call.Setlkw fd kind start length)) }
 {
-    match wanted(objects, place, fd, kind, start, length) {
-        Some(wanted) => {
-            is_stopped(objects, place, &wanted) && !circles(script, objects, waits, place)
-        }
-        None => false,
+    let Some(range) = right_range(fd, kind, start, length) else {
+        return false;
+    };
+    let on = opened(&objects.heap, &objects.procs, place, fd);
+    if is_held_up(objects, place, &on, &range) {
+        !circles(script, objects, waits, place)
+    } else {
+        false
     }
-}
-
-/// Whether a lock of another process is in the way.
-fn is_stopped(objects: &Objects, place: Place, wanted: &Wanted) -> bool
-    requires { IsLockTable objects.now.heap.locks objects.now.locks }
-    ensures { (locks : Locks) → HoldsLocks objects.now.heap.locks objects.now.locks locks
-        → result ≡ not (is_clear locks place.pid wanted.now.node (asked_by wanted.now.range)) }
-{
-    let first = objects
-        .locks
-        .conflict(&objects.heap, wanted.node, place.pid, &wanted.range);
-    first.is_some()
 }
 
 /// Whether a chain of waits leads from a process back to itself.
@@ -66,10 +56,19 @@ fn circles(script: &Script, objects: &Objects, waits: &mut Option<Waits>, place:
     ensures known { AreKnown script.now objects.now waits.new }
     ensures circles { (world : World) → StandsFor script.now objects.now world → IsSound world.plain → result ≡ circles script.now world.plain place.pid }
 {
-    let known = match waits {
-        Some(known) => *known,
-        None => Waits::of(script, objects),
-    };
+    let known = known_or_found(script, objects, *waits);
     *waits = Some(known);
     known.circle(objects, place.pid)
+}
+
+/// Who waits for whom: what is known already, or what is found now.
+fn known_or_found(script: &Script, objects: &Objects, waits: Option<Waits>) -> Waits
+    requires kept { AreKept script.now objects.now }
+    requires known { AreKnown script.now objects.now waits }
+    ensures { AreRows script.now objects.now result.rows }
+{
+    match waits {
+        Some(known) => known,
+        None => Waits::of(script, objects),
+    }
 }

@@ -1,27 +1,33 @@
 //! Who waits for whom.
 
-ghost use Rattle.std.specs.Prelude.{◌≡◌, ◌<◌, ◌≤◌, ◌×◌, ℕ, IsSome, None, Some, false, length, true};
+ghost use Rattle.std.specs.Prelude.{◌≡◌, ◌<◌, ◌≤◌, ◌×◌, ℕ, IsSome, None, Some, false, length, not, true};
 ghost use Rattle.std.specs.Int.{bit_at};
 ghost use Rattle.kabi_types.specs.declared.calls.Call.{Call};
+ghost use Rattle.kheap_slabs.specs.Heap.{Heap};
 ghost use Rattle.kabi_types.specs.declared.scripts.Script.{Script as ScriptOf};
 ghost use Rattle.lock_table.specs.Chain.{HoldsLocks, IsLockTable};
 ghost use Rattle.lock_table.specs.Holding.{asked_by};
-ghost use Rattle.posix_defs.specs.Calls.OnLocks.{circles, wanted_by};
+ghost use Rattle.open_laws.specs.Placed.{Numbers};
+ghost use Rattle.posix_defs.specs.Calls.OnLocks.{circles, is_clear, wanted_by, wanted_on};
+ghost use Rattle.posix_defs.specs.Calls.Opened.{opened_at};
+ghost use Rattle.posix_defs.specs.Files.State.{Files};
 ghost use Rattle.posix_defs.specs.Locks.{Locks, stops};
 ghost use Rattle.posix_defs.specs.Plain.{call_of};
 ghost use Rattle.posix_defs.specs.Process.{is_alive};
 ghost use Rattle.posix_defs.specs.World.{World};
-ghost use Rattle.proc_table.specs.Table.{IsPlaced, key_of};
+ghost use Rattle.proc_numbers.specs.Found.{IsOpened};
+ghost use Rattle.proc_numbers.specs.Having.{HaveOpen};
+ghost use Rattle.proc_table.specs.Table.{IsPlaced, TableView, key_of};
 ghost use Rattle.store_objects.specs.Objects.{AreKept};
 ghost use Rattle.store_objects.specs.Standing.{IsSound, StandsFor};
 ghost use Rattle.lock_calls.specs.Claiming.{all_wanted};
-ghost use Rattle.lock_calls.specs.Waiting.{AreRows, IsRowOf, bit_if, pid_at, stops_at};
+ghost use Rattle.lock_calls.specs.Waiting.{AreRows, IsRowOf, bit_if, is_held_up, pid_at, stops_at};
 
 use crate::claiming::{may_hold, node_of};
 use crate::requests::right_range;
 use kabi_types::Script;
 use lock_table::LockRange;
-use proc_numbers::opened;
+use proc_numbers::{Named, opened};
 use proc_table::Place;
 use prog_ctl::{Awaited, wait_here};
 use store_objects::Objects;
@@ -32,9 +38,9 @@ const MOST: usize = 64;
 
 /// The places of a file for which a process would wait.
 #[derive(Clone, Copy)]
-pub(crate) struct Wanted {
-    pub(crate) node: u32,
-    pub(crate) range: LockRange,
+struct Wanted {
+    node: u32,
+    range: LockRange,
 }
 
 /// For each process that is there, at its place among these, those that hold what is in its way, as bits: none where its next call
@@ -70,9 +76,27 @@ impl Waits {
     }
 }
 
-/// For which places of a file a number asks, with these operands of a `setlkw`; None where it would be refused before it waits. Whether
-/// the node is a directory isn't looked at, of which nobody holds places.
-pub(crate) fn wanted(
+/// For which places of a file a number asks; None where it would be refused before it waits. Whether the node is a directory isn't looked
+/// at, of which nobody holds places.
+fn wanted_on(on: &Named, range: LockRange) -> Option<Wanted>
+    ensures { (h : Heap) (kept : TableView) (pid : ℕ) (numbers : Numbers) (files : Files) → IsOpened h kept pid on.now → HaveOpen numbers h kept files
+        → all_wanted files.tree result ≡ wanted_on files (asked_by range) (opened_at files pid on.now.fd) }
+{
+    let Some(found) = on.found else {
+        return None;
+    };
+    let Some(node) = node_of(found.desc.target) else {
+        return None;
+    };
+    if may_hold(&found, range.kind) {
+        Some(Wanted { node, range })
+    } else {
+        None
+    }
+}
+
+/// The same by the operands of a `setlkw`.
+fn wanted(
     objects: &Objects,
     place: Place,
     fd: i64,
@@ -85,14 +109,36 @@ pub(crate) fn wanted(
     ensures { (script : ScriptOf) (world : World) → StandsFor script objects.now world
         → all_wanted world.plain.files.tree result ≡ wanted_by world.plain.files place.pid (Call.Setlkw fd kind start length) }
 {
-    let range = right_range(fd, kind, start, length)?;
-    let found = opened(&objects.heap, &objects.procs, place, fd).found?;
-    let node = node_of(found.desc.target)?;
-    if may_hold(&found, range.kind) {
-        Some(Wanted { node, range })
-    } else {
-        None
+    let Some(range) = right_range(fd, kind, start, length) else {
+        return None;
+    };
+    let on = opened(&objects.heap, &objects.procs, place, fd);
+    wanted_on(&on, range)
+}
+
+/// Whether another process's lock is in the way of the places for which a number asks, if they may be asked for through it.
+pub(crate) fn is_held_up(objects: &Objects, place: Place, on: &Named, range: &LockRange) -> bool
+    requires kept { (script : ScriptOf) × AreKept script objects.now }
+    requires opened { IsOpened objects.now.heap objects.now.procs place.pid on.now }
+    ensures { (script : ScriptOf) (world : World) → StandsFor script objects.now world → IsSound world.plain
+        → result ≡ is_held_up world.plain.files.locks place.pid (wanted_on world.plain.files (asked_by range.now) (opened_at world.plain.files place.pid on.now.fd)) }
+{
+    match wanted_on(on, *range) {
+        Some(wanted) => is_stopped(objects, place.pid, &wanted),
+        None => false,
     }
+}
+
+/// Whether another process's lock is in the way of what one wants.
+fn is_stopped(objects: &Objects, pid: u32, wanted: &Wanted) -> bool
+    requires { IsLockTable objects.now.heap.locks objects.now.locks }
+    ensures { (locks : Locks) → HoldsLocks objects.now.heap.locks objects.now.locks locks
+        → result ≡ not (is_clear locks pid wanted.now.node (asked_by wanted.now.range)) }
+{
+    let first = objects
+        .locks
+        .conflict(&objects.heap, wanted.node, pid, &wanted.range);
+    first.is_some()
 }
 
 /// For which places a process that is there would wait with its next call, if it stands at such a call.

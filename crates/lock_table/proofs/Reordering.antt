@@ -6,6 +6,10 @@ use Rattle.lock_ranges.specs.Widening.{IsAmong}
 use Rattle.lock_ranges.specs.declared.range.Range.{Range}
 use Rattle.lock_table.specs.Reordered.{IsReordered, empty, more, swap, trans}
 
+abbrev pub one_if : Bool → ℕ
+one_if true = 1
+one_if false = 0
+
 module _ {X : Type 0} where
   pub same_list : (xs : List X) → IsReordered xs xs
   same_list [] = empty
@@ -35,7 +39,7 @@ module _ {X : Type 0} where
   before_others zs (trans xs ys us so also) = trans (xs ++ zs) (ys ++ zs) (us ++ zs) (before_others zs so) (before_others zs also)
 
   pub behind_others : (zs : List X) {xs ys : List X} → IsReordered xs ys → IsReordered (zs ++ xs) (zs ++ ys)
-  behind_others [] so = so
+  behind_others [] {xs} {ys} so = so
   behind_others (z ∷ zs) {xs} {ys} so = more z (zs ++ xs) (zs ++ ys) (behind_others zs so)
 
   pub from_middle : (xs : List X) (x : X) (ys : List X) → IsReordered (xs ++ x ∷ ys) (x ∷ (xs ++ ys))
@@ -63,7 +67,7 @@ module _ {X : Type 0} where
 
   filter_one : (p : X → Bool) (x : X) {xs ys : List X} → IsReordered xs ys → (b : Bool) → IsReordered (cond b (x ∷ xs) xs) (cond b (x ∷ ys) ys)
   filter_one p x {xs} {ys} so true = more x xs ys so
-  filter_one p x so false = so
+  filter_one p x {xs} {ys} so false = so
 
   filter_two : (x y : X) (xs : List X) (b c : Bool) → IsReordered (cond b (x ∷ cond c (y ∷ xs) xs) (cond c (y ∷ xs) xs)) (cond c (y ∷ cond b (x ∷ xs) xs) (cond b (x ∷ xs) xs))
   filter_two x y xs true true = swap x y xs
@@ -97,27 +101,20 @@ module _ {X : Type 0} where
 
   -- ---- how many pass a test
 
-  pub one_if : Bool → ℕ
-  one_if true = 1
-  one_if false = 0
-
-  pub times : (X → Bool) → List X → ℕ
+  abbrev pub times : (X → Bool) → List X → ℕ
   times p [] = 0
   times p (x ∷ xs) = one_if (p x) + times p xs
 
   pub as_often : (p : X → Bool) {xs ys : List X} → IsReordered xs ys → times p xs ≡ times p ys
-  unfolding times
   as_often p empty = refl
   as_often p (more x xs ys so) = ap (λ n. one_if (p x) + n) (as_often p so)
   as_often p (swap x y xs) = omega arith
   as_often p (trans xs ys zs so also) = as_often p so ∙ as_often p also
 
   pub times_more : (p : X → Bool) (x : X) (xs : List X) → times p (x ∷ xs) ≡ one_if (p x) + times p xs
-  unfolding times
   times_more p x xs = refl
 
   pub times_none : (p : X → Bool) → times p [] ≡ 0
-  unfolding times
   times_none p = refl
 
   -- ---- members

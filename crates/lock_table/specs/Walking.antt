@@ -1,9 +1,7 @@
 -- The chain of locks while it is walked, and while it is made anew.
 use Rattle.std.specs.Prelude.{◌≡◌, ℕ, zero, suc, ◌≤◌, List, [], ◌++◌, Option, None, Some, length}
-use Rattle.kheap_slabs.specs.Heap.{Heap}
 use Rattle.kheap_slabs.specs.Keys.{AreKeysOf}
 use Rattle.kheap_slabs.specs.Objects.{object, count, put, without}
-use Rattle.kheap_slabs.specs.Paid.{TakesNothing}
 use Rattle.kheap_slabs.specs.declared.objects.Lock.{Lock as HeldLock}
 use Rattle.lock_ranges.specs.declared.range.Range.{Range}
 use Rattle.posix_defs.specs.Locks.{Locks}
@@ -29,21 +27,19 @@ pub record Walks (objects : List (Option HeldLock)) (at : Option ℕ) (P : Locks
   pub few : length keys ≤ count objects
   pub so : P rest
 
--- those that stayed are chained anew, and those that stand here and behind still as they were; what becomes of all is what becomes of
--- these from here on
-pub record Cuts (old new : Heap) (first at : Option ℕ) (over_now : Option Range) (pid node start last : ℕ) (locks : Locks) : Type 0 where
+-- Those that stayed are chained anew, and those that stand here and behind still as they were, of which there are no more than that;
+-- what becomes of all is what becomes of these from here on.
+pub record Cuts (objects : List (Option HeldLock)) (most : ℕ) (first at : Option ℕ) (left : Option Range) (pid node start last : ℕ) (locks : Locks) : Type 0 where
   pub done_keys : List ℕ
   pub done : Locks
-  pub anew : Chained new.locks first done_keys done
+  pub anew : Chained objects first done_keys done
   pub keys : List ℕ
   pub rest : Locks
-  pub chained : Chained new.locks at keys rest
-  pub are : AreKeysOf new.locks (done_keys ++ keys)
-  pub few : length keys ≤ count old.locks
+  pub chained : Chained objects at keys rest
+  pub are : AreKeysOf objects (done_keys ++ keys)
+  pub few : length keys ≤ most
   pub cut_is : cut pid node start last done rest ≡ cut pid node start last [] locks
-  pub over_is : over pid node start last over_now rest ≡ over pid node start last None locks
-  pub kept : new ≡ record old { locks = new.locks }
-  pub takes : TakesNothing old new
+  pub over_is : over pid node start last left rest ≡ over pid node start last None locks
 
 -- ---- one lock of the chain
 

@@ -1,6 +1,6 @@
 //! What is asked for and told, and what one lock does to either.
 
-ghost use Rattle.std.specs.Prelude.{◌≡◌, ℕ, ◌&&◌, List, Option};
+ghost use Rattle.std.specs.Prelude.{◌≡◌, ◌==◌, ◌&&◌};
 ghost use Rattle.std.specs.Option.{option_map};
 ghost use Rattle.lock_ranges.specs.Widening.{reaches};
 ghost use Rattle.posix_defs.specs.Calls.OnLocks.{kind_asked, kind_told};
@@ -93,11 +93,24 @@ fn meets(range: &Range, asked: &LockRange) -> bool
     }
 }
 
-/// It is another process's, of the same file, and in the way of what this process asks for.
-pub(crate) fn is_in_way(lock: &Lock, node: u32, pid: u32, asked: &LockRange) -> bool
+// It is another process's, of the same file, and in the way of what this process asks for.
+fn is_in_way(lock: &Lock, node: u32, pid: u32, asked: &LockRange) -> bool
     ensures { result ≡ is_in_way pid node (asked_by asked.now) (plain_of lock.now) }
 {
     lock.pid != pid && lock.node == node && meets(&lock.range, asked)
+}
+
+/// It is so, and one process's.
+pub(crate) fn stands_in_way(
+    lock: &Lock,
+    node: u32,
+    pid: u32,
+    asked: &LockRange,
+    by: u32,
+) -> bool
+    ensures { result ≡ (lock.now.pid == by && is_in_way pid node (asked_by asked.now) (plain_of lock.now)) }
+{
+    lock.pid == by && is_in_way(lock, node, pid, asked)
 }
 
 // By start, then by pid.

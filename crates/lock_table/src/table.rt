@@ -11,7 +11,9 @@ ghost use Rattle.lock_table.specs.Holding.{IsAsked, asked_by, earliest, info_of}
 ghost use Rattle.lock_table.specs.Setting.{cut, held_wide, let_go, over, widened};
 ghost use Rattle.lock_table.specs.Walking.{chained_again, first_again};
 
-use crate::locks::{LockInfo, LockRange, earlier, is_in_way, kept_by, over_by, told, widened_by};
+use crate::locks::{
+    LockInfo, LockRange, earlier, kept_by, over_by, stands_in_way, told, widened_by,
+};
 use kabi_types::Class;
 use kheap_slabs::{KHeap, Lock, Purse};
 use lock_ranges::Range;
@@ -146,7 +148,7 @@ impl LockTable {
         let mut at = self.first;
         'chain: while let Some(key) = at {
             let lock = heap.get_lock(key);
-            if lock.pid == by && is_in_way(lock, node, pid, range) {
+            if stands_in_way(lock, node, pid, range, by) {
                 return true;
             }
             at = lock.next;

@@ -1,22 +1,24 @@
 -- A circle of waits is a chain from a process to itself, and who stands in one doesn't sleep in it.
-use Rattle.std.proofs.Common.{◌≡◌, ℕ, zero, suc, ◌+◌, ◌<◌, ◌≤◌, ◌==◌, ◌&&◌, ◌||◌, ℤ, Bool, true, false, cond, List, [], ◌∷◌, length, Option, None, Some, is_none, Result, Ok, Err, refl, ap, sym, ◌∙◌, subst, ◌⊎◌, inl, inr, arith, Contains}
+use Rattle.std.proofs.Common.{◌≡◌, ◌≢◌, ℕ, zero, suc, ◌+◌, ◌-◌, nat_lt, ◌<◌, ◌≤◌, ◌==◌, ◌&&◌, ◌||◌, ℤ, Bool, true, false, cond, List, [], ◌∷◌, length, Option, None, Some, is_none, Result, Ok, Err, refl, ap, sym, ◌∙◌, subst, ◌⊎◌, inl, inr, arith, Contains}
 use Rattle.std.specs.List.{filter, list_any, range_with_len}
 use Rattle.std.proofs.lemmas.List.FromFn.{length-range_with_len, get_or-range_with_len}
-use Rattle.kabi_types.specs.Arguments.{argument_fault}
+use Rattle.std.specs.Option.{option_or}
+use Rattle.kabi_types.specs.Arguments.{argument_fault, count_of, greatest_place, invalid_unless, is_from, is_within}
 use Rattle.kabi_types.specs.declared.calls.Call.{Call}
 use Rattle.kabi_types.specs.declared.calls.Call.TheVariants as call
 use Rattle.kabi_types.specs.declared.errnos.Errno.{Errno}
-use Rattle.kabi_types.specs.declared.errnos.Errno.TheVariants.{EDEADLK}
+use Rattle.kabi_types.specs.declared.errnos.Errno.TheVariants.{EBADF, EDEADLK, EOVERFLOW}
+use Rattle.kabi_types.specs.declared.replies.Reply.TheVariants.{Fail}
 use Rattle.kabi_types.specs.declared.scripts.Script.{Script}
 use Rattle.kern_laws.proofs.Families.{alive_there}
 use Rattle.kern_laws.proofs.TablePlaces.{was_made}
-use Rattle.posix_defs.specs.Answer.{Answer, Blocked, failed}
+use Rattle.posix_defs.specs.Answer.{Answer, Blocked, Done, failed}
 use Rattle.posix_defs.specs.Locks.{Lock, Locks, Request, comes_first, first_of, first_with, is_in_way, stops}
 use Rattle.posix_defs.specs.Machine.{blocks, machine, unless_wrong, would_block}
 use Rattle.posix_defs.specs.Plain.{Plain, call_of, last_pid}
 use Rattle.posix_defs.specs.Process.{is_alive}
 use Rattle.posix_defs.specs.Calls.Opened.{Opened, answer_on, opened_at}
-use Rattle.posix_defs.specs.Calls.OnLocks.{circles, claimed, granted_or, is_clear, is_stopped_by, leads, request_of, setlkw, waits_for, wanted_by, wanted_of, wanted_on}
+use Rattle.posix_defs.specs.Calls.OnLocks.{circles, claim_of, claimed, file_of, granted, granted_or, is_clear, is_stopped_by, leads, may_hold, request_of, setlkw, waits_for, wanted_by, wanted_of, wanted_on}
 use Rattle.machine_laws.specs.Chains as chain
 use Rattle.machine_laws.specs.Chains.{Chain, among, anyone}
 use Rattle.machine_laws.specs.Placed.{IsPlaced}
@@ -107,7 +109,7 @@ module _ (waits : ℕ → ℕ → Bool) where
 
 -- ---- circles
 
-who_is_made : (n pid : ℕ) → 0 < pid → pid ≤ n → among (range_with_len 1 n) pid
+pub who_is_made : (n pid : ℕ) → 0 < pid → pid ≤ n → among (range_with_len 1 n) pid
 who_is_made n zero h below = absurd (omega arith)
 who_is_made n (suc i) h below = (i, subst (λ m. i < m) (sym (length-range_with_len 1 n)) (omega arith), get_or-range_with_len 1 n i (suc i) (omega arith) ∙ next)
   where
@@ -165,7 +167,7 @@ module _ (script : Script) (plain : Plain) (pid : ℕ) where
       → granted_or script plain pid (request_of kind start size) Stopped r ≡ Stopped
   stopped_at fd kind start size other (Err e) stopped = no stopped
   stopped_at fd kind start size other (Ok number) stopped =
-      ap (λ b. cond b _ Stopped) (some_first plain.files.locks pid number other (request_of kind start size) stopped)
+      ap (λ b. cond b (granted script plain pid number (request_of kind start size)) Stopped) (some_first plain.files.locks pid number other (request_of kind start size) stopped)
 
   by_call : (which : Call) (other : ℕ) → is_stopped_by plain.files.locks pid other (wanted_by plain.files pid which) ≡ true → machine script plain pid which ≡ Stopped
   unfolding setlkw
@@ -203,7 +205,7 @@ module _ (script : Script) (plain : Plain) (pid : ℕ) where
 
       claims : (r : Result ℕ Errno) → blocks (granted_or script plain pid (request_of kind start size) Stopped r) ≡ false
       claims (Err e) = refl
-      claims (Ok number) = clear (is_clear plain.files.locks pid number (request_of kind start size)) _ refl
+      claims (Ok number) = clear (is_clear plain.files.locks pid number (request_of kind start size)) (granted script plain pid number (request_of kind start size)) refl
 
       on : (o : Option Opened) → blocks (answer_on script plain pid (λ opened. granted_or script plain pid (request_of kind start size) Stopped (claimed plain.files opened (request_of kind start size).kind)) o) ≡ false
       on None = refl
@@ -212,6 +214,58 @@ module _ (script : Script) (plain : Plain) (pid : ℕ) where
       go : (fault : Option Errno) → blocks (unless_wrong script plain pid fault (setlkw script plain pid fd kind start size)) ≡ false
       go None = on (opened_at plain.files pid fd)
       go (Some e) = refl
+
+  -- a fault of what is asked for is never EDEADLK
+  abbrev IsOther : Result ℕ Errno → Type 0
+  IsOther (Ok number) = Unit {0}
+  IsOther (Err e) = e ≢ EDEADLK
+
+  other_claim : (opened : Opened) (asked : Request) → IsOther (claimed plain.files opened asked.kind)
+  other_claim opened asked = go (file_of plain.files.tree opened.is.target)
+    where
+      may : (number : ℕ) (b : Bool) → IsOther (cond b (Ok number) (Err EBADF))
+      may number true = tt
+      may number false = λ e. cc
+
+      go : (o : Option ℕ) → IsOther (claim_of opened.is.access asked.kind o)
+      go None = λ e. cc
+      go (Some number) = may number (may_hold opened.is.access asked.kind)
+
+  other_fault : (right beyond : Bool) → option_or (invalid_unless right) (cond beyond (Some EOVERFLOW) None) ≡ Some EDEADLK → ⊥
+  other_fault false beyond e = cc
+  other_fault true true e = cc
+  other_fault true false e = cc
+
+  -- who is told EDEADLK stands in a circle
+  pub told_in_a_circle : (fd kind start size : ℤ) (next : Plain) → machine script plain pid (call.Setlkw fd kind start size) ≡ Done (Fail EDEADLK) next → circles script plain pid ≡ true
+  unfolding setlkw
+  told_in_a_circle fd kind start size next told = go (argument_fault (call.Setlkw fd kind start size)) refl told
+    where
+      same_errno : (e : Errno) → failed script plain pid e ≡ Done (Fail EDEADLK) next → e ≡ EDEADLK
+      same_errno e is = cc
+
+      stopped : (b : Bool) → cond b (failed script plain pid EDEADLK) Blocked ≡ Done (Fail EDEADLK) next → b ≡ true
+      stopped true is = refl
+      stopped false is = cc
+
+      clear : (number : ℕ) (b : Bool) → cond b (granted script plain pid number (request_of kind start size)) Stopped ≡ Done (Fail EDEADLK) next → circles script plain pid ≡ true
+      clear number true is = cc
+      clear number false is = stopped (circles script plain pid) is
+
+      claims : (r : Result ℕ Errno) → IsOther r → granted_or script plain pid (request_of kind start size) Stopped r ≡ Done (Fail EDEADLK) next → circles script plain pid ≡ true
+      claims (Err e) other is = absurd (other (same_errno e is))
+      claims (Ok number) other is = clear number (is_clear plain.files.locks pid number (request_of kind start size)) is
+
+      on : (o : Option Opened) → answer_on script plain pid (λ opened. granted_or script plain pid (request_of kind start size) Stopped (claimed plain.files opened (request_of kind start size).kind)) o
+          ≡ Done (Fail EDEADLK) next → circles script plain pid ≡ true
+      on None is = cc
+      on (Some opened) is = claims (claimed plain.files opened (request_of kind start size).kind) (other_claim opened (request_of kind start size)) is
+
+      go : (fault : Option Errno) → argument_fault (call.Setlkw fd kind start size) ≡ fault → unless_wrong script plain pid fault (setlkw script plain pid fd kind start size) ≡ Done (Fail EDEADLK) next
+          → circles script plain pid ≡ true
+      go None fine is = on (opened_at plain.files pid fd) is
+      go (Some e) fault is = absurd (other_fault (is_within 0 2 kind && (is_from 0 start && is_from 0 size)) (nat_lt greatest_place (count_of start + (count_of size - 1)))
+          (fault ∙ ap (λ errno. Some errno) (same_errno e is)))
 
 -- who would sleep in a `setlkw` stands in no circle
 pub sleeps_in_none : (script : Script) (plain : Plain) (pid : ℕ) (fd kind start size : ℤ) → IsReached script plain → call_of script plain pid ≡ call.Setlkw fd kind start size

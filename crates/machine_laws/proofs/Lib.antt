@@ -37,6 +37,7 @@ pub mod LockLists
 pub mod Locking
 pub mod LockLess
 pub mod Chains
+pub mod LockedFiles
 pub mod Wholeness
 pub mod Waiting
 pub mod Histories

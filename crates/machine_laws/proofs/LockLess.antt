@@ -5,9 +5,10 @@ use Rattle.kabi_types.specs.Arguments.{count_of, locked_fault}
 use Rattle.kabi_types.specs.declared.calls.Call.{Call}
 use Rattle.kabi_types.specs.declared.calls.Call.TheVariants as calls
 use Rattle.kabi_types.specs.declared.errnos.Errno.{Errno}
+use Rattle.kabi_types.specs.declared.errnos.Errno.TheVariants.{EAGAIN, EDEADLK}
 use Rattle.kabi_types.specs.declared.scripts.Script.{Script}
 use Rattle.lock_ranges.specs.declared.range.Range.{Range}
-use Rattle.posix_defs.specs.Answer.{Answer}
+use Rattle.posix_defs.specs.Answer.{Answer, Blocked, failed}
 use Rattle.posix_defs.specs.Ending.{closed_by, die}
 use Rattle.posix_defs.specs.Locks.{Locks, ranges_of, without}
 use Rattle.posix_defs.specs.Machine.{machine, unless_wrong}
@@ -18,7 +19,7 @@ use Rattle.posix_defs.specs.Files.Descriptors.{Descriptor, descriptor_at, is_clo
 use Rattle.posix_defs.specs.Files.Descriptions.{description_at}
 use Rattle.posix_defs.specs.Files.State.{Files, descriptors_of, let_go, opened_file}
 use Rattle.posix_defs.specs.Calls.Opened.{Opened, answer_on, opened_at}
-use Rattle.posix_defs.specs.Calls.OnLocks.{claimed, granted, granted_or, is_clear, request_of, setlk, setlkw}
+use Rattle.posix_defs.specs.Calls.OnLocks.{circles, claimed, granted, granted_or, is_clear, request_of, setlk, setlkw}
 use Rattle.kern_laws.proofs.Bareness.{none_open_at}
 use Rattle.machine_laws.specs.FileSteps as step
 use Rattle.machine_laws.specs.FileSteps.{IsStep, LeadsTo, is_setting}
@@ -39,13 +40,13 @@ ended_holds_none script plain reached pid number dead = go (ranges_of plain.file
     some : (range : Range) (ranges : List Range) → range ∷ ranges ≡ [] → ⊥
     some range ranges e = cc
 
-    open : OpensFile plain.files pid number → ⊥
-    open opens = let placed : IsPlaced plain = (reached_keeps reached).0 in let places = placed.places in
+    has_none : OpensFile plain.files pid number → ⊥
+    has_none opens = let placed : IsPlaced plain = (reached_keeps reached).0 in let places = placed.places in
         not_some (ap (λ list. descriptor_at list opens.fd) (places.ended pid dead) ∙ none_open_at opens.fd) opens.held
 
     go : (ranges : List Range) → ranges_of plain.files.locks pid number ≡ ranges → ranges ≡ []
     go [] is = refl
-    go (range ∷ ranges) is = absurd (open (let locked = reached_locked script plain reached in locked.open pid number (λ none. some range ranges (sym is ∙ none))))
+    go (range ∷ ranges) is = absurd (has_none (let locked = reached_locked script plain reached in locked.opened pid number (λ none. some range ranges (sym is ∙ none))))
 
 -- ---- nobody holds a lock
 
@@ -123,7 +124,7 @@ module _ (plain : Plain) (pid : ℕ) (call : Call) (next : Files) (none : HasNon
   step_none (step.accepts fd opened place to taken named on free first is) = same _ is refl
   step_none (step.receives fd addr n opened place k which named on moves is) = same _ is refl
   step_none (step.sends fd addr n done opened place k which named on moves is) = same _ is refl
-  step_none (step.locks fd opened number asked sets named target places clear is) = absurd (true_false (is_setting call) sets other)
+  step_none (step.locks fd opened number asked sets named target file places clear is) = absurd (true_false (is_setting call) sets other)
   step_none (step.starts is) = by _ is (exec_none plain.files pid none)
   step_none (step.forks which is) = same _ is refl
   step_none (step.ends_caller over ending is) = by _ is (closed_none plain.files pid none)
@@ -162,5 +163,5 @@ nothing_in_way script plain pid fd kind start size none = go (locked_fault 2 kin
     on one two (Some opened) = claims one two (claimed plain.files opened (request_of kind start size).kind)
 
     go : (fault : Option Errno) → unless_wrong script plain pid fault (setlkw script plain pid fd kind start size) ≡ unless_wrong script plain pid fault (setlk script plain pid fd kind start size)
-    go None = on _ _ (opened_at plain.files pid fd)
+    go None = on (cond (circles script plain pid) (failed script plain pid EDEADLK) Blocked) (failed script plain pid EAGAIN) (opened_at plain.files pid fd)
     go (Some e) = refl

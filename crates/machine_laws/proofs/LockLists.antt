@@ -250,7 +250,7 @@ module _ (locks : Locks) (held : AreHeldApart locks) where
       (subst IsCanonical (sym is) (IsCanonical-set (ranges_of locks pid node) asked.kind asked.start asked.last (held.canonical pid node) places.0 places.1))
       (λ other differ. subst (λ list. AreApart list (ranges_of locks other node)) (sym is)
       (stay_apart (ranges_of locks pid node) (ranges_of locks other node) asked (held.canonical pid node) places
-      (clear_of locks pid node other asked differ (none_first _ clear)) (held.apart pid other node (λ e. differ (sym e)))))
+      (clear_of locks pid node other asked differ (none_first (filter (is_in_way pid node asked) locks) clear)) (held.apart pid other node (λ e. differ (sym e)))))
       (λ who number others. ranges_set_others locks pid node (set (ranges_of locks pid node) asked.kind asked.start asked.last) who number others)
     where
       is : ranges_of (after_set locks pid node asked) pid node ≡ set (ranges_of locks pid node) asked.kind asked.start asked.last

@@ -15,7 +15,7 @@ use Rattle.posix_defs.specs.Files.Closing.{after_close, after_closes, after_end_
 use Rattle.posix_defs.specs.Files.Descriptors.{Descriptor, Two, descriptor_at, is_cloexec, is_named, lowest_free, two_lowest_free, with_descriptor}
 use Rattle.posix_defs.specs.Files.Descriptions.{Description, OnNode, access_of, description_at, may_write, with_description}
 use Rattle.posix_defs.specs.Files.State.{Files, HalfOpen, described_as, descriptors_of, file_of_target, is_number, let_go, opened_as, opened_file, pipe_at, with_descriptions, with_heir, with_locks, with_open, with_opening, with_openings, with_pipe, with_pipes}
-use Rattle.posix_defs.specs.Files.Whole.{AreLocks, has_open, opens_by}
+use Rattle.posix_defs.specs.Files.Whole.{has_open, opens_by}
 use Rattle.posix_defs.specs.Calls.Opened.{Opened, opened_at}
 use Rattle.posix_defs.specs.Calls.OnDescriptors.{cloexec_set}
 use Rattle.posix_defs.specs.Calls.OnLocks.{is_clear}
@@ -162,12 +162,12 @@ still_free files (suc i) fd other descriptor apart free = elim (below_or_not (le
 -- Locks are held apart, and who holds some of a file has it open.
 pub record Locked (files : Files) : Type 0 where
   pub apart : AreHeldApart files.locks
-  pub open : (pid number : ℕ) → ranges_of files.locks pid number ≢ [] → OpensFile files pid number
+  pub opened : (pid number : ℕ) → ranges_of files.locks pid number ≢ [] → OpensFile files pid number
 
 relocked : (old new : Files) → Locked old → StaysOpen old new → new.locks ≡ old.locks → Locked new
 relocked old new locked stays same = record {
   apart = subst AreHeldApart (sym same) locked.apart;
-  open = λ pid number some. opens_still old new pid number stays (locked.open pid number (subst (λ locks. ranges_of locks pid number ≢ []) same some));
+  opened = λ pid number some. opens_still old new pid number stays (locked.opened pid number (subst (λ locks. ranges_of locks pid number ≢ []) same some));
 }
 
 -- ---- closing
@@ -193,7 +193,7 @@ released_keeps files place other named = go (is_named files.descriptors place) r
     go false is = gone is (description_at files.descriptions place)
 
 module _ (files : Files) (pid fd : ℕ) (descriptor : Descriptor) (is : descriptor_at (descriptors_of files pid) fd ≡ Some descriptor) where
-  file : Option ℕ
+  abbrev file : Option ℕ
   file = opened_file (description_at files.descriptions descriptor.description)
 
   -- what another number names stays
@@ -209,7 +209,6 @@ module _ (files : Files) (pid fd : ℕ) (descriptor : Descriptor) (is : descript
   }
 
   open_still : (who number : ℕ) → ranges_of (let_go files.locks pid file) who number ≢ [] → OpensFile files who number → OpensFile (close_in files pid fd (Some descriptor)) who number
-  unfolding file
   open_still who number some opens = elim (eqb_tells who pid) [
     | inr apart ↦ others_open who number opens (ap (λ list. descriptor_at list opens.fd) (others_after files pid who fd None apart.1) ∙ opens.held)
     | inl alike ↦ own alike.1
@@ -230,15 +229,14 @@ module _ (files : Files) (pid fd : ℕ) (descriptor : Descriptor) (is : descript
               (ap (λ w. descriptor_at (descriptors_of files w) fd) (sym this) ∙ ap (descriptor_at (descriptors_of files who)) (sym here) ∙ opens.held)) ∙ opens.file
 
 close_locked : (files : Files) (pid fd : ℕ) → Locked files → Locked (after_close files pid fd)
-unfolding file
 close_locked files pid fd locked = go (descriptor_at (descriptors_of files pid) fd) refl
   where
     go : (o : Option Descriptor) → descriptor_at (descriptors_of files pid) fd ≡ o → Locked (close_in files pid fd o)
     go None is = locked
     go (Some descriptor) is = record {
       apart = going_apart files.locks locked.apart pid (opened_file (description_at files.descriptions descriptor.description));
-      open = λ who number some. open_still files pid fd descriptor is who number some
-          (locked.open who number (held_before files.locks pid (opened_file (description_at files.descriptions descriptor.description)) who number some));
+      opened = λ who number some. open_still files pid fd descriptor is who number some
+          (locked.opened who number (held_before files.locks pid (opened_file (description_at files.descriptions descriptor.description)) who number some));
     }
 
 closes_locked : (files : Files) (pid : ℕ) (fds : List ℕ) → Locked files → Locked (after_closes files pid fds)
@@ -258,10 +256,20 @@ ends_locked : (files : Files) (pids : List ℕ) → Locked files → Locked (aft
 ends_locked files [] locked = locked
 ends_locked files (pid ∷ pids) locked = ends_locked (after_end_of files pid) pids (end_locked files pid locked)
 
-closed_locked : (files : Files) (pid : ℕ) → Locked files → Locked (closed_by files pid)
+pub closed_locked : (files : Files) (pid : ℕ) → Locked files → Locked (closed_by files pid)
 closed_locked files zero locked = end_locked files zero locked
 closed_locked files (suc zero) locked = ends_locked files (range_with_len 1 (length files.descriptors)) locked
 closed_locked files (suc (suc pid)) locked = end_locked files (suc (suc pid)) locked
+
+-- what the descriptor of a call is open on is open
+pub opens_it : (plain : Plain) (pid : ℕ) (fd : ℤ) (opened : Opened) (number : ℕ) → opened_at plain.files pid fd ≡ Some opened → opened.is.target ≡ OnNode number → OpensFile plain.files pid number
+opens_it plain pid (pos fd) opened number named target = let naming_it = naming plain.files pid (pos fd) opened named in record {
+  fd = fd;
+  descriptor = naming_it.descriptor;
+  held = naming_it.held;
+  file = ap (λ place. opened_file (description_at plain.files.descriptions place)) naming_it.place ∙ ap opened_file naming_it.there ∙ ap file_of_target target;
+}
+opens_it plain pid (negsuc n) opened number named target = let naming_it = naming plain.files pid (negsuc n) opened named in absurd (not_some refl naming_it.held)
 
 -- ---- steps
 
@@ -270,7 +278,7 @@ module _ (plain : Plain) (pid : ℕ) (call : Call) (next : Files) (locked : Lock
   by after is holds = subst Locked (sym is) holds
 
   stays : (after : Files) → next ≡ after → StaysOpen plain.files after → after.locks ≡ plain.files.locks → Locked next
-  stays after is open locks = by after is (relocked plain.files after locked open locks)
+  stays after is kept locks = by after is (relocked plain.files after locked kept locks)
 
   same : (after : Files) → next ≡ after → after.descriptors ≡ plain.files.descriptors → after.descriptions ≡ plain.files.descriptions → after.locks ≡ plain.files.locks → Locked next
   same after is descriptors descriptions locks = stays after is (stays_same plain.files after descriptors descriptions) locks
@@ -283,7 +291,7 @@ module _ (plain : Plain) (pid : ℕ) (call : Call) (next : Files) (locked : Lock
       (opened_stays files pid fd cloexec description (ap (λ list. descriptor_at list fd) (same_of plain.files files descriptors pid) ∙ free.1))
 
   waited : (files : Files) (openings : List (Option HalfOpen)) → StaysOpen plain.files files → StaysOpen plain.files (with_openings files openings)
-  waited files openings open = stays_on plain.files files (with_openings files openings) open (stays_same files (with_openings files openings) refl refl)
+  waited files openings kept = stays_on plain.files files (with_openings files openings) kept (stays_same files (with_openings files openings) refl refl)
 
   two_stay : (files : Files) (two : Two) (first_is second_is : Description) → files.descriptors ≡ plain.files.descriptors → files.descriptions ≡ plain.files.descriptions
       → two_lowest_free (descriptors_of plain.files pid) ≡ Some two → StaysOpen plain.files (opened_as (opened_as files pid two.first false first_is) pid two.second false second_is)
@@ -308,27 +316,17 @@ module _ (plain : Plain) (pid : ℕ) (call : Call) (next : Files) (locked : Lock
   marked fd cloexec = number_stays plain.files pid fd (cloexec_set cloexec (descriptor_at (descriptors_of plain.files pid) fd))
       (λ was is. (record was { cloexec = cloexec }, ap (cloexec_set cloexec) is, refl))
 
-  -- what the descriptor of the call is open on is open
-  opens_it : (fd : ℤ) (opened : Opened) (number : ℕ) → opened_at plain.files pid fd ≡ Some opened → opened.is.target ≡ OnNode number → OpensFile plain.files pid number
-  opens_it (pos fd) opened number named target = let naming_it = naming plain.files pid (pos fd) opened named in record {
-    fd = fd;
-    descriptor = naming_it.descriptor;
-    held = naming_it.held;
-    file = ap (λ place. opened_file (description_at plain.files.descriptions place)) naming_it.place ∙ ap opened_file naming_it.there ∙ ap file_of_target target;
-  }
-  opens_it (negsuc n) opened number named target = let naming_it = naming plain.files pid (negsuc n) opened named in absurd (not_some refl naming_it.held)
-
   sets : (fd : ℤ) (opened : Opened) (number : ℕ) (asked : Request) → opened_at plain.files pid fd ≡ Some opened → opened.is.target ≡ OnNode number → ArePlaces asked
       → is_clear plain.files.locks pid number asked ≡ true → Locked (with_locks plain.files (after_set plain.files.locks pid number asked))
-  sets fd opened number asked named target places clear = record { apart = setting_apart plain.files.locks locked.apart pid number asked places clear; open = open }
+  sets fd opened number asked named target places clear = record { apart = setting_apart plain.files.locks locked.apart pid number asked places clear; opened = opened_after }
     where
       still : (who node : ℕ) → OpensFile plain.files who node → OpensFile (with_locks plain.files (after_set plain.files.locks pid number asked)) who node
       still who node opens = opens_still plain.files (with_locks plain.files (after_set plain.files.locks pid number asked)) who node (stays_same _ _ refl refl) opens
 
-      open : (who node : ℕ) → ranges_of (after_set plain.files.locks pid number asked) who node ≢ [] → OpensFile (with_locks plain.files (after_set plain.files.locks pid number asked)) who node
-      open who node some = still who node (elim (key pid number who node) [
-        | inl this ↦ subst (λ w. OpensFile plain.files w node) (sym this.0) (subst (OpensFile plain.files pid) (sym this.1) (opens_it fd opened number named target))
-        | inr others ↦ locked.open who node (λ none. some (ranges_set_others plain.files.locks pid number _ who node others ∙ none))
+      opened_after : (who node : ℕ) → ranges_of (after_set plain.files.locks pid number asked) who node ≢ [] → OpensFile (with_locks plain.files (after_set plain.files.locks pid number asked)) who node
+      opened_after who node some = still who node (elim (key pid number who node) [
+        | inl this ↦ subst (λ w. OpensFile plain.files w node) (sym this.0) (subst (OpensFile plain.files pid) (sym this.1) (opens_it plain pid fd opened number named target))
+        | inr others ↦ locked.opened who node (λ none. some (ranges_set_others plain.files.locks pid number _ who node others ∙ none))
       ])
 
   step_locked : {goes_on : Bool} → IsStep plain pid call goes_on next → Locked next
@@ -366,7 +364,7 @@ module _ (plain : Plain) (pid : ℕ) (call : Call) (next : Files) (locked : Lock
   step_locked (step.accepts fd opened place to taken named on free first is) = stays _ is (one _ to _ _ refl refl free) refl
   step_locked (step.receives fd addr n opened place k which named on moves is) = same _ is refl refl refl
   step_locked (step.sends fd addr n done opened place k which named on moves is) = same _ is refl refl refl
-  step_locked (step.locks fd opened number asked setting named target places clear is) = by _ is (sets fd opened number asked named target places clear)
+  step_locked (step.locks fd opened number asked setting named target file places clear is) = by _ is (sets fd opened number asked named target places clear)
   step_locked (step.starts is) = by _ is (exec_locked plain.files pid locked)
   step_locked (step.forks which is) = stays _ is (heir_stays plain.files pid) refl
   step_locked (step.ends_caller over ending is) = by _ is (closed_locked plain.files pid locked)
@@ -376,15 +374,8 @@ module _ (plain : Plain) (pid : ℕ) (call : Call) (next : Files) (locked : Lock
 
 pub reached_locked : (script : Script) (plain : Plain) → IsReached script plain → Locked plain.files
 reached_locked script plain reached = by_induction script (λ plain. Locked plain.files) (record {
-  boot = record { apart = nobody_holds; open = λ pid number some. absurd (some refl) };
+  boot = record { apart = nobody_holds; opened = λ pid number some. absurd (some refl) };
   answer = λ plain pid reached locked alive. answers_keep Locked script plain pid (call_of script plain pid) (λ goes_on next stepped. step_locked plain pid (call_of script plain pid) next locked stepped);
   refuse = λ plain pid reached locked. locked;
   kill = λ plain pid status reached locked. closed_locked plain.files pid locked;
 }) reached
-
-pub are_locks : (script : Script) (plain : Plain) → IsReached script plain → AreLocks plain.files
-are_locks script plain reached = let locked = reached_locked script plain reached in let apart = locked.apart in record {
-  canonical = apart.canonical;
-  apart = apart.apart;
-  open = λ pid number some. has_it_open plain.files pid number (locked.open pid number some);
-}

@@ -79,8 +79,8 @@ end_openings files pid flags fd number = go (fifo_at files number)
 
 -- what the operands of a call on record locks ask for are places of a file
 ends_there : (most start size : ℕ) → start + (size - 1) ≤ most → (start ≤ cond (size == 0) most (start + size - 1)) × (cond (size == 0) most (start + size - 1) ≤ most)
-ends_there most start zero h = (omega arith, omega arith)
-ends_there most start (suc n) h = (omega arith, omega arith)
+ends_there most start zero h = (let low : start ≤ most = (let from : start + 0 ≤ most = h in omega arith) in low, let high : most ≤ most = omega arith in high)
+ends_there most start (suc n) h = (let low : start ≤ start + suc n - 1 = omega arith in low, let high : start + suc n - 1 ≤ most = (let from : start + n ≤ most = h in omega arith) in high)
 
 ends_before : (right beyond : Bool) → option_or (invalid_unless right) (cond beyond (Some EOVERFLOW) None) ≡ None → beyond ≡ false
 ends_before right false e = refl
@@ -364,16 +364,16 @@ module _ (script : Script) (plain : Plain) (pid : ℕ) (which : Call) where
       → Stepped plain pid which stopped → Stepped plain pid which (granted_or script plain pid asked stopped (claimed plain.files opened asked.kind))
   grants fd opened asked stopped sets is places rest = on opened.is.target refl
     where
-      may : (number : ℕ) → opened.is.target ≡ OnNode number → (b : Bool) → Stepped plain pid which (granted_or script plain pid asked stopped (cond b (Ok number) (Err EBADF)))
-      may number target true = either (is_clear plain.files.locks pid number asked) _ stopped (λ clear. step.locks fd opened number asked sets is target places clear refl) (λ no. rest)
-      may number target false = step.stays refl
+      may : (number : ℕ) → opened.is.target ≡ OnNode number → is_directory plain.files.tree number ≡ false → (b : Bool) → Stepped plain pid which (granted_or script plain pid asked stopped (cond b (Ok number) (Err EBADF)))
+      may number target is_file true = either (is_clear plain.files.locks pid number asked) _ stopped (λ clear. step.locks fd opened number asked sets is target is_file places clear refl) (λ no. rest)
+      may number target is_file false = step.stays refl
 
-      file : (number : ℕ) → opened.is.target ≡ OnNode number → (b : Bool) → Stepped plain pid which (granted_or script plain pid asked stopped (claim_of opened.is.access asked.kind (cond b None (Some number))))
-      file number target true = step.stays refl
-      file number target false = may number target (may_hold opened.is.access asked.kind)
+      file : (number : ℕ) → opened.is.target ≡ OnNode number → (b : Bool) → is_directory plain.files.tree number ≡ b → Stepped plain pid which (granted_or script plain pid asked stopped (claim_of opened.is.access asked.kind (cond b None (Some number))))
+      file number target true is_directory_it = step.stays refl
+      file number target false is_file = may number target is_file (may_hold opened.is.access asked.kind)
 
       on : (target : Target) → opened.is.target ≡ target → Stepped plain pid which (granted_or script plain pid asked stopped (claim_of opened.is.access asked.kind (file_of plain.files.tree target)))
-      on (OnNode number) target = file number target (is_directory plain.files.tree number)
+      on (OnNode number) target = file number target (is_directory plain.files.tree number) refl
       on (OnPipe place) target = step.stays refl
       on (OnSocket place) target = step.stays refl
 

@@ -217,7 +217,7 @@ pub data IsStep (plain : Plain) (pid : ℕ) (call : Call) (goes_on : Bool) (next
 
   -- a process holds places of a file as it asks to, or lets them go, where nothing of another is in the way
   locks : (fd : ℤ) (opened : Opened) (number : ℕ) (asked : Request) → is_setting call ≡ true → opened_at plain.files pid fd ≡ Some opened → opened.is.target ≡ OnNode number
-      → ArePlaces asked → is_clear plain.files.locks pid number asked ≡ true
+      → is_directory plain.files.tree number ≡ false → ArePlaces asked → is_clear plain.files.locks pid number asked ≡ true
       → next ≡ with_locks plain.files (after_set plain.files.locks pid number asked) → IsStep plain pid call goes_on next
   -- ---- processes
 

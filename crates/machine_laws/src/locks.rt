@@ -7,7 +7,7 @@ ghost use Rattle.kabi_types.specs.declared.errnos.Errno.TheVariants.{EDEADLK, EN
 ghost use Rattle.kabi_types.specs.declared.replies.Reply.TheVariants.{Fail};
 ghost use Rattle.kabi_types.specs.declared.scripts.Script.{Script};
 ghost use Rattle.lock_ranges.specs.Ranges.{IsCanonical, clashes, kind_at};
-ghost use Rattle.posix_defs.specs.Answer.{Blocked, failed};
+ghost use Rattle.posix_defs.specs.Answer.{Blocked, Done, failed};
 ghost use Rattle.posix_defs.specs.Calls.OnLocks.{circles, leads, waits_for};
 ghost use Rattle.posix_defs.specs.Ending.{die};
 ghost use Rattle.posix_defs.specs.Files.Whole.{has_open};
@@ -31,7 +31,7 @@ pub fn no_two_processes_hold_a_place_that_they_cant_share()
 /// Who holds places of a file has it open, so who has ended holds none: with each descriptor of a file that a process closes, in whatever
 /// way, its locks of that file go.
 pub fn who_has_ended_holds_no_lock()
-    ensures open { (script : Script) (plain : Plain) → IsReached script plain → (pid number : ℕ) → ranges_of plain.files.locks pid number ≢ []
+    ensures opened { (script : Script) (plain : Plain) → IsReached script plain → (pid number : ℕ) → ranges_of plain.files.locks pid number ≢ []
         → has_open plain.files pid number ≡ true }
     ensures ended { (script : Script) (plain : Plain) → IsReached script plain → (pid number : ℕ) → is_alive plain.table pid ≡ false
         → ranges_of plain.files.locks pid number ≡ [] }
@@ -46,11 +46,14 @@ pub fn a_circle_is_a_chain()
         → ((circles script plain pid ≡ true) ↔ Chain (waits_for script plain) anyone pid pid) }
 {}
 
-/// Who stands at a `setlkw` and waits for another is answered EDEADLK where it would wait for itself, and else sleeps. No call of who
-/// would wait for itself sleeps; so who sleeps in a `setlkw` stands in no chain that is closed, whoever else sleeps.
+/// Who stands at a `setlkw` and waits for another is answered EDEADLK where it would wait for itself, and else sleeps; and who is told
+/// EDEADLK would wait for itself. No call of who would wait for itself sleeps; so who sleeps in a `setlkw` stands in no chain that is
+/// closed, whoever else sleeps.
 pub fn a_circle_is_refused_and_never_slept_in()
     ensures answered { (script : Script) (plain : Plain) (pid other : ℕ) → waits_for script plain pid other ≡ true
         → machine script plain pid (call_of script plain pid) ≡ (if circles script plain pid then failed script plain pid EDEADLK else Blocked) }
+    ensures told { (script : Script) (plain next : Plain) (pid : ℕ) (fd kind start size : ℤ)
+        → machine script plain pid (Setlkw fd kind start size) ≡ Done (Fail EDEADLK) next → circles script plain pid ≡ true }
     ensures refused { (script : Script) (plain : Plain) (pid : ℕ) (fd kind start size : ℤ) → circles script plain pid ≡ true
         → blocks (machine script plain pid (Setlkw fd kind start size)) ≡ false }
     ensures slept { (script : Script) (plain : Plain) (pid : ℕ) (fd kind start size : ℤ) → IsReached script plain

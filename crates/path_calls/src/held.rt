@@ -1,6 +1,6 @@
 //! Who holds which nodes, told while the heap is lent to the tree.
 
-ghost use Rattle.std.specs.Prelude.{◌≡◌, ◌&&◌, ℕ, [], Some, false, nat_lt};
+ghost use Rattle.std.specs.Prelude.{◌≡◌, ◌&&◌, ℕ, [], Some, false, nat_lt, true};
 ghost use Rattle.kheap_slabs.specs.Objects.{InUse, object};
 ghost use Rattle.kheap_slabs.specs.declared.objects.Descriptor.{Descriptor as HeldDescriptor};
 ghost use Rattle.kheap_slabs.specs.declared.objects.Proc.{Proc};
@@ -70,7 +70,7 @@ fn add_leaf(heap: &KHeap, leaf: Option<u32>, no_fifo: bool, nodes: &mut NodeSet)
     add_row(heap, &heap.get_leaf(key).descriptors, no_fifo, nodes);
 }
 
-// The nodes that these descriptors are open on.
+// The nodes that these descriptors are open on. Where no FIFO is open no pipe is asked for its own.
 fn add_row(
     heap: &KHeap,
     row: &[Option<Descriptor>; 32],
@@ -82,39 +82,67 @@ fn add_row(
     requires named { (fd : ℕ) (held : HeldDescriptor) → object row.now fd ≡ Some held → InUse heap.now.descs held.desc }
     ensures { Adds nodes.old nodes.new (some_opens heap.now row.now) }
 {
+    if no_fifo {
+        add_files(heap, row, nodes);
+    } else {
+        add_nodes(heap, row, nodes);
+    }
+}
+
+// The same where no FIFO is open.
+fn add_files(heap: &KHeap, row: &[Option<Descriptor>; 32], nodes: &mut NodeSet)
+    requires fifos { HasNoFifo heap.now true }
+    requires named { (fd : ℕ) (held : HeldDescriptor) → object row.now fd ≡ Some held → InUse heap.now.descs held.desc }
+    ensures { Adds nodes.old nodes.new (some_opens heap.now row.now) }
+{
     for descriptor in row {
         if let Some(held) = descriptor {
-            add_opened(heap, heap.get_desc(held.desc), no_fifo, nodes);
+            add_file(heap, heap.get_desc(held.desc), nodes);
+        }
+    }
+}
+
+// The file or the directory that a description is open on, if it is open on one.
+fn add_file(_heap: &KHeap, desc: &Desc, nodes: &mut NodeSet)
+    requires { HasNoFifo _heap.now true }
+    ensures { Adds nodes.old nodes.new (λ number. is_number number (node_in _heap.now.pipes desc.now.target)) }
+{
+    if let Target::Inode(node) = desc.target {
+        nodes.add(node);
+    }
+}
+
+// The same where a pipe may be a FIFO's.
+fn add_nodes(heap: &KHeap, row: &[Option<Descriptor>; 32], nodes: &mut NodeSet)
+    requires owners { HasItsOwners heap.now [] }
+    requires named { (fd : ℕ) (held : HeldDescriptor) → object row.now fd ≡ Some held → InUse heap.now.descs held.desc }
+    ensures { Adds nodes.old nodes.new (some_opens heap.now row.now) }
+{
+    for descriptor in row {
+        if let Some(held) = descriptor {
+            add_opened(heap, heap.get_desc(held.desc), nodes);
         }
     }
 }
 
 // The node that a description opens, if it opens one.
-fn add_opened(heap: &KHeap, desc: &Desc, no_fifo: bool, nodes: &mut NodeSet)
-    requires target { IsTargetIn heap.now desc.now.target }
-    requires fifos { HasNoFifo heap.now no_fifo }
+fn add_opened(heap: &KHeap, desc: &Desc, nodes: &mut NodeSet)
+    requires { IsTargetIn heap.now desc.now.target }
     ensures { Adds nodes.old nodes.new (λ number. is_number number (node_in heap.now.pipes desc.now.target)) }
 {
-    if let Some(node) = node_of(heap, desc.target, no_fifo) {
+    if let Some(node) = node_of(heap, desc.target) {
         nodes.add(node);
     }
 }
 
-// The node of a target; an end of a FIFO's pipe has that of the FIFO. Where no FIFO is open no pipe is asked.
-fn node_of(heap: &KHeap, target: Target, no_fifo: bool) -> Option<u32>
-    requires target { IsTargetIn heap.now target }
-    requires fifos { HasNoFifo heap.now no_fifo }
+// The node of a target; an end of a FIFO's pipe has that of the FIFO.
+fn node_of(heap: &KHeap, target: Target) -> Option<u32>
+    requires { IsTargetIn heap.now target }
     ensures { result ≡ node_in heap.now.pipes target }
 {
     match target {
         Target::Inode(node) => Some(node),
-        Target::Pipe(key) => {
-            if no_fifo {
-                None
-            } else {
-                pipe_fifo(heap, key)
-            }
-        }
+        Target::Pipe(key) => pipe_fifo(heap, key),
         Target::Sock(_) => None,
     }
 }

@@ -113,11 +113,12 @@ abbrev pub has_open : Files → ℕ → ℕ → Bool
 has_open files pid number = list_any (opens_by files number) (descriptors_of files pid)
 
 -- Of locks: what a process holds of a file lies apart, and is one range where it touches; no two processes hold a place that they can't
--- both hold so; and who holds some of a file has it open.
+-- both hold so; who holds some of a file has it open, and it is no directory.
 pub record AreLocks (files : Files) : Type 0 where
   pub canonical : (pid number : ℕ) → IsCanonical (ranges_of files.locks pid number)
   pub apart : (pid other number : ℕ) → pid ≢ other → AreApart (ranges_of files.locks pid number) (ranges_of files.locks other number)
   pub opened : (pid number : ℕ) → ranges_of files.locks pid number ≢ [] → has_open files pid number ≡ true
+  pub files : (pid number : ℕ) → ranges_of files.locks pid number ≢ [] → is_directory files.tree number ≡ false
 
 -- ---- half-done writes
 

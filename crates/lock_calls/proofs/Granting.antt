@@ -1,0 +1,39 @@
+-- What a request is answered, by what came of it.
+use Rattle.std.proofs.Common.{◌≡◌, ℕ, ℤ, pos, Bool, true, false, cond, Option, None, Some, Result, Ok, Err, refl, ap, sym, ◌∙◌, subst}
+use Rattle.kabi_types.specs.declared.errnos.Errno.{Errno}
+use Rattle.kabi_types.specs.declared.errnos.Errno.TheVariants.{EAGAIN, EBADF, EDEADLK}
+use Rattle.kabi_types.specs.declared.replies.Reply.TheVariants.{Fail, Val}
+use Rattle.kabi_types.specs.declared.scripts.Script.{Script}
+use Rattle.posix_defs.specs.Answer.{Answer, Blocked, failed, replied}
+use Rattle.posix_defs.specs.Calls.OnLocks.{circles, claimed, granted, granted_or, is_clear, request_of, setlk, setlkw}
+use Rattle.posix_defs.specs.Calls.Opened.{Opened, answer_on, opened_at}
+use Rattle.posix_defs.specs.Files.State.{with_locks}
+use Rattle.posix_defs.specs.Locks.{Request, after_set}
+use Rattle.posix_defs.specs.Plain.{Plain, with_files}
+use Rattle.store_objects.specs.declared.objects.Objects.{Objects}
+use Rattle.lock_calls.specs.Claiming.{claimed_by}
+use Rattle.lock_calls.specs.Setting.{HasTried, locks_after, told_of}
+
+module _ (script : Script) (plain : Plain) (pid : ℕ) (asked : Request) (stopped : Answer) where
+  by_open : (o : Option Opened)
+      → answer_on script plain pid (λ opened. granted_or script plain pid asked stopped (claimed plain.files opened asked.kind)) o ≡ granted_or script plain pid asked stopped (claimed_by plain.files asked.kind o)
+  by_open None = refl
+  by_open (Some opened) = refl
+
+  -- it was set, or another's lock was in the way
+  pub by_clear : (number : ℕ) (set : Bool) → set ≡ is_clear plain.files.locks pid number asked
+      → granted_or script plain pid asked stopped (Ok number) ≡ cond set (granted script plain pid number asked) stopped
+  by_clear number set is = ap (λ b. cond b (granted script plain pid number asked) stopped) (sym is)
+
+module _ (script : Script) (plain : Plain) (pid : ℕ) (fd kind start length : ℤ) where
+  abbrev asked : Request
+  asked = request_of kind start length
+
+  pub setlk_is : setlk script plain pid fd kind start length ≡ granted_or script plain pid asked (failed script plain pid EAGAIN) (claimed_by plain.files asked.kind (opened_at plain.files pid fd))
+  unfolding setlk
+  setlk_is = by_open script plain pid asked (failed script plain pid EAGAIN) (opened_at plain.files pid fd)
+
+  pub setlkw_is : setlkw script plain pid fd kind start length
+      ≡ granted_or script plain pid asked (cond (circles script plain pid) (failed script plain pid EDEADLK) Blocked) (claimed_by plain.files asked.kind (opened_at plain.files pid fd))
+  unfolding setlkw
+  setlkw_is = by_open script plain pid asked (cond (circles script plain pid) (failed script plain pid EDEADLK) Blocked) (opened_at plain.files pid fd)
