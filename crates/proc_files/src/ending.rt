@@ -85,7 +85,9 @@ pub fn close_each(
     }
     let marks = all_marks();
     let below = reach_of(heap, procs, place);
-    close_marked(heap, purse, procs, tree, names, fifos, locks, place, &marks, below);
+    close_marked(
+        heap, purse, procs, tree, names, fifos, locks, place, &marks, below,
+    );
     is_well_formed(heap);
 }
 
@@ -137,7 +139,9 @@ pub fn close_at_exec(
 {
     let below = reach_of(heap, procs, place);
     let marks = marks_of(heap, procs, place, below);
-    close_marked(heap, purse, procs, tree, names, fifos, locks, place, &marks, below);
+    close_marked(
+        heap, purse, procs, tree, names, fifos, locks, place, &marks, below,
+    );
 }
 
 // Whether nothing is open in a process.
@@ -271,7 +275,9 @@ fn close_marked(
 {
     for fd in 0..below {
         let marked = mark_at(marks, fd);
-        close_if(heap, purse, procs, tree, names, fifos, locks, place, fd, marked);
+        close_if(
+            heap, purse, procs, tree, names, fifos, locks, place, fd, marked,
+        );
     }
 }
 

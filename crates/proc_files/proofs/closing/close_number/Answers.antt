@@ -38,7 +38,7 @@ returns-clause-answers c = λ numbers others script plain hold.
         files = after_close plain.files c.args.place.pid (count_of c.args.on.now.fd);
         replies = on_it numbers c.args.heap.now c.args.procs.now script plain c.args.place.pid hold.held.opened c.args.on.now.fd (held_in c.in-Some.found) c.in-Some.found.desc (is_held c.args.heap.now c.args.procs.now c.args.place.pid c.args.on.now c.requires.opened c.in-Some.found c.in-Some.is) (is_there c.args.heap.now c.args.procs.now c.args.place.pid c.args.on.now c.requires.opened c.in-Some.found c.in-Some.is) _;
         holds = subst (λ n. HoldNames numbers others c.close_open.new.heap c.args.procs.now c.close_open.new.tree c.close_open.new.names (after_close plain.files c.args.place.pid n)) count
-          (c.close_open.ensures.closed numbers others plain.files hold);
+            (c.close_open.ensures.closed numbers others plain.files hold);
       };
       locks = λ held.
           subst (λ n. HoldsLocks c.close_open.new.heap.locks c.close_open.new.locks (after_close plain.files c.args.place.pid n).locks) count
