@@ -208,19 +208,20 @@ are_locks script texts plain reached = let locked = reached_locked script plain 
   files = reached_files script texts plain reached;
 }
 
+-- no number of who has none is open on a file
+none_opens : (files : Files) (number k : ℕ) → list_any (opens_by files number) (replicate k None) ≡ false
+none_opens files number zero = refl
+none_opens files number (suc k) = none_opens files number k
+
+opens_none : (files : Files) (pid number : ℕ) → descriptors_of files pid ≡ none_open → has_open files pid number ≡ false
+unfolding none_open
+opens_none files pid number none = ap (list_any (opens_by files number)) none ∙ none_opens files number most_descriptors
+
 -- who stops another is alive
 pub stopper_lives : (plain : Plain) (pid number by : ℕ) (asked : Request) → AreLocks plain.files → HasPlaces plain → stops plain.files.locks pid number asked by ≡ true
     → is_alive plain.table by ≡ true
 stopper_lives plain pid number by asked locks places stopped = go (is_alive plain.table by) refl
   where
-    none_opens : (k : ℕ) → list_any (opens_by plain.files number) (replicate k None) ≡ false
-    none_opens zero = refl
-    none_opens (suc k) = none_opens k
-
     go : (b : Bool) → is_alive plain.table by ≡ b → b ≡ true
     go true is = refl
-    go false is = sym (opens_none is) ∙ locks.opened by number (stopper_holds plain.files.locks pid number by asked stopped)
-      where
-        opens_none : is_alive plain.table by ≡ false → has_open plain.files by number ≡ false
-        unfolding none_open
-        opens_none dead = ap (list_any (opens_by plain.files number)) (places.ended by dead) ∙ none_opens most_descriptors
+    go false is = sym (opens_none plain.files by number (places.ended by is)) ∙ locks.opened by number (stopper_holds plain.files.locks pid number by asked stopped)
