@@ -1,5 +1,5 @@
 -- Locks are beside all else in the heap: whichever there are, it stands for the same; and which of them go with a number.
-use Rattle.std.proofs.Common.{◌≡◌, ℕ, true, List, [], ◌∷◌, length, Option, None, Some, is_none, refl, ap, sym, ◌∙◌, subst}
+use Rattle.std.proofs.Common.{◌≡◌, ℕ, true, List, [], Option, None, Some, is_none, refl, ap, sym, ◌∙◌, subst}
 use Rattle.std.specs.Option.{option_map}
 use Rattle.fifo_nodes.proofs.ChainLemmas.{chain_kept}
 use Rattle.fifo_nodes.specs.Chain.{IsChain}
@@ -11,8 +11,6 @@ use Rattle.kheap_slabs.specs.declared.objects.Lock.{Lock as HeldLock}
 use Rattle.kheap_slabs.specs.declared.objects.Target.{Target as HeldTarget}
 use Rattle.kheap_slabs.specs.declared.objects.Target.TheVariants as target
 use Rattle.kheap_slabs.specs.Heap.{Heap}
-use Rattle.lock_table.specs.Chain.{Chained, HoldsLocks}
-use Rattle.lock_table.proofs.Reordering.{as_long}
 use Rattle.memfs_ops.specs.FileTree.{TreeView}
 use Rattle.open_laws.specs.Described.{inode_in, target_in}
 use Rattle.open_laws.specs.Open.{descriptor_by}
@@ -158,20 +156,6 @@ none_let_go locks pid (Some number) none = ap (λ (l : Locks). let_go l pid (Som
 pub is_empty : (first : Option ℕ) → is_none first ≡ true → first ≡ None
 is_empty None none = refl
 is_empty (Some key) none = absurd (cc)
-
--- so they are none
-no_more : (held locks : Locks) → length held ≡ length locks → held ≡ [] → locks ≡ []
-no_more held [] same none = refl
-no_more held (lock ∷ locks) same none = absurd (let one : 0 ≡ length (lock ∷ locks) = sym (ap (λ (l : Locks). length l) none) ∙ same in cc)
-
-pub none_held : (shelf : List (Option HeldLock)) (first : Option ℕ) (locks : Locks) → first ≡ None → HoldsLocks shelf first locks → locks ≡ []
-none_held shelf first locks none holds = no_more holds.held locks (as_long holds.same) (by_keys holds.chain.keys holds.held holds.chain.chained)
-  where
-    by_keys : (keys : List ℕ) (held : Locks) → Chained shelf first keys held → held ≡ []
-    by_keys [] [] chained = refl
-    by_keys [] (lock ∷ locks) chained = absurd (chained)
-    by_keys (key ∷ keys) [] chained = absurd (chained)
-    by_keys (key ∷ keys) (lock ∷ locks) chained = absurd (let both : None ≡ Some key = sym none ∙ chained.0 in cc)
 
 -- ---- the shelf
 
