@@ -231,7 +231,7 @@ not_cut pid node start last lock isnt = elim (cases_Bool (is_of pid node lock)) 
   where
     by : (b c : Bool) → is_of pid node lock ≡ true → (b && c) ≡ false
         → map (lock_of pid node) (cond b (until start lock.range ∷ []) [] ++ cond c (beyond last lock.range ∷ []) [])
-            ≡ one_kept (cond b (Some (until start lock.range)) (cond c (Some (beyond last lock.range)) None)) lock
+        ≡ one_kept (cond b (Some (until start lock.range)) (cond c (Some (beyond last lock.range)) None)) lock
     by true true own none = absurd (cc)
     by true false own none = ap (λ (l : Lock). l ∷ []) (sym (own_lock pid node lock (until start lock.range) own))
     by false true own none = ap (λ (l : Lock). l ∷ []) (sym (own_lock pid node lock (beyond last lock.range) own))
@@ -243,16 +243,16 @@ is_cut_over pid node start last lock rest b is = ap (λ c. cond c (Some (beyond 
 -- one that is cut in the middle
 cut_middle : (pid node start last : ℕ) (lock : Lock) → is_cut pid node start last lock ≡ true
     → (lock_pieces pid node start last lock ≡ lock_of pid node (until start lock.range) ∷ lock_of pid node (beyond last lock.range) ∷ [])
-        × (kept pid node start last lock ≡ lock_of pid node (until start lock.range) ∷ [])
+    × (kept pid node start last lock ≡ lock_of pid node (until start lock.range) ∷ [])
 cut_middle pid node start last lock is =
     let parts = and_parts (is_of pid node lock) (is_over start last lock.range) is in
     let ends = and_parts (ltb lock.range.start start) (ltb last lock.range.last) parts.1 in (
       pieces_own pid node start last lock parts.0
-      ∙ ap (λ b. map (lock_of pid node) (cond b (until start lock.range ∷ []) [] ++ cond (ltb last lock.range.last) (beyond last lock.range ∷ []) [])) ends.0
-      ∙ ap (λ b. map (lock_of pid node) ((until start lock.range ∷ []) ++ cond b (beyond last lock.range ∷ []) [])) ends.1,
+          ∙ ap (λ b. map (lock_of pid node) (cond b (until start lock.range ∷ []) [] ++ cond (ltb last lock.range.last) (beyond last lock.range ∷ []) [])) ends.0
+          ∙ ap (λ b. map (lock_of pid node) ((until start lock.range ∷ []) ++ cond b (beyond last lock.range ∷ []) [])) ends.1,
       kept_own pid node start last lock parts.0
-      ∙ ap (λ b. one_kept (cond b (Some (until start lock.range)) (cond (ltb last lock.range.last) (Some (beyond last lock.range)) None)) lock) ends.0
-      ∙ ap (λ (l : Lock). l ∷ []) (own_lock pid node lock (until start lock.range) parts.0),
+          ∙ ap (λ b. one_kept (cond b (Some (until start lock.range)) (cond (ltb last lock.range.last) (Some (beyond last lock.range)) None)) lock) ends.0
+          ∙ ap (λ (l : Lock). l ∷ []) (own_lock pid node lock (until start lock.range) parts.0),
     )
 
 module _ (pid node start last : ℕ) where

@@ -101,13 +101,7 @@ fn is_in_way(lock: &Lock, node: u32, pid: u32, asked: &LockRange) -> bool
 }
 
 /// It is so, and one process's.
-pub(crate) fn stands_in_way(
-    lock: &Lock,
-    node: u32,
-    pid: u32,
-    asked: &LockRange,
-    by: u32,
-) -> bool
+pub(crate) fn stands_in_way(lock: &Lock, node: u32, pid: u32, asked: &LockRange, by: u32) -> bool
     ensures { result ≡ (lock.now.pid == by && is_in_way pid node (asked_by asked.now) (plain_of lock.now)) }
 {
     lock.pid == by && is_in_way(lock, node, pid, asked)
@@ -135,7 +129,11 @@ pub(crate) fn earlier(
         return first;
     }
     match first {
-        Some(first) => Some(if comes_first(&first, lock) { first } else { *lock }),
+        Some(first) => Some(if comes_first(&first, lock) {
+            first
+        } else {
+            *lock
+        }),
         None => Some(*lock),
     }
 }

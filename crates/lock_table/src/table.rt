@@ -49,13 +49,7 @@ impl LockTable {
     }
 
     /// Of the locks in the way of what a process asks for of a file that of least start, and of these that of the lowest pid.
-    pub fn conflict(
-        &self,
-        heap: &KHeap,
-        node: u32,
-        pid: u32,
-        range: &LockRange,
-    ) -> Option<LockInfo>
+    pub fn conflict(&self, heap: &KHeap, node: u32, pid: u32, range: &LockRange) -> Option<LockInfo>
         requires { IsLockTable heap.now.locks self.now }
         ensures { (locks : Locks) → HoldsLocks heap.now.locks self.now locks
             → result ≡ option_map info_of (first_in_way locks pid node (asked_by range.now)) }
@@ -244,14 +238,7 @@ impl LockTable {
 
     // Of a process's locks of a file each goes, or keeps what it has before the start or else behind the last place. Of one that has
     // both, what it has behind is told.
-    fn cut(
-        &mut self,
-        heap: &mut KHeap,
-        node: u32,
-        pid: u32,
-        start: u64,
-        last: u64,
-    ) -> Option<Range>
+    fn cut(&mut self, heap: &mut KHeap, node: u32, pid: u32, start: u64, last: u64) -> Option<Range>
         requires { HasLocks heap.old.locks self.old }
         ensures chain { (locks : Locks) → IsLockChain heap.old.locks self.old locks
             → IsLockChain heap.new.locks self.new (cut pid node start last [] locks) }

@@ -110,19 +110,28 @@ const HELD: &[Row] = &[
     ),
     // a cut in the middle leaves a piece before and a piece behind
     (
-        &[Step::Set((1, 7, WRITE, 0, 9)), Step::Set((1, 7, UNLOCK, 4, 5))],
+        &[
+            Step::Set((1, 7, WRITE, 0, 9)),
+            Step::Set((1, 7, UNLOCK, 4, 5)),
+        ],
         (2, 7, READ, 1, LAST),
         Some((1, WRITE, 0, 3)),
         2,
     ),
     (
-        &[Step::Set((1, 7, WRITE, 0, 9)), Step::Set((1, 7, UNLOCK, 4, 5))],
+        &[
+            Step::Set((1, 7, WRITE, 0, 9)),
+            Step::Set((1, 7, UNLOCK, 4, 5)),
+        ],
         (2, 7, READ, 4, LAST),
         Some((1, WRITE, 6, 9)),
         2,
     ),
     (
-        &[Step::Set((1, 7, WRITE, 0, 9)), Step::Set((1, 7, READ, 4, 5))],
+        &[
+            Step::Set((1, 7, WRITE, 0, 9)),
+            Step::Set((1, 7, READ, 4, 5)),
+        ],
         (2, 7, WRITE, 4, 5),
         Some((1, READ, 4, 5)),
         3,
@@ -150,7 +159,10 @@ const HELD: &[Row] = &[
     ),
     // of two kinds they stay two
     (
-        &[Step::Set((1, 7, READ, 0, 3)), Step::Set((1, 7, WRITE, 4, 5))],
+        &[
+            Step::Set((1, 7, READ, 0, 3)),
+            Step::Set((1, 7, WRITE, 4, 5)),
+        ],
         (2, 7, WRITE, 5, 5),
         Some((1, WRITE, 4, 5)),
         2,
@@ -169,7 +181,10 @@ const HELD: &[Row] = &[
     ),
     // all is let go, of one file, of one process
     (
-        &[Step::Set((1, 7, WRITE, 2, 3)), Step::Set((1, 7, UNLOCK, 0, LAST))],
+        &[
+            Step::Set((1, 7, WRITE, 2, 3)),
+            Step::Set((1, 7, UNLOCK, 0, LAST)),
+        ],
         (2, 7, WRITE, 0, LAST),
         None,
         0,
@@ -208,7 +223,10 @@ const IN_WAY: &[Row] = &[
         4,
     ),
     (
-        &[Step::Set((6, 7, READ, 4, 4)), Step::Set((5, 7, READ, 4, 20))],
+        &[
+            Step::Set((6, 7, READ, 4, 4)),
+            Step::Set((5, 7, READ, 4, 20)),
+        ],
         (2, 7, WRITE, 0, LAST),
         Some((5, READ, 4, 20)),
         2,
@@ -227,7 +245,10 @@ const IN_WAY: &[Row] = &[
         1,
     ),
     (
-        &[Step::Set((1, 7, READ, 0, 9)), Step::Set((3, 7, WRITE, 20, 29))],
+        &[
+            Step::Set((1, 7, READ, 0, 9)),
+            Step::Set((3, 7, WRITE, 20, 29)),
+        ],
         (2, 7, READ, 0, LAST),
         Some((3, WRITE, 20, 29)),
         2,
