@@ -9,3 +9,4 @@ pub mod Rows
 pub mod Blocking
 pub mod WhoWaits
 pub mod NextWaits
+pub mod Trying

@@ -10,6 +10,7 @@ use Rattle.kabi_types.specs.declared.scripts.Control.{Control}
 use Rattle.kabi_types.specs.declared.scripts.Script.{Script}
 use Rattle.kheap_slabs.specs.Heap.{Heap, IsWellFormed}
 use Rattle.kheap_slabs.specs.Objects.{count}
+use Rattle.lock_ranges.specs.declared.range.Kind.{Kind}
 use Rattle.lock_table.specs.Chain.{HoldsLocks, IsLockTable}
 use Rattle.memfs_ops.specs.FileTree.{IsUsed}
 use Rattle.open_laws.specs.Placed.{Numbers}
@@ -177,3 +178,10 @@ some_set script old mid well some holds = record {
   files = some.0.plain.files;
   hold = holds some.1.files.numbers (others_in some.0.plain) some.0.plain.files (holds_files script old some.0 some.1 well some.2);
 }
+
+-- what may be claimed is what the machine says, since the store holds its files
+pub claimed_so : (script : Script) (old : Objects) (world : World) → IsWellFormed old.heap → StandsFor script old world → IsSound world.plain → {kind : Option Kind} {pid : ℕ} {fd : ℤ} {result : Result ℕ Errno}
+    → ((numbers : Numbers) (others : ℕ → ℕ) (files : Files) → HoldFiles numbers others old.heap old.procs old.tree files → result ≡ claimed_by files kind (opened_at files pid fd))
+    → (is : Result ℕ Errno) → result ≡ is → claimed_by world.plain.files kind (opened_at world.plain.files pid fd) ≡ is
+claimed_so script old world well stands sound tells is e =
+    sym (tells stands.files.numbers (others_in world.plain) world.plain.files (holds_files script old world stands well sound)) ∙ e
