@@ -88,8 +88,9 @@ ends_there most start size h = by (size == 0) refl
         no e = cc
 
     by : (b : Bool) → (size == 0) ≡ b → (start ≤ cond b most (start + size - 1)) × (cond b most (start + size - 1) ≤ most)
-    by true is = (omega (arith, h), omega arith)
-    by false is = let more : size ≢ 0 = some is in (omega (arith, more), omega (arith, h, more))
+    by true is = (let low : start ≤ most = omega (arith, h) in low, let high : most ≤ most = omega arith in high)
+    by false is = let more : size ≢ 0 = some is in
+        (let low : start ≤ start + size - 1 = omega (arith, more) in low, let high : start + size - 1 ≤ most = omega (arith, h, more) in high)
 
 ends_before : (right beyond : Bool) → option_or (invalid_unless right) (cond beyond (Some EOVERFLOW) None) ≡ None → beyond ≡ false
 ends_before right false e = refl
