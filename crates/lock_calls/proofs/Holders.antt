@@ -1,5 +1,5 @@
 -- Who is waited for holds a lock, so has a place in the table.
-use Rattle.std.proofs.Common.{◌≡◌, ◌≢◌, ℕ, zero, suc, ◌<◌, ◌≤◌, ◌==◌, ◌&&◌, ◌||◌, not, Bool, true, false, cond, eqb-true, List, [], ◌∷◌, length, map, replicate, Option, None, Some, IsSome, refl, ap, sym, ◌∙◌, subst, arith}
+use Rattle.std.proofs.Common.{◌≡◌, ◌≢◌, ℕ, zero, suc, ◌<◌, ◌≤◌, ◌==◌, ◌&&◌, ◌||◌, not, Bool, true, false, cond, eqb-true, List, [], ◌∷◌, length, map, replicate, Option, None, Some, IsSome, is_none, refl, ap, sym, ◌∙◌, subst, arith}
 use Rattle.std.specs.List.{filter, filter_map, list_any}
 use Rattle.std.specs.Option.{option_map}
 use Rattle.std.specs.Prelude.{slice_get}
@@ -9,23 +9,23 @@ use Rattle.kabi_types.specs.declared.scripts.Script.{Script}
 use Rattle.lock_ranges.specs.declared.range.Range.{Range}
 use Rattle.lock_table.specs.Holding.{asked_by}
 use Rattle.open_laws.specs.Open.{descriptors_by}
-use Rattle.posix_defs.specs.Calls.OnLocks.{Wanted, is_stopped_by}
+use Rattle.posix_defs.specs.Calls.OnLocks.{Wanted, is_clear, is_stopped_by}
 use Rattle.posix_defs.specs.Files.Descriptors.{Descriptor, Descriptors}
 use Rattle.posix_defs.specs.Files.State.{Files, descriptors_of}
 use Rattle.posix_defs.specs.Files.Whole.{AreLocks, has_open, opens_by}
-use Rattle.posix_defs.specs.Locks.{Lock, Locks, Request, is_in_way, is_of, meets, ranges_of, stops}
+use Rattle.posix_defs.specs.Locks.{Lock, Locks, Request, first_of, is_in_way, is_of, meets, ranges_of, stops}
 use Rattle.posix_defs.specs.Tree.{is_directory}
 use Rattle.posix_defs.specs.World.{World}
 use Rattle.proc_numbers.specs.Having.{places_in}
 use Rattle.proc_table.specs.Procs.{no_descriptors, numbers_in, proc_of}
 use Rattle.proc_table.specs.Table.{AreBetween, AreStored, procs_at}
 use Rattle.proc_table.specs.declared.places.Place.{Place}
-use Rattle.proc_table.proofs.PlaceLemmas.{IsAt, stored_is}
+use Rattle.proc_table.proofs.PlaceLemmas.{IsAt, eqb_same, stored_is}
 use Rattle.store_objects.specs.declared.objects.Objects.{Objects}
 use Rattle.store_objects.specs.Objects.{procs_of}
 use Rattle.store_objects.specs.Standing.{IsSound, StandsFor}
 use Rattle.lock_calls.specs.Claiming.{wanted_in}
-use Rattle.lock_calls.specs.Waiting.{pid_at, stops_at}
+use Rattle.lock_calls.specs.Waiting.{is_held_up, pid_at, stops_at}
 use Rattle.lock_calls.specs.declared.waits.Wanted.{Wanted as WantedHere}
 
 both_true : (a b : Bool) → (a && b) ≡ true → (a ≡ true) × (b ≡ true)
@@ -67,6 +67,35 @@ stops_none locks pid node by asked none = go (stops locks pid node asked by) ref
     go true is = absurd (none (stops_held locks pid node by asked is))
     go false is = refl
 
+no_further : (a : Bool) → (a && false) ≡ false
+no_further true = refl
+no_further false = refl
+
+-- where nobody holds ranges of a file nothing is in the way there
+no_way : (locks : Locks) (pid node : ℕ) (asked : Request) → ((by : ℕ) → ranges_of locks by node ≢ [] → ⊥) → filter (is_in_way pid node asked) locks ≡ []
+no_way [] pid node asked none = refl
+no_way (lock ∷ locks) pid node asked none = go (lock.node == node) refl
+  where
+    by_own : (b : Bool) → (lock.node == node) ≡ b → b ≡ true → list_any (is_of lock.pid node) (lock ∷ locks) ≡ true
+    by_own b is yes =
+        ap (λ a. (a && (lock.node == node)) || list_any (is_of lock.pid node) locks) (eqb_same lock.pid lock.pid refl)
+        ∙ ap (λ a. a || list_any (is_of lock.pid node) locks) (is ∙ yes)
+
+    go : (b : Bool) → (lock.node == node) ≡ b → filter (is_in_way pid node asked) (lock ∷ locks) ≡ []
+    go true is = absurd (none lock.pid (has_range (lock ∷ locks) lock.pid node (by_own true is refl)))
+    go false is =
+        ap (λ b. cond b (lock ∷ filter (is_in_way pid node asked) locks) (filter (is_in_way pid node asked) locks))
+        (ap (λ a. not (lock.pid == pid) && (a && meets lock.range asked)) is ∙ no_further (not (lock.pid == pid)))
+        ∙ no_way locks pid node asked (λ by some. none by (λ e. some (sym (passed by) ∙ e)))
+      where
+        passed : (by : ℕ) → ranges_of (lock ∷ locks) by node ≡ ranges_of locks by node
+        passed by =
+            ap (λ b. map (λ (l : Lock). l.range) (cond b (lock ∷ filter (is_of by node) locks) (filter (is_of by node) locks)))
+            (ap (λ a. (lock.pid == by) && a) is ∙ no_further (lock.pid == by))
+
+pub clear_none : (locks : Locks) (pid node : ℕ) (asked : Request) → ((by : ℕ) → ranges_of locks by node ≢ [] → ⊥) → is_clear locks pid node asked ≡ true
+clear_none locks pid node asked none = ap (λ (ls : Locks). is_none (first_of ls)) (no_way locks pid node asked none)
+
 -- ---- of no directory anybody holds ranges
 
 never : {X : Type 0} {b : Bool} → b ≡ true → b ≡ false → X
@@ -79,6 +108,15 @@ module _ (files : Files) (are : AreLocks files) (pid by : ℕ) (wanted : WantedH
       go : (directory : Bool) → is_directory files.tree wanted.node ≡ directory
           → is_stopped_by files.locks pid by (cond directory None (Some (record { node = wanted.node; asked = asked_by wanted.range }))) ≡ stops files.locks pid wanted.node (asked_by wanted.range) by
       go true is = sym (stops_none files.locks pid wanted.node by (asked_by wanted.range) (λ some. never is (are.files by wanted.node some)))
+      go false is = refl
+
+module _ (files : Files) (are : AreLocks files) (pid : ℕ) (wanted : WantedHere) where
+  pub held_so : is_held_up files.locks pid (wanted_in files.tree wanted) ≡ not (is_clear files.locks pid wanted.node (asked_by wanted.range))
+  held_so = go (is_directory files.tree wanted.node) refl
+    where
+      go : (directory : Bool) → is_directory files.tree wanted.node ≡ directory
+          → is_held_up files.locks pid (cond directory None (Some (record { node = wanted.node; asked = asked_by wanted.range }))) ≡ not (is_clear files.locks pid wanted.node (asked_by wanted.range))
+      go true is = sym (ap not (clear_none files.locks pid wanted.node (asked_by wanted.range) (λ by some. never is (are.files by wanted.node some))))
       go false is = refl
 
 -- ---- who has something open has a place

@@ -154,15 +154,18 @@ fn set_claimed(
     ensures paid { IsPaid objects.old.heap purse.old objects.new.heap purse.new }
 {
     objects.heap_is_well_formed();
-    let node = claimed(
+    let file = claimed(
         &objects.heap,
         &objects.procs,
         &mut objects.tree,
         caller.place,
         on,
         range.kind,
-    )?;
-    Ok(set_if_clear(objects, purse, caller.place.pid, node, range))
+    );
+    match file {
+        Ok(node) => Ok(set_if_clear(objects, purse, caller.place.pid, node, range)),
+        Err(errno) => Err(errno),
+    }
 }
 
 /// The same of a file.

@@ -15,7 +15,7 @@ use Rattle.store_objects.specs.Trees.{others_in}
 use Rattle.file_calls.proofs.Needed.{of_three}
 use Rattle.file_calls.proofs.Reached.{first_off}
 use Rattle.lock_calls.proofs.Granting.{setlk_is}
-use Rattle.lock_calls.proofs.Setting.{kept_set, runs_set, serves_set, some_set, table_set, tried_so, within_set}
+use Rattle.lock_calls.proofs.Locking.{kept_set, runs_set, serves_set, some_set, table_set, tried_so, within_set}
 use Rattle.lock_calls.proofs.setting.setlk.Goals as goal
 
 pub range_of-range-requires : goal.range_of-range-requires
