@@ -67,21 +67,20 @@ chained_still old new first (k ∷ keys) (lock ∷ locks) same chained =
 
 -- ---- all keys
 
+unused : (objects : List (Option HeldLock)) (key : ℕ) → object objects key ≡ None → InUse objects key → ⊥
+unused objects key vacant used = grind arith
+
 pub keys_freed : (objects : List (Option HeldLock)) (key : ℕ) (keys : List ℕ) → AreKeysOf objects (key ∷ keys) → AreKeysOf (without objects key) keys
 keys_freed objects key keys are =
     AreKeysOf-changes objects (without objects key) (key ∷ []) [] keys are
     (record {
       outside = KeepsOutside-without objects key;
       fresh = λ other there. absurd (omega (arith, there.1));
-      left = λ other here used. absurd (let gone = object-without objects key (InUse-within objects key (are.used key (0, omega arith, refl))) in not_used other (Contains-single key other here) gone used);
+      left = λ other here used. absurd (unused (without objects key) other
+          (subst (λ k. object (without objects key) k ≡ None) (Contains-single key other here) (object-without objects key (InUse-within objects key (are.used key (0, omega arith, refl))))) used);
     })
     (λ other there. absurd (omega (arith, there.1)))
     (λ i j before within. absurd (omega arith))
-  where
-    not_used : (other : ℕ) → key ≡ other → object (without objects key) key ≡ None → InUse (without objects key) other → ⊥
-    not_used other same gone used =
-        let none : object (without objects key) other ≡ None = subst (λ k. object (without objects key) k ≡ None) same gone in
-        let some : IsSome None = subst IsSome none used in cc
 
 once_alone : (key : ℕ) → IsOnce (key ∷ [])
 once_alone key = IsOnce-cons key [] (λ there. omega (arith, there.1)) (λ i j before within. absurd (omega arith))
@@ -121,15 +120,10 @@ chain_more objects first locks key lock vacant stored chain = record {
     refl,
     first,
     stored,
-    chained_still objects (put objects key (held_of lock first)) first chain.keys locks (λ other among. object-put_other objects key other (held_of lock first) (λ same. unused other same (chain.are.used other among))) chain.chained,
+    chained_still objects (put objects key (held_of lock first)) first chain.keys locks (λ other among. object-put_other objects key other (held_of lock first) (λ same. unused objects other (subst (λ k. object objects k ≡ None) (sym same) vacant) (chain.are.used other among))) chain.chained,
   );
   are = keys_made objects key chain.keys (held_of lock first) chain.are vacant stored;
 }
-  where
-    unused : (other : ℕ) → other ≡ key → InUse objects other → ⊥
-    unused other same used =
-        let none : object objects other ≡ None = subst (λ k. object objects k ≡ None) (sym same) vacant in
-        let some : IsSome None = subst IsSome none used in cc
 
 -- ---- how many are left
 

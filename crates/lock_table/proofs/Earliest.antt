@@ -130,15 +130,15 @@ soonest_least lock (next ∷ locks) =
       it.0,
       it.1,
       record {
-        there = among least.there two.0;
+        there = among it.0 (cond (comes_first lock next) lock next) least.there two.0;
         first = (first_through it.0 (cond (comes_first lock next) lock next) lock before two.1, first_through it.0 (cond (comes_first lock next) lock next) next before two.2, least.first.1);
       },
     )
   where
-    among : {z chosen : Lock} → IsIn (chosen ∷ locks) z → (chosen ≡ lock) ⊎ (chosen ≡ next) → IsIn (lock ∷ next ∷ locks) z
-    among (inl here) (inl is) = inl (sym is ∙ here)
-    among (inl here) (inr is) = inr (inl (sym is ∙ here))
-    among (inr later) is = inr (inr later)
+    among : (z chosen : Lock) → IsIn (chosen ∷ locks) z → (chosen ≡ lock) ⊎ (chosen ≡ next) → IsIn (lock ∷ next ∷ locks) z
+    among z chosen (inl here) (inl is) = inl (sym is ∙ here)
+    among z chosen (inl here) (inr is) = inr (inl (sym is ∙ here))
+    among z chosen (inr later) is = inr (inr later)
 
 -- ---- of two that begin at one place and are one process's, of one file, each is the other
 
@@ -188,22 +188,22 @@ way_node pid node asked lock way =
 
 -- ---- the code finds what the definition says
 
-one_least : (held locks some : Locks) (pid node : ℕ) (asked : Request) (one other : Lock) → IsReordered held locks → ((pid node : ℕ) → IsCanonical (ranges_of locks pid node))
+one_least : (held locks : Locks) (pid node : ℕ) (asked : Request) (one other : Lock) → IsReordered held locks → ((pid node : ℕ) → IsCanonical (ranges_of locks pid node))
     → IsLeast (filter (is_in_way pid node asked) held) one → IsLeast (filter (is_in_way pid node asked) locks) other → one ≡ other
-one_least held locks some pid node asked one other same canonical least plain =
+one_least held locks pid node asked one other same canonical least plain =
     let way = is_in_way pid node asked in
     let here = in_filter way locks one (in_still one (filtered way same) least.there) in
     let there = in_filter way locks other plain.there in
     let before = all_at (λ o. IsFirst one o) (filter way held) other least.first (in_still other (back (filtered way same)) plain.there) in
     let after = all_at (λ o. IsFirst other o) (filter way locks) one plain.first (in_still one (filtered way same) least.there) in
-    let equal = both before after in
+    let equal = both one other before after in
     same_place locks one other canonical here.0 there.0 equal.1 (way_node pid node asked one here.1 ∙ sym (way_node pid node asked other there.1)) equal.0
   where
-    both : {lock next : Lock} → IsFirst lock next → IsFirst next lock → (lock.range.start ≡ next.range.start) × (lock.pid ≡ next.pid)
-    both (inl before) (inl after) = absurd (omega arith)
-    both (inl before) (inr same) = absurd (omega (arith, same.0))
-    both (inr same) (inl after) = absurd (omega (arith, same.0))
-    both (inr same) (inr also) = (same.0, omega (arith, same.1, also.1))
+    both : (lock next : Lock) → IsFirst lock next → IsFirst next lock → (lock.range.start ≡ next.range.start) × (lock.pid ≡ next.pid)
+    both lock next (inl before) (inl after) = absurd (omega arith)
+    both lock next (inl before) (inr same) = absurd (omega (arith, same.0))
+    both lock next (inr same) (inl after) = absurd (omega (arith, same.0))
+    both lock next (inr same) (inr also) = (same.0, omega (arith, same.1, also.1))
 
 pub earliest_is : (held locks : Locks) (pid node : ℕ) (asked : Request) → IsReordered held locks → ((pid node : ℕ) → IsCanonical (ranges_of locks pid node))
     → earliest pid node asked None held ≡ first_in_way locks pid node asked
@@ -218,5 +218,5 @@ earliest_is held locks pid node asked same canonical =
     go (h ∷ hs) (l ∷ ls) his lis so =
         let mine = soonest_least h hs in
         let plain = plain_least l ls in
-        let one = one_least held locks [] pid node asked mine.0 plain.0 same canonical (subst (λ x. IsLeast x mine.0) his mine.2) (subst (λ x. IsLeast x plain.0) lis plain.2) in
+        let one = one_least held locks pid node asked mine.0 plain.0 same canonical (subst (λ x. IsLeast x mine.0) his mine.2) (subst (λ x. IsLeast x plain.0) lis plain.2) in
         mine.1 ∙ ap (λ z. Some z) one ∙ sym plain.1

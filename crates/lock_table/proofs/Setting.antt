@@ -128,7 +128,6 @@ is_widened held locks pid node asked same =
 
 -- ---- setting
 
-
 pub set_to_hold : (held locks : Locks) (pid node : ℕ) (range : Range) → IsReordered held locks → range.start ≤ range.last → range.last ≤ greatest
     → IsCanonical (ranges_of locks pid node)
     → IsReordered (held_wide pid node range held) (with_ranges locks pid node (set (ranges_of locks pid node) (Some range.kind) range.start range.last))

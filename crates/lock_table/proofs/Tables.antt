@@ -3,7 +3,13 @@ use Rattle.std.proofs.Common.{◌≡◌, ℕ, ◌+◌, ◌<◌, ◌≤◌, ◌�
 use Rattle.std.specs.List.{list_any}
 use Rattle.std.specs.Option.{option_map}
 use Rattle.chunk_queue.proofs.AccountLemmas.{count-keys}
+use Rattle.kabi_types.specs.Counts.{with_count}
+use Rattle.kabi_types.specs.declared.classes.Class.TheVariants as class
+use Rattle.kheap_laws.proofs.PaidLemmas.{CanPay-kept, IsPaid-nothing}
+use Rattle.kheap_slabs.specs.Heap.{Heap}
 use Rattle.kheap_slabs.specs.Objects.{object, count}
+use Rattle.kheap_slabs.specs.Paid.{CanPay, TakesNothing}
+use Rattle.kheap_slabs.specs.Purse.{Purse}
 use Rattle.kheap_slabs.specs.declared.objects.Lock.{Lock as HeldLock}
 use Rattle.kheap_slabs.proofs.ObjectLemmas.{object-none, object_of}
 use Rattle.lock_ranges.specs.Ranges.{greatest}
@@ -99,3 +105,22 @@ holds_at_boot limit = record {
 pub told_is : (lock : Option HeldLock) → option_map (λ held. info_of (plain_of held)) lock ≡ option_map info_of (option_map plain_of lock)
 told_is None = refl
 told_is (Some lock) = refl
+
+-- ---- one change after another
+
+pub spent_on : (a b c : Purse) → b ≡ record a { left = with_count a.left class.Lock b.left.lock } → c ≡ record b { left = with_count b.left class.Lock c.left.lock }
+    → c ≡ record a { left = with_count a.left class.Lock c.left.lock }
+spent_on a b c one two = two ∙ ap (λ (p : Purse). record p { left = with_count p.left class.Lock c.left.lock }) one
+
+pub kept_on : (a b c : Heap) → b ≡ record a { locks = b.locks; high = b.high } → c ≡ record b { locks = c.locks; high = c.high } → c ≡ record a { locks = c.locks; high = c.high }
+kept_on a b c one two = two ∙ ap (λ (h : Heap). record h { locks = c.locks; high = c.high }) one
+
+pub kept_first : (a b c : Heap) → b ≡ record a { locks = b.locks } → c ≡ record b { locks = c.locks; high = c.high } → c ≡ record a { locks = c.locks; high = c.high }
+kept_first a b c one two = two ∙ ap (λ (h : Heap). record h { locks = c.locks; high = c.high }) one
+
+pub kept_high : (a b : Heap) → b ≡ record a { locks = b.locks } → b ≡ record a { locks = b.locks; high = b.high }
+kept_high a b one = one ∙ ap (λ n. record a { locks = b.locks; high = n }) (sym (ap (λ (h : Heap). h.high) one))
+
+-- a call without a purse leaves room for what it has left
+pub still_pays : (old new : Heap) (purse : Purse) → TakesNothing old new → CanPay old purse → CanPay new purse
+still_pays old new purse takes pays = CanPay-kept old new purse purse (IsPaid-nothing old new purse purse takes refl refl) pays

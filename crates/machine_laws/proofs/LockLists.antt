@@ -289,7 +289,7 @@ stopper_holds (lock ∷ locks) pid number by asked e = go (is_of by number lock)
     itself_in_way false b c d f = true_false false f refl
 
     go : (b : Bool) → is_of by number lock ≡ b → (stops locks pid number asked by ≡ true → ranges_of locks by number ≢ []) → ranges_of (lock ∷ locks) by number ≢ []
-    go true is rest = filled is
+    go true is rest none = filled is none
     go false is rest none = elim (either_true (lock.pid == by && is_in_way pid number asked lock) (stops locks pid number asked by) e) [
       | inl this ↦ true_false (is_of by number lock) (itself_in_way (lock.pid == by) (not (lock.pid == pid)) (lock.node == number) (meets lock.range asked) this) is
       | inr later ↦ rest later (sym (ranges_past by number lock locks is) ∙ none)

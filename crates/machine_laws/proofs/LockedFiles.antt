@@ -147,12 +147,12 @@ module _ (plain : Plain) (pid : ℕ) (call : Call) (next : Files) (locked : Lock
   step_file (step.accepts fd opened place to taken named on free first is) = same _ is refl
   step_file (step.receives fd addr n opened place k which named on moves is) = same _ is refl
   step_file (step.sends fd addr n done opened place k which named on moves is) = same _ is refl
-  step_file (step.locks fd opened number asked sets named target file places clear is) = λ who node some. set_file who node (subst (λ (files : Files). ranges_of files.locks who node ≢ []) is some)
+  step_file (step.locks fd opened number asked sets named target is_file places clear is) = λ who node some. set_file who node (subst (λ (files : Files). ranges_of files.locks who node ≢ []) is some)
     where
       set_file : HadFile plain.files (with_locks plain.files (after_set plain.files.locks pid number asked))
       set_file who node some = elim (key pid number who node) [
         | inl this ↦ subst (λ w. OpensFile plain.files w node × (is_directory plain.files.tree node ≡ false)) (sym this.0)
-            (subst (λ n. OpensFile plain.files pid n × (is_directory plain.files.tree n ≡ false)) (sym this.1) (opens_it plain pid fd opened number named target, file))
+            (subst (λ n. OpensFile plain.files pid n × (is_directory plain.files.tree n ≡ false)) (sym this.1) (opens_it plain pid fd opened number named target, is_file))
         | inr others ↦ held who node (λ none. some (ranges_set_others plain.files.locks pid number _ who node others ∙ none))
       ]
   step_file (step.starts is) = by _ is (exec_held plain.files pid)
@@ -208,19 +208,20 @@ are_locks script texts plain reached = let locked = reached_locked script plain 
   files = reached_files script texts plain reached;
 }
 
+-- no number of who has none is open on a file
+none_opens : (files : Files) (number k : ℕ) → list_any (opens_by files number) (replicate k None) ≡ false
+none_opens files number zero = refl
+none_opens files number (suc k) = none_opens files number k
+
+opens_none : (files : Files) (pid number : ℕ) → descriptors_of files pid ≡ none_open → has_open files pid number ≡ false
+unfolding none_open
+opens_none files pid number none = ap (list_any (opens_by files number)) none ∙ none_opens files number most_descriptors
+
 -- who stops another is alive
 pub stopper_lives : (plain : Plain) (pid number by : ℕ) (asked : Request) → AreLocks plain.files → HasPlaces plain → stops plain.files.locks pid number asked by ≡ true
     → is_alive plain.table by ≡ true
 stopper_lives plain pid number by asked locks places stopped = go (is_alive plain.table by) refl
   where
-    none_opens : (k : ℕ) → list_any (opens_by plain.files number) (replicate k None) ≡ false
-    none_opens zero = refl
-    none_opens (suc k) = none_opens k
-
     go : (b : Bool) → is_alive plain.table by ≡ b → b ≡ true
     go true is = refl
-    go false is = sym (opens_none is) ∙ locks.opened by number (stopper_holds plain.files.locks pid number by asked stopped)
-      where
-        opens_none : is_alive plain.table by ≡ false → has_open plain.files by number ≡ false
-        unfolding none_open
-        opens_none dead = ap (list_any (opens_by plain.files number)) (places.ended by dead) ∙ none_opens most_descriptors
+    go false is = sym (opens_none plain.files by number (places.ended by is)) ∙ locks.opened by number (stopper_holds plain.files.locks pid number by asked stopped)

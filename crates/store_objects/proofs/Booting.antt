@@ -32,7 +32,7 @@ use Rattle.kheap_slabs.proofs.PurseLemmas.{need_bytes-more}
 use Rattle.kheap_laws.proofs.OwnerLemmas.{IsOwned-same, empty_heap-owned}
 use Rattle.kheap_laws.proofs.TableLemmas.{OwnsItsObjects-along}
 use Rattle.lock_table.specs.Chain.{HoldsLocks}
-use Rattle.lock_table.proofs.Reordering.{same_list}
+use Rattle.lock_table.proofs.Tables.{holds_at_boot}
 use Rattle.posix_defs.specs.Control.{settled}
 use Rattle.posix_defs.specs.History.{boots}
 use Rattle.posix_defs.specs.Memory.{boot_frames}
@@ -97,15 +97,6 @@ no_keys {X} limit = record {
   used = λ key there. absurd (omega (arith, there.1));
   listed = λ key used. absurd (let found = object_of (replicate {A = Option X} limit None) key used in object-none limit key found.0 found.1);
   once = λ i j before within same. omega arith;
-}
-
--- no lock is held where none is there
-none_begins : (limit : ℕ) → HoldsLocks (replicate limit None) None []
-none_begins limit = record {
-  held = [];
-  chain = record { keys = []; chained = refl; are = no_keys limit };
-  same = same_list [];
-  canonical = λ pid node. tt;
 }
 
 none_of : {X Y : Type 0} (f : X → Y) (limit : ℕ) → each_of f (replicate limit None) ≡ []
@@ -353,7 +344,7 @@ module _ (heap disk : ℕ) (control : Control) (rooted : Heap) (fs : TreeView) (
     names = turned.names ∙ unbound;
     fifos = turned.fifos ∙ no_fifos;
     locks = subst (λ (first : Option ℕ). HoldsLocks new.heap.locks first []) (sym (turned.locks ∙ no_locks))
-        (subst (λ (shelf : List (Option HeldLock)). HoldsLocks shelf None []) (sym (as_was (λ h. h.locks) (λ h procs nodes pages high. refl) ∙ bare.locks)) (none_begins (heap / size class.Lock)));
+        (subst (λ (shelf : List (Option HeldLock)). HoldsLocks shelf None []) (sym (as_was (λ h. h.locks) (λ h procs nodes pages high. refl) ∙ bare.locks)) (holds_at_boot (heap / size class.Lock)));
     first = first;
     last = ap (λ t. t.last) turned.same ∙ last;
     table = subst (λ k. IsTable new.heap k (Some first_process ∷ [])) (sym turned.same)

@@ -10,10 +10,7 @@ use Rattle.kabi_types.specs.Counts.{need_bytes}
 use Rattle.kabi_types.specs.declared.classes.Need.{Need}
 use Rattle.kabi_types.specs.declared.scripts.Script.{Script}
 use Rattle.kheap_slabs.specs.Objects.{count, object}
-use Rattle.kheap_slabs.specs.declared.objects.Lock.{Lock as HeldLock}
-use Rattle.lock_table.specs.Chain.{Chained, HoldsLocks}
-use Rattle.lock_table.proofs.Reordering.{as_long}
-use Rattle.posix_defs.specs.Locks.{Locks}
+use Rattle.lock_table.proofs.Tables.{each_counts}
 use Rattle.kheap_slabs.specs.declared.objects.Chunk.{Chunk}
 use Rattle.kheap_slabs.specs.declared.objects.Desc.{Desc}
 use Rattle.kheap_slabs.specs.declared.objects.Pipe.{Pipe as HeldPipe}
@@ -229,17 +226,6 @@ chunks_are numbers h list files account owns are fronts =
     counted ∙ together ∙ parts ∙ both ∙ ap (λ n. n + sum_by (λ (p : QueueParts). chunks_of (place_of p)) (sock_queues h.socks)) in_pipes
     ∙ ap (λ n. chunks_taken (pipe_lengths files) account.pipes + n) in_socks
 
--- as many locks as the chain has
-length-chained : (shelf : List (Option HeldLock)) (first : Option ℕ) (keys : List ℕ) (locks : Locks) → Chained shelf first keys locks → length keys ≡ length locks
-length-chained shelf first [] [] chained = refl
-length-chained shelf first [] (lock ∷ locks) chained = absurd (chained)
-length-chained shelf first (key ∷ keys) [] chained = absurd (chained)
-length-chained shelf first (key ∷ keys) (lock ∷ locks) chained = ap suc (length-chained shelf chained.1 keys locks chained.3)
-
-as_many_held : (shelf : List (Option HeldLock)) (first : Option ℕ) (locks : Locks) → HoldsLocks shelf first locks → count shelf ≡ length locks
-as_many_held shelf first locks holds =
-    count_of_keys shelf holds.chain.keys holds.chain.are ∙ length-chained shelf first holds.chain.keys holds.held holds.chain.chained ∙ as_long holds.same
-
 -- What the heap has in use is what the world takes.
 pub live_is : (script : Script) (objects : Objects) (world : World) → StandsFor script objects world → IsWellFormed objects.heap
     → live_bytes objects.heap ≡ live_of world
@@ -262,7 +248,7 @@ live_is script objects world stands whole =
     let pipes : count objects.heap.pipes ≡ count_by is_some files.pipes = pipes_are stands.files.numbers objects.heap files opened.piped in
     let chunks = chunks_are stands.files.numbers objects.heap stands.files.opened.list files world.account kept.owners.objects opened stands.files.fronts in
     let socks : count objects.heap.socks ≡ count_by is_some files.sockets = socks_are stands.files.numbers objects.heap files opened.socketed in
-    let locks : count objects.heap.locks ≡ length files.locks = as_many_held objects.heap.locks objects.locks files.locks stands.locks in
+    let locks : count objects.heap.locks ≡ length files.locks = each_counts objects.heap.locks objects.locks files.locks stands.locks in
     let leaves : count objects.heap.leaves ≡ leaves_open files = leaves_are stands.files.numbers objects.heap objects.procs files whole (listed_in script objects kept) stands.files.opened.descriptors in
     sum_is (counts_of objects.heap)
     (how_many world.plain.table) (nodes_named world.account.frames) (frames_named world.account.frames) (count_by is_some files.descriptions) (count_by is_some files.pipes) (count_by is_some files.sockets) (leaves_open files) (length files.locks)

@@ -1,16 +1,17 @@
 use Rattle.std.proofs.Common.{◌∙◌, subst, sym}
 use Rattle.kheap_laws.proofs.PaidLemmas.{TakesNothing-refl}
 use Rattle.lock_table.specs.Chain.{HoldsLocks}
+use Rattle.lock_table.proofs.Tables.{none_held}
 use Rattle.posix_defs.specs.Files.State.{let_go}
 use Rattle.posix_defs.specs.Locks.{without}
-use Rattle.proc_files.proofs.Unlocking.{is_empty, lets_nothing_go, none_held, none_let_go}
+use Rattle.proc_files.proofs.Unlocking.{is_empty, lets_nothing_go, none_let_go}
 use Rattle.open_laws.specs.Described.{inode_in}
 use Rattle.proc_files.proofs.closing.unlock.Goals as goal
 
 pub returns-then-is_empty-clause-locks : goal.returns-then-is_empty-clause-locks
 returns-then-is_empty-clause-locks c = λ held has.
     subst (HoldsLocks c.args.heap.now.locks c.args.locks.now)
-    (sym (none_let_go held c.args.place.pid (inode_in c.args.target) (none_held c.args.heap.now.locks c.args.locks.now held (is_empty c.args.locks.now (sym c.is_empty.ensures ∙ c.if-is_empty.true)) has))) has
+    (sym (none_let_go held c.args.place.pid (inode_in c.args.target) ((none_held c.args.heap.now.locks c.args.locks.now held has).0 (is_empty c.args.locks.now (sym c.is_empty.ensures ∙ c.if-is_empty.true))))) has
 
 pub returns-then-is_empty-clause-takes : goal.returns-then-is_empty-clause-takes
 returns-then-is_empty-clause-takes c = TakesNothing-refl c.args.heap.now
