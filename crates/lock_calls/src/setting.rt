@@ -197,7 +197,9 @@ fn set_if_clear(
     if first.is_some() {
         return false;
     }
-    objects.locks.set(&mut objects.heap, purse, node, pid, range);
+    objects
+        .locks
+        .set(&mut objects.heap, purse, node, pid, range);
     true
 }
 

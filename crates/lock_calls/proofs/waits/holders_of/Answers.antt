@@ -22,19 +22,19 @@ loop-other-preserved c =
     let at : c.loop-other.at ≡ k = c.loop-other.invariant.at in
     elim c.if-stops.branch [
       | then-stops w ↦ record {
-          at = omega (arith, at);
-          bits = λ locks holds.
-              let set = bit_set (stops_at locks c.args.pid c.args.wanted.now) items k c.loop-other.holders _ (c.loop-other.invariant.bits locks holds) (place_pid items k none within)
-              (omega (arith, within, few)) (sym (c.stops.ensures locks holds) ∙ w.if-stops.true) in
-              subst (λ row. AreBits (stops_at locks c.args.pid c.args.wanted.now) items (k + 1) row) (sym (w.holders-is ∙ ap (set_bit c.loop-other.holders) at)) set;
-        }
+        at = omega (arith, at);
+        bits = λ locks holds.
+            let set = bit_set (stops_at locks c.args.pid c.args.wanted.now) items k c.loop-other.holders _ (c.loop-other.invariant.bits locks holds) (place_pid items k none within)
+            (omega (arith, within, few)) (sym (c.stops.ensures locks holds) ∙ w.if-stops.true) in
+            subst (λ row. AreBits (stops_at locks c.args.pid c.args.wanted.now) items (k + 1) row) (sym (w.holders-is ∙ ap (set_bit c.loop-other.holders) at)) set;
+      }
       | else-stops w ↦ record {
-          at = omega (arith, at);
-          bits = λ locks holds.
-              let left = bit_left (stops_at locks c.args.pid c.args.wanted.now) items k c.loop-other.holders _ (c.loop-other.invariant.bits locks holds) (place_pid items k none within)
-              (sym (c.stops.ensures locks holds) ∙ w.if-stops.false) in
-              subst (λ row. AreBits (stops_at locks c.args.pid c.args.wanted.now) items (k + 1) row) (sym w.holders-is) left;
-        }
+        at = omega (arith, at);
+        bits = λ locks holds.
+            let left = bit_left (stops_at locks c.args.pid c.args.wanted.now) items k c.loop-other.holders _ (c.loop-other.invariant.bits locks holds) (place_pid items k none within)
+            (sym (c.stops.ensures locks holds) ∙ w.if-stops.false) in
+            subst (λ row. AreBits (stops_at locks c.args.pid c.args.wanted.now) items (k + 1) row) (sym w.holders-is) left;
+      }
     ]
 
 pub returns : goal.returns

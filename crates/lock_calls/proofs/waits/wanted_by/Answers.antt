@@ -16,15 +16,11 @@ returns-then-is_some-clause-asks c = λ world stands alive.
 
 -- ---- who runs
 
-pub wait_here-requires-clause-stands : goal.wait_here-requires-clause-stands
-wait_here-requires-clause-stands c =
+pub wait_here-requires : goal.wait_here-requires
+wait_here-requires c =
     let runs = no_status c.at-proc.result.now.status (sym c.is_some.ensures ∙ c.if-is_some.false) in
-    (at_call c.args.script.now c.args.objects.now c.args.place.pid c.at-proc.result.now c.at-proc.ensures.found c.requires.kept runs).stands
-
-pub wait_here-requires-clause-rests : goal.wait_here-requires-clause-rests
-wait_here-requires-clause-rests c =
-    let runs = no_status c.at-proc.result.now.status (sym c.is_some.ensures ∙ c.if-is_some.false) in
-    (at_call c.args.script.now c.args.objects.now c.args.place.pid c.at-proc.result.now c.at-proc.ensures.found c.requires.kept runs).rests
+    let at = at_call c.args.script.now c.args.objects.now c.args.place.pid c.at-proc.result.now c.at-proc.ensures.found c.requires.kept runs in
+    record { stands = at.stands; rests = at.rests }
 
 pub asked_with-requires-clause-kept : goal.asked_with-requires-clause-kept
 asked_with-requires-clause-kept c = (c.args.script.now, c.requires.kept)
