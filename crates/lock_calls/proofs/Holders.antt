@@ -74,19 +74,20 @@ no_further false = refl
 -- where nobody holds ranges of a file nothing is in the way there
 no_way : (locks : Locks) (pid node : ℕ) (asked : Request) → ((by : ℕ) → ranges_of locks by node ≢ [] → ⊥) → filter (is_in_way pid node asked) locks ≡ []
 no_way [] pid node asked none = refl
-no_way (lock ∷ locks) pid node asked none = go (lock.node == node) refl
+no_way (lock ∷ locks) pid node asked none = go (lock.node == node) refl (no_way locks pid node asked)
   where
     by_own : (b : Bool) → (lock.node == node) ≡ b → b ≡ true → list_any (is_of lock.pid node) (lock ∷ locks) ≡ true
     by_own b is yes =
         ap (λ a. (a && (lock.node == node)) || list_any (is_of lock.pid node) locks) (eqb_same lock.pid lock.pid refl)
         ∙ ap (λ a. a || list_any (is_of lock.pid node) locks) (is ∙ yes)
 
-    go : (b : Bool) → (lock.node == node) ≡ b → filter (is_in_way pid node asked) (lock ∷ locks) ≡ []
-    go true is = absurd (none lock.pid (has_range (lock ∷ locks) lock.pid node (by_own true is refl)))
-    go false is =
+    go : (b : Bool) → (lock.node == node) ≡ b → (((by : ℕ) → ranges_of locks by node ≢ [] → ⊥) → filter (is_in_way pid node asked) locks ≡ [])
+        → filter (is_in_way pid node asked) (lock ∷ locks) ≡ []
+    go true is rest = absurd (none lock.pid (has_range (lock ∷ locks) lock.pid node (by_own true is refl)))
+    go false is rest =
         ap (λ b. cond b (lock ∷ filter (is_in_way pid node asked) locks) (filter (is_in_way pid node asked) locks))
         (ap (λ a. not (lock.pid == pid) && (a && meets lock.range asked)) is ∙ no_further (not (lock.pid == pid)))
-        ∙ no_way locks pid node asked (λ by some. none by (λ e. some (sym (passed by) ∙ e)))
+        ∙ rest (λ by some. none by (λ e. some (sym (passed by) ∙ e)))
       where
         passed : (by : ℕ) → ranges_of (lock ∷ locks) by node ≡ ranges_of locks by node
         passed by =
@@ -131,16 +132,16 @@ place_found : (procs : List (Option Proc)) (listed : List Place) (pid : ℕ) (pr
 place_found procs [] pid proc stored found = cc
 place_found procs (place ∷ places) pid proc stored found =
     let at : IsAt procs place = stored_is procs place stored.0 in
-    by_first at.proc at.pid (at.proc.pid == pid) refl (ap (λ (o : Option Proc). proc_of (with o) pid) (sym at.is) ∙ found)
+    by_first at.proc at.pid (at.proc.pid == pid) refl (place_found procs places pid proc stored.1) (ap (λ (o : Option Proc). proc_of (with o) pid) (sym at.is) ∙ found)
   where
     with : Option Proc → List Proc
     with None = procs_at procs places
     with (Some first) = first ∷ procs_at procs places
 
-    by_first : (first : Proc) → first.pid ≡ place.pid → (b : Bool) → (first.pid == pid) ≡ b → cond b (Some first) (proc_of (procs_at procs places) pid) ≡ Some proc
-        → (at : ℕ) × (pid_at (place ∷ places) at ≡ Some pid)
-    by_first first own true is e = (0, ap Some (sym own ∙ eqb-true first.pid pid is))
-    by_first first own false is e = let later = place_found procs places pid proc stored.1 e in (suc later.0, later.1)
+    by_first : (first : Proc) → first.pid ≡ place.pid → (b : Bool) → (first.pid == pid) ≡ b → (proc_of (procs_at procs places) pid ≡ Some proc → (at : ℕ) × (pid_at places at ≡ Some pid))
+        → cond b (Some first) (proc_of (procs_at procs places) pid) ≡ Some proc → (at : ℕ) × (pid_at (place ∷ places) at ≡ Some pid)
+    by_first first own true is behind e = (0, ap Some (sym own ∙ eqb-true first.pid pid is))
+    by_first first own false is behind e = let later = behind e in (suc later.0, later.1)
 
 pub has_place : (script : Script) (objects : Objects) (world : World) → StandsFor script objects world → IsSound world.plain → (pid node : ℕ)
     → ranges_of world.plain.files.locks pid node ≢ [] → (at : ℕ) × (pid_at objects.procs.listed at ≡ Some pid)
