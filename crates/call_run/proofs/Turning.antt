@@ -1,5 +1,5 @@
 -- What a process does next.
-use Rattle.std.proofs.Common.{◌≡◌, ℕ, suc, ℤ, true, List, [], ◌∷◌, Option, None, Some, map, refl, ap, sym, ◌∙◌, subst, arith, Contains}
+use Rattle.std.proofs.Common.{◌≡◌, ℕ, suc, ℤ, true, List, [], ◌∷◌, Option, None, Some, map, refl, sym, ◌∙◌, subst, arith, Contains}
 use Rattle.std.specs.List.{AllByRecursion}
 use Rattle.kabi_types.specs.declared.calls.Call.{Call}
 use Rattle.kabi_types.specs.declared.calls.CallKind.{CallKind}

@@ -1,6 +1,6 @@
 -- The file of a request, by what is open.
-use Rattle.std.proofs.Common.{◌≡◌, ℕ, Bool, true, false, cond, Option, None, Some, Result, Ok, Err, refl, ap, sym, ◌∙◌}
-use Rattle.std.specs.Option.{option_and_then, option_map}
+use Rattle.std.proofs.Common.{◌≡◌, ℕ, Bool, true, false, cond, Option, None, Some, Ok, Err, refl, ap, sym, ◌∙◌}
+use Rattle.std.specs.Option.{option_and_then}
 use Rattle.kabi_types.specs.declared.errnos.Errno.{Errno}
 use Rattle.kabi_types.specs.declared.errnos.Errno.TheVariants.{EBADF, EINVAL}
 use Rattle.kheap_slabs.specs.declared.objects.Target.{Target as HeldTarget}
@@ -9,7 +9,7 @@ use Rattle.lock_ranges.specs.declared.range.Kind.{Kind}
 use Rattle.lock_table.specs.Holding.{asked_by}
 use Rattle.open_laws.specs.Described.{access_in, target_in}
 use Rattle.open_laws.specs.Placed.{Numbers}
-use Rattle.posix_defs.specs.Calls.OnLocks.{Wanted, claim_of, file_of, may_hold, wanted_of, wanted_on}
+use Rattle.posix_defs.specs.Calls.OnLocks.{claim_of, file_of, may_hold, wanted_of, wanted_on}
 use Rattle.posix_defs.specs.Calls.Opened.{Opened}
 use Rattle.posix_defs.specs.Files.Descriptions.{Access}
 use Rattle.posix_defs.specs.Files.State.{Files}

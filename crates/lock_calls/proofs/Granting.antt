@@ -1,16 +1,12 @@
 -- What a request is answered, by what came of it.
-use Rattle.std.proofs.Common.{◌≡◌, ℕ, ℤ, pos, Bool, true, false, cond, Option, None, Some, Result, Ok, Err, refl, ap, sym, ◌∙◌, subst}
-use Rattle.kabi_types.specs.declared.errnos.Errno.{Errno}
-use Rattle.kabi_types.specs.declared.errnos.Errno.TheVariants.{EAGAIN, EBADF, EDEADLK}
-use Rattle.kabi_types.specs.declared.replies.Reply.TheVariants.{Fail, Val}
+use Rattle.std.proofs.Common.{◌≡◌, ℕ, ℤ, Bool, cond, Option, None, Some, Ok, refl, ap, sym, ◌∙◌}
+use Rattle.kabi_types.specs.declared.errnos.Errno.TheVariants.{EAGAIN, EDEADLK}
 use Rattle.kabi_types.specs.declared.scripts.Script.{Script}
 use Rattle.posix_defs.specs.Answer.{Answer, Blocked, failed, replied}
 use Rattle.posix_defs.specs.Calls.OnLocks.{circles, claimed, file_of, getlk, granted, granted_or, is_clear, request_of, setlk, setlkw, told_of as locks_told}
 use Rattle.posix_defs.specs.Calls.Opened.{Opened, answer_on, opened_at}
-use Rattle.posix_defs.specs.Files.State.{with_locks}
-use Rattle.posix_defs.specs.Locks.{Request, after_set}
-use Rattle.posix_defs.specs.Plain.{Plain, with_files}
-use Rattle.store_objects.specs.declared.objects.Objects.{Objects}
+use Rattle.posix_defs.specs.Locks.{Request}
+use Rattle.posix_defs.specs.Plain.{Plain}
 use Rattle.lock_calls.specs.Claiming.{claimed_by, file_by, file_or_fault}
 use Rattle.lock_calls.specs.Setting.{first_told}
 

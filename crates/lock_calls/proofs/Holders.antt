@@ -1,23 +1,18 @@
 -- Who is waited for holds a lock, so has a place in the table.
-use Rattle.std.proofs.Common.{◌≡◌, ◌≢◌, ℕ, zero, suc, ◌<◌, ◌≤◌, ◌==◌, ◌&&◌, ◌||◌, not, Bool, true, false, cond, eqb-true, List, [], ◌∷◌, length, map, replicate, Option, None, Some, IsSome, is_none, refl, ap, sym, ◌∙◌, subst, arith}
-use Rattle.std.specs.List.{filter, filter_map, list_any}
-use Rattle.std.specs.Option.{option_map}
-use Rattle.std.specs.Prelude.{slice_get}
-use Rattle.kheap_slabs.specs.Objects.{object}
+use Rattle.std.proofs.Common.{◌≡◌, ◌≢◌, ℕ, zero, suc, ◌<◌, ◌≤◌, ◌==◌, ◌&&◌, ◌||◌, not, Bool, true, false, cond, eqb-true, List, [], ◌∷◌, map, replicate, Option, None, Some, is_none, refl, ap, sym, ◌∙◌, arith}
+use Rattle.std.specs.List.{filter, list_any}
 use Rattle.kheap_slabs.specs.declared.objects.Proc.{Proc}
 use Rattle.kabi_types.specs.declared.scripts.Script.{Script}
-use Rattle.lock_ranges.specs.declared.range.Range.{Range}
 use Rattle.lock_table.specs.Holding.{asked_by}
 use Rattle.open_laws.specs.Open.{descriptors_by}
-use Rattle.posix_defs.specs.Calls.OnLocks.{Wanted, is_clear, is_stopped_by}
-use Rattle.posix_defs.specs.Files.Descriptors.{Descriptor, Descriptors}
-use Rattle.posix_defs.specs.Files.State.{Files, descriptors_of}
-use Rattle.posix_defs.specs.Files.Whole.{AreLocks, has_open, opens_by}
+use Rattle.posix_defs.specs.Calls.OnLocks.{is_clear, is_stopped_by}
+use Rattle.posix_defs.specs.Files.State.{Files}
+use Rattle.posix_defs.specs.Files.Whole.{AreLocks, opens_by}
 use Rattle.posix_defs.specs.Locks.{Lock, Locks, Request, first_of, is_in_way, is_of, meets, ranges_of, stops}
 use Rattle.posix_defs.specs.Tree.{is_directory}
 use Rattle.posix_defs.specs.World.{World}
 use Rattle.proc_numbers.specs.Having.{places_in}
-use Rattle.proc_table.specs.Procs.{no_descriptors, numbers_in, proc_of}
+use Rattle.proc_table.specs.Procs.{numbers_in, proc_of}
 use Rattle.proc_table.specs.Table.{AreBetween, AreStored, procs_at}
 use Rattle.proc_table.specs.declared.places.Place.{Place}
 use Rattle.proc_table.proofs.PlaceLemmas.{IsAt, eqb_same, stored_is}
@@ -25,7 +20,7 @@ use Rattle.store_objects.specs.declared.objects.Objects.{Objects}
 use Rattle.store_objects.specs.Objects.{procs_of}
 use Rattle.store_objects.specs.Standing.{IsSound, StandsFor}
 use Rattle.lock_calls.specs.Claiming.{wanted_in}
-use Rattle.lock_calls.specs.Waiting.{is_held_up, pid_at, stops_at}
+use Rattle.lock_calls.specs.Waiting.{is_held_up, pid_at}
 use Rattle.lock_calls.specs.declared.waits.Wanted.{Wanted as WantedHere}
 
 both_true : (a b : Bool) → (a && b) ≡ true → (a ≡ true) × (b ≡ true)

@@ -1,5 +1,5 @@
 -- A call on locks has tried: it is told what came of it.
-use Rattle.std.proofs.Common.{◌≡◌, ℕ, ℤ, Bool, true, false, cond, [], ◌∷◌, List, Option, None, Some, Result, Ok, Err, refl, ap, sym, ◌∙◌, subst, arith}
+use Rattle.std.proofs.Common.{◌≡◌, ℕ, ℤ, Bool, true, false, cond, ◌∷◌, Result, Ok, Err, refl, ap, sym, ◌∙◌, subst, arith}
 use Rattle.kabi_types.specs.declared.calls.Call.{Call}
 use Rattle.kabi_types.specs.declared.errnos.Errno.{Errno}
 use Rattle.kabi_types.specs.declared.errnos.Errno.TheVariants.{EAGAIN, EDEADLK}
@@ -12,7 +12,7 @@ use Rattle.lock_table.specs.Chain.{IsLockTable}
 use Rattle.memfs_ops.specs.FileTree.{IsUsed, TreeView}
 use Rattle.open_laws.specs.Placed.{Numbers}
 use Rattle.posix_defs.specs.Answer.{Answer, Blocked, failed, replied}
-use Rattle.posix_defs.specs.Calls.OnLocks.{circles, granted_or, is_clear, wanted_of}
+use Rattle.posix_defs.specs.Calls.OnLocks.{circles, granted_or, wanted_of}
 use Rattle.posix_defs.specs.Calls.Opened.{opened_at}
 use Rattle.posix_defs.specs.Files.State.{Files}
 use Rattle.posix_defs.specs.Locks.{Request}

@@ -4,7 +4,6 @@ use Rattle.kabi_types.specs.declared.errnos.Errno.{Errno}
 use Rattle.kabi_types.specs.declared.errnos.Errno.TheVariants.{EAGAIN, EDEADLK}
 use Rattle.kabi_types.specs.declared.replies.Reply.{Reply}
 use Rattle.kabi_types.specs.declared.replies.Reply.TheVariants.{Fail, Val}
-use Rattle.kabi_types.specs.declared.scripts.Script.{Script}
 use Rattle.lock_table.specs.Chain.{HoldsLocks}
 use Rattle.posix_defs.specs.Calls.OnLocks.{is_clear, lock_told}
 use Rattle.posix_defs.specs.Calls.Opened.{opened_at}

@@ -46,17 +46,17 @@ first_through one two three (inr same) (inr also) = inr (same.0 ∙ also.0, omeg
 
 -- where the test says no the other one comes first
 other_first : (lock other : Lock) → comes_first lock other ≡ false → IsFirst other lock
-other_first lock other no = elim (one_first lock other) [
-  | inl first ↦ absurd (let wrong : true ≡ false = sym (from_first lock other first) ∙ no in cc)
+other_first lock other is = elim (one_first lock other) [
+  | inl first ↦ absurd (let wrong : true ≡ false = sym (from_first lock other first) ∙ is in cc)
   | inr first ↦ first
 ]
 
 said_first : (lock other : Lock) → comes_first lock other ≡ true → IsFirst lock other
-said_first lock other yes = elim (cases_lt lock.range.start other.range.start) [
+said_first lock other said = elim (cases_lt lock.range.start other.range.start) [
   | inl before ↦ inl before
   | inr le ↦
       let rest : (eqb lock.range.start other.range.start && leb lock.pid other.pid) ≡ true =
-      sym (ap (λ b. b || (eqb lock.range.start other.range.start && leb lock.pid other.pid)) (le-ltb lock.range.start other.range.start le)) ∙ yes in
+      sym (ap (λ b. b || (eqb lock.range.start other.range.start && leb lock.pid other.pid)) (le-ltb lock.range.start other.range.start le)) ∙ said in
       let parts = and_parts (eqb lock.range.start other.range.start) (leb lock.pid other.pid) rest in
       inr (eqb-true lock.range.start other.range.start parts.0, lower parts.1)
 ]
@@ -117,8 +117,8 @@ soonest_of pid node asked first (lock ∷ locks) =
     by : (b : Bool) → earliest pid node asked (Some (sooner first lock)) locks ≡ soonest (Some (sooner first lock)) (filter (is_in_way pid node asked) locks)
         → earliest pid node asked first locks ≡ soonest first (filter (is_in_way pid node asked) locks)
         → earliest pid node asked (cond b (Some (sooner first lock)) first) locks ≡ soonest first (cond b (lock ∷ filter (is_in_way pid node asked) locks) (filter (is_in_way pid node asked) locks))
-    by true yes no = yes
-    by false yes no = no
+    by true passed other = passed
+    by false passed other = other
 
 soonest_least : (lock : Lock) (locks : Locks) → (z : Lock) × (soonest (Some lock) locks ≡ Some z) × IsLeast (lock ∷ locks) z
 soonest_least lock [] = (lock, refl, record { there = inl refl; first = (first_itself lock, tt) })
@@ -131,7 +131,10 @@ soonest_least lock (next ∷ locks) =
       it.1,
       record {
         there = among it.0 (cond (comes_first lock next) lock next) least.there two.0;
-        first = (first_through it.0 (cond (comes_first lock next) lock next) lock before two.1, first_through it.0 (cond (comes_first lock next) lock next) next before two.2, least.first.1);
+        first = (
+          first_through it.0 (cond (comes_first lock next) lock next) lock before two.1,
+          (first_through it.0 (cond (comes_first lock next) lock next) next before two.2, least.first.1),
+        );
       },
     )
   where

@@ -201,10 +201,10 @@ few_cut pid node start last (lock ∷ locks) order canonical = elim (cases_Bool 
 ]
   where
     no_more : (is_of pid node lock && is_over start last lock.range) ≡ false → times (is_cut pid node start last) locks ≤ 1 → times (is_cut pid node start last) (lock ∷ locks) ≤ 1
-    no_more no few = omega (arith, times_more (is_cut pid node start last) lock locks ∙ ap (λ b. one_if b + times (is_cut pid node start last) locks) no, few)
+    no_more isnt few = omega (arith, times_more (is_cut pid node start last) lock locks ∙ ap (λ b. one_if b + times (is_cut pid node start last) locks) isnt, few)
 
     one_more : (is_of pid node lock && is_over start last lock.range) ≡ true → times (is_cut pid node start last) locks ≡ 0 → times (is_cut pid node start last) (lock ∷ locks) ≤ 1
-    one_more yes none = omega (arith, times_more (is_cut pid node start last) lock locks ∙ ap (λ b. one_if b + times (is_cut pid node start last) locks) yes, none)
+    one_more is none = omega (arith, times_more (is_cut pid node start last) lock locks ∙ ap (λ b. one_if b + times (is_cut pid node start last) locks) is, none)
 
     by_over : (b : Bool) → is_over start last lock.range ≡ b → is_of pid node lock ≡ true → IsCanonical (lock.range ∷ ranges_of locks pid node)
         → times (is_cut pid node start last) locks ≤ 1 → times (is_cut pid node start last) (lock ∷ locks) ≤ 1
@@ -221,10 +221,10 @@ rest_of pid node None = []
 rest_of pid node (Some range) = lock_of pid node range ∷ []
 
 not_cut : (pid node start last : ℕ) (lock : Lock) → is_cut pid node start last lock ≡ false → lock_pieces pid node start last lock ≡ kept pid node start last lock
-not_cut pid node start last lock no = elim (cases_Bool (is_of pid node lock)) [
+not_cut pid node start last lock isnt = elim (cases_Bool (is_of pid node lock)) [
   | inl own ↦
       pieces_own pid node start last lock own
-      ∙ by (ltb lock.range.start start) (ltb last lock.range.last) own (sym (ap (λ b. b && is_over start last lock.range) own) ∙ no)
+      ∙ by (ltb lock.range.start start) (ltb last lock.range.last) own (sym (ap (λ b. b && is_over start last lock.range) own) ∙ isnt)
       ∙ sym (kept_own pid node start last lock own)
   | inr other ↦ pieces_other pid node start last lock other ∙ sym (kept_other pid node start last lock other)
 ]

@@ -10,6 +10,12 @@ abbrev pub one_if : Bool → ℕ
 one_if true = 1
 one_if false = 0
 
+or_swap : (a b c : Bool) → (a || (b || c)) ≡ (b || (a || c))
+or_swap true true c = refl
+or_swap true false c = refl
+or_swap false true c = refl
+or_swap false false c = refl
+
 module _ {X : Type 0} where
   pub same_list : (xs : List X) → IsReordered xs xs
   same_list [] = empty
@@ -81,12 +87,6 @@ module _ {X : Type 0} where
   filtered p (swap x y xs) = filter_two x y (filter p xs) (p x) (p y)
   filtered p (trans xs ys zs so also) = trans (filter p xs) (filter p ys) (filter p zs) (filtered p so) (filtered p also)
 
-  or_swap : (a b c : Bool) → (a || (b || c)) ≡ (b || (a || c))
-  or_swap true true c = refl
-  or_swap true false c = refl
-  or_swap false true c = refl
-  or_swap false false c = refl
-
   pub any_same : (p : X → Bool) {xs ys : List X} → IsReordered xs ys → list_any p xs ≡ list_any p ys
   any_same p empty = refl
   any_same p (more x xs ys so) = ap (λ b. p x || b) (any_same p so)
@@ -96,7 +96,7 @@ module _ {X : Type 0} where
   pub all_still : (P : X → Type 0) {xs ys : List X} → IsReordered xs ys → AllByRecursion P xs → AllByRecursion P ys
   all_still P empty all = tt
   all_still P (more x xs ys so) all = (all.0, all_still P so all.1)
-  all_still P (swap x y xs) all = (all.1.0, all.0, all.1.1)
+  all_still P (swap x y xs) all = (all.1.0, (all.0, all.1.1))
   all_still P (trans xs ys zs so also) all = all_still P also (all_still P so all)
 
   -- ---- how many pass a test

@@ -1,4 +1,4 @@
-use Rattle.std.proofs.Common.{◌≡◌, ◌∙◌, ap, refl, subst, sym, w64}
+use Rattle.std.proofs.Common.{◌≡◌, ◌∙◌, ap, refl, sym, w64}
 use Rattle.std.proofs.lemmas.Int.{to_z-of_z}
 use Rattle.kabi_types.specs.Arguments.{locked_fault}
 use Rattle.kabi_types.specs.declared.calls.Call.TheVariants as call
@@ -8,7 +8,6 @@ use Rattle.lock_table.specs.Holding.{asked_by}
 use Rattle.posix_defs.specs.Answer.{failed}
 use Rattle.posix_defs.specs.Calls.OnLocks.{granted_or, request_of, setlk}
 use Rattle.posix_defs.specs.Calls.Opened.{opened_at}
-use Rattle.posix_defs.specs.Plain.{Plain}
 use Rattle.store_objects.proofs.Replying.{no_frames}
 use Rattle.file_calls.proofs.Needed.{of_three}
 use Rattle.file_calls.proofs.Reached.{first_off}

@@ -1,7 +1,6 @@
-use Rattle.std.proofs.Common.{◌≡◌, ◌∙◌, not, Bool, Option, None, Some, is_none, is_some, refl, ap}
+use Rattle.std.proofs.Common.{◌≡◌, ◌∙◌, not, Option, None, Some, is_none, is_some, refl, ap}
 use Rattle.std.specs.Option.{option_map}
 use Rattle.lock_table.specs.Holding.{info_of}
-use Rattle.lock_table.specs.declared.locks.LockInfo.{LockInfo}
 use Rattle.posix_defs.specs.Locks.{Lock}
 use Rattle.lock_calls.proofs.waits.is_stopped.Goals as goal
 
