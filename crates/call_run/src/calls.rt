@@ -198,17 +198,13 @@ fn run_right(
             start,
             length,
             ..
-        } => setlk(
-            script, objects, purse, caller, on, *kind, *start, *length,
-        ),
+        } => setlk(script, objects, purse, caller, on, *kind, *start, *length),
         Call::Setlkw {
             kind,
             start,
             length,
             ..
-        } => setlkw(
-            script, objects, purse, caller, on, *kind, *start, *length,
-        ),
+        } => setlkw(script, objects, purse, caller, on, *kind, *start, *length),
         Call::Getlk {
             kind,
             start,
@@ -295,8 +291,6 @@ pub fn would_block(
             kind,
             start,
             length,
-        } => lock_would_block(
-            script, objects, waits, place, fd, kind, start, length,
-        ),
+        } => lock_would_block(script, objects, waits, place, fd, kind, start, length),
     }
 }

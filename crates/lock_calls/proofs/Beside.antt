@@ -2,8 +2,6 @@
 use Rattle.std.proofs.Common.{◌≡◌, ℕ, List, [], Option, refl, ap, sym, subst}
 use Rattle.fifo_nodes.specs.Chain.{IsChain}
 use Rattle.fifo_nodes.proofs.ChainLemmas.{chain_kept}
-use Rattle.kabi_types.specs.declared.scripts.Control.{Control}
-use Rattle.kabi_types.specs.declared.scripts.Script.{Script}
 use Rattle.kheap_laws.proofs.TableLemmas.{OwnsItsObjects-along}
 use Rattle.kheap_slabs.specs.Heap.{Heap}
 use Rattle.kheap_slabs.specs.declared.objects.Lock.{Lock as HeldLock}
@@ -25,10 +23,6 @@ use Rattle.proc_numbers.proofs.WithLocks.{have_locked}
 use Rattle.proc_numbers.specs.Having.{AreListed, HaveOpen}
 use Rattle.proc_numbers.specs.Queues.{QueuesStand}
 use Rattle.proc_table.specs.Table.{TableView}
-use Rattle.store_objects.proofs.Keeping.{listed_in}
-use Rattle.store_objects.specs.Objects.{AreKept, Runs}
-use Rattle.store_objects.specs.declared.objects.Objects.{Objects}
-use Rattle.file_calls.proofs.CallingOpens.{unchanged}
 
 module _ (h : Heap) (locks : List (Option HeldLock)) (high : ℕ) where
   abbrev with : Heap

@@ -10,7 +10,7 @@ use Rattle.posix_defs.specs.Answer.{Answer, Blocked, failed}
 use Rattle.posix_defs.specs.Calls.OnLocks.{circles, granted, granted_or, is_clear, request_of, setlkw, wanted_of, wanted_on}
 use Rattle.posix_defs.specs.Calls.Opened.{Opened, opened_at}
 use Rattle.posix_defs.specs.Files.State.{Files}
-use Rattle.posix_defs.specs.Locks.{Locks, Request}
+use Rattle.posix_defs.specs.Locks.{Request}
 use Rattle.posix_defs.specs.Machine.{blocks, machine, unless_wrong}
 use Rattle.posix_defs.specs.Plain.{Plain}
 use Rattle.lock_calls.specs.Claiming.{claimed_by}

@@ -1,13 +1,11 @@
 -- Rows of who waits have a circle exactly where the machine has one.
-use Rattle.std.proofs.Common.{◌≡◌, ◌≢◌, ℕ, zero, suc, ◌<◌, ◌≤◌, ◌&&◌, Bool, true, false, cond, List, [], ◌∷◌, Option, None, Some, refl, ap, sym, ◌∙◌, subst, arith, Contains}
-use Rattle.std.specs.Int.{bit_at}
+use Rattle.std.proofs.Common.{◌≡◌, ◌≢◌, ℕ, ◌<◌, ◌≤◌, ◌&&◌, Bool, true, false, List, [], ◌∷◌, Option, None, Some, refl, ap, sym, ◌∙◌, subst}
 use Rattle.std.specs.List.{range_with_len}
-use Rattle.std.specs.Prelude.{slice_index}
 use Rattle.kabi_types.specs.declared.scripts.Script.{Script}
 use Rattle.machine_laws.specs.Chains.{Chain, among, goes_on, wait}
 use Rattle.machine_laws.proofs.Chains.{chain_of, leads_so, who_is_made}
 use Rattle.posix_defs.specs.Calls.OnLocks.{Wanted, circles, is_stopped_by, waits_for, wanted_by}
-use Rattle.posix_defs.specs.Locks.{Locks, ranges_of, stops}
+use Rattle.posix_defs.specs.Locks.{Locks, ranges_of}
 use Rattle.posix_defs.specs.Plain.{call_of, last_pid}
 use Rattle.posix_defs.specs.Process.{is_alive}
 use Rattle.posix_defs.specs.World.{World}

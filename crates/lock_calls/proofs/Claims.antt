@@ -1,6 +1,6 @@
 -- The file of a request, by what is open.
-use Rattle.std.proofs.Common.{◌≡◌, ℕ, Bool, true, false, cond, Option, None, Some, Result, Ok, Err, refl, ap, sym, ◌∙◌}
-use Rattle.std.specs.Option.{option_and_then, option_map}
+use Rattle.std.proofs.Common.{◌≡◌, ℕ, Bool, true, false, cond, Option, None, Some, Ok, Err, refl, ap, sym, ◌∙◌}
+use Rattle.std.specs.Option.{option_and_then}
 use Rattle.kabi_types.specs.declared.errnos.Errno.{Errno}
 use Rattle.kabi_types.specs.declared.errnos.Errno.TheVariants.{EBADF, EINVAL}
 use Rattle.kheap_slabs.specs.declared.objects.Target.{Target as HeldTarget}
@@ -9,7 +9,7 @@ use Rattle.lock_ranges.specs.declared.range.Kind.{Kind}
 use Rattle.lock_table.specs.Holding.{asked_by}
 use Rattle.open_laws.specs.Described.{access_in, target_in}
 use Rattle.open_laws.specs.Placed.{Numbers}
-use Rattle.posix_defs.specs.Calls.OnLocks.{Wanted, claim_of, file_of, may_hold, wanted_of}
+use Rattle.posix_defs.specs.Calls.OnLocks.{claim_of, file_of, may_hold, wanted_of, wanted_on}
 use Rattle.posix_defs.specs.Calls.Opened.{Opened}
 use Rattle.posix_defs.specs.Files.Descriptions.{Access}
 use Rattle.posix_defs.specs.Files.State.{Files}
@@ -72,3 +72,43 @@ by_ok numbers files kind found number may e is =
 pub by_node : (tree : Tree) (number : ℕ) (b : Bool) → is_directory tree number ≡ b → file_or_fault (unless_directory tree number) ≡ cond b (Err EINVAL) (Ok number)
 by_node tree number true is = ap (λ b. file_or_fault (cond b None (Some number))) is
 by_node tree number false is = ap (λ b. file_or_fault (cond b None (Some number))) is
+
+-- ---- what was found
+
+-- only a file or a directory has that number
+pub is_node : (target : HeldTarget) (node : ℕ) → node_in target ≡ Some node → target ≡ held.Inode node
+is_node (held.Inode number) node e = cc
+is_node (held.Pipe key) node e = cc
+is_node (held.Sock key) node e = cc
+
+module _ (numbers : Numbers) (files : Files) (found : Found) where
+  abbrev what : HeldTarget
+  what = found.desc.target
+
+  file_there : (node : ℕ) → node_in what ≡ Some node → file_of files.tree (target_in numbers what) ≡ unless_directory files.tree node
+  file_there node on = file_is numbers files.tree what ∙ ap (option_and_then (unless_directory files.tree)) on
+
+  file_none : node_in what ≡ None → file_of files.tree (target_in numbers what) ≡ None
+  file_none on = file_is numbers files.tree what ∙ ap (option_and_then (unless_directory files.tree)) on
+
+  pub file_at : (node : ℕ) (b : Bool) → node_in what ≡ Some node → is_directory files.tree node ≡ b → cond b (Err EINVAL) (Ok node) ≡ file_by files (Some (opened_in numbers found))
+  file_at node b on is = sym (ap file_or_fault (file_there node on) ∙ by_node files.tree node b is)
+
+  pub no_file_at : node_in what ≡ None → Err EINVAL ≡ file_by files (Some (opened_in numbers found))
+  no_file_at on = sym (ap file_or_fault (file_none on))
+
+  abbrev access : Access
+  access = access_in found.desc.access
+
+  pub wanted_at : (wanted : WantedHere) → node_in what ≡ Some wanted.node → may_hold access (asked_by wanted.range).kind ≡ true
+      → wanted_in files.tree wanted ≡ wanted_on files (asked_by wanted.range) (Some (opened_in numbers found))
+  wanted_at wanted on may =
+      wants_so files.tree access wanted (asked_by wanted.range) refl may
+      ∙ sym (ap (λ file. wanted_of (asked_by wanted.range) (claim_of access (asked_by wanted.range).kind file)) (file_there wanted.node on))
+
+  pub unheld_at : (asked : Request) (node : ℕ) → node_in what ≡ Some node → may_hold access asked.kind ≡ false → None ≡ wanted_on files asked (Some (opened_in numbers found))
+  unheld_at asked node on may =
+      wants_none files.tree access node asked may ∙ sym (ap (λ file. wanted_of asked (claim_of access asked.kind file)) (file_there node on))
+
+  pub unwanted_at : (asked : Request) → node_in what ≡ None → None ≡ wanted_on files asked (Some (opened_in numbers found))
+  unwanted_at asked on = sym (ap (λ file. wanted_of asked (claim_of access asked.kind file)) (file_none on))

@@ -1,10 +1,12 @@
 -- A row of bits, one place after the other.
-use Rattle.std.proofs.Common.{◌≡◌, ◌≢◌, ℕ, zero, suc, ◌+◌, ◌*◌, ◌^◌, ◌%◌, ◌<◌, ◌≤◌, ◌&&◌, Bool, true, false, cond, nat_lt, List, [], ◌∷◌, length, Option, None, Some, refl, ap, sym, ◌∙◌, subst, inl, inr, arith, w64}
+use Rattle.std.proofs.Common.{◌≡◌, ◌≢◌, ◌==◌, ℕ, zero, suc, ◌+◌, ◌*◌, ◌^◌, ◌%◌, ◌<◌, ◌≤◌, ◌&&◌, Bool, true, false, cond, nat_lt, List, [], ◌∷◌, drop, get_or, length, slice_set, Option, None, Some, IsSome, refl, ap, sym, ◌∙◌, subst, inl, inr, arith, w64}
 use Rattle.std.specs.Int.{bit_at}
-use Rattle.std.specs.Prelude.{bit_or, slice_get, slice_index_or}
-use Rattle.std.specs.Option.{option_map}
-use Rattle.std.proofs.lemmas.Bool.{cases_eq, le-ltb, lt-ltb, ltb-false, ltb-true}
+use Rattle.std.specs.Prelude.{bit_or, slice_index}
+use Rattle.std.proofs.lemmas.Bool.{cases_eq, cases_lt, le-ltb, lt-ltb, ltb-false, ltb-true}
 use Rattle.std.proofs.lemmas.Nat.Bits.{bit_at-zero, bit_at_set_other, bit_at_set_same}
+use Rattle.std.proofs.lemmas.List.{drop_more, get_or-set_other, get_or-set_same}
+use Rattle.proc_table.proofs.PlaceLemmas.{some_same}
+use Rattle.proc_table.specs.Table.{key_of}
 use Rattle.proc_table.specs.declared.places.Place.{Place}
 use Rattle.lock_calls.specs.Waiting.{bit_if, pid_at}
 
@@ -27,6 +29,10 @@ here_none k b = ap (λ t. bit_if (t && b)) (le-ltb k k (omega arith))
 
 here_some : (k : ℕ) (b : Bool) → bit_if (nat_lt k (k + 1) && b) ≡ bit_if b
 here_some k b = ap (λ t. bit_if (t && b)) (lt-ltb k (k + 1) (omega arith))
+
+-- one bit more
+abbrev pub set_bit : ℕ → ℕ → ℕ
+set_bit row k = bit_or row (1 * 2 ^ k % 2 ^ 64)
 
 module _ (test : Option ℕ → Bool) (listed : List Place) (k row pid : ℕ) (before : AreBits test listed k row) (here : pid_at listed k ≡ Some pid) where
   pub bit_set : k < 64 → test (Some pid) ≡ true → AreBits test listed (k + 1) (bit_or row (1 * 2 ^ k % 2 ^ 64))
@@ -60,7 +66,48 @@ all_bits test listed k row none past are at = are at ∙ go (nat_lt at k) refl
         sym (ap bit_if (ap test (no_place listed at (let h = ltb-false at k is in omega (arith, h, past))) ∙ none))
 
 -- the process of a place
-pub place_pid : (listed : List Place) (k : ℕ) (d : Place) → k < length listed → pid_at listed k ≡ Some (slice_index_or listed k d).pid
+pub place_pid : (listed : List Place) (k : ℕ) (d : Place) → k < length listed → pid_at listed k ≡ Some (get_or listed k d).pid
 place_pid [] k d within = absurd (omega (arith, within))
 place_pid (place ∷ listed) zero d within = refl
 place_pid (place ∷ listed) (suc k) d within = place_pid listed k d (omega (arith, within))
+
+-- ---- rows, one after the other
+
+-- the processes of the first places have their rows
+abbrev pub HaveRows : (ℕ → ℕ → Type 0) → List Place → ℕ → List ℕ → Type 0
+HaveRows IsRow listed at rows = (k pid : ℕ) → k < at → pid_at listed k ≡ Some pid → IsRow pid (slice_index rows k)
+
+pub one_row : (IsRow : ℕ → ℕ → Type 0) (listed : List Place) (rows : List ℕ) (at row : ℕ) (d : Place) → at < length rows → at < length listed → IsRow (get_or listed at d).pid row
+    → HaveRows IsRow listed at rows → HaveRows IsRow listed (at + 1) (slice_set rows at row)
+one_row IsRow listed rows at row d room within here before k pid below is = elim (cases_eq k at) [
+  | inl same ↦
+      let its : (get_or listed at d).pid ≡ pid = some_same (pid_at listed k) _ _ (ap (pid_at listed) same ∙ place_pid listed at d within) is in
+      subst (λ n. IsRow pid (slice_index (slice_set rows at row) n)) (sym same)
+      (subst (IsRow pid) (sym (get_or-set_same rows at row 0 room)) (subst (λ p. IsRow p row) its here))
+  | inr apart ↦ subst (IsRow pid) (sym (get_or-set_other rows at k row 0 apart)) (before k pid (omega (arith, below, apart)) is)
+]
+
+none_some : {X : Type 0} (pid : ℕ) → None ≡ Some pid → X
+none_some pid e = cc
+
+-- so all have
+pub all_rows : (IsRow : ℕ → ℕ → Type 0) (listed : List Place) (at : ℕ) (rows : List ℕ) → length listed ≤ at → HaveRows IsRow listed at rows
+    → (k pid : ℕ) → pid_at listed k ≡ Some pid → IsRow pid (slice_index rows k)
+all_rows IsRow listed at rows past before k pid is = elim (cases_lt k at) [
+  | inl below ↦ before k pid below is
+  | inr beyond ↦ let none = no_place listed k (omega (arith, past, beyond)) in none_some pid (sym none ∙ is)
+]
+
+-- ---- who isn't found yet is among the rest
+
+pub found_behind : (listed : List Place) (at pid : ℕ) (d : Place) → at < length listed → ((get_or listed at d).pid == pid) ≡ false
+    → IsSome (key_of (drop at listed) pid) → IsSome (key_of (drop (at + 1) listed) pid)
+found_behind listed at pid d within other some =
+    let both : IsSome (key_of (get_or listed at d ∷ drop (at + 1) listed) pid) = subst (λ places. IsSome (key_of places pid)) (drop_more listed at d within) some in
+    subst IsSome (ap (λ b. cond b (Some (get_or listed at d).key) (key_of (drop (at + 1) listed) pid)) other) both
+
+pub none_behind : {X : Type 0} (listed : List Place) (at pid : ℕ) → length listed ≤ at → IsSome (key_of (drop at listed) pid) → X
+none_behind [] zero pid past some = cc
+none_behind [] (suc at) pid past some = cc
+none_behind (place ∷ listed) zero pid past some = absurd (omega (arith, past))
+none_behind (place ∷ listed) (suc at) pid past some = none_behind listed at pid (omega (arith, past)) some

@@ -4,17 +4,14 @@ use Rattle.kabi_types.specs.declared.errnos.Errno.{Errno}
 use Rattle.kabi_types.specs.declared.errnos.Errno.TheVariants.{EAGAIN, EDEADLK}
 use Rattle.kabi_types.specs.declared.replies.Reply.{Reply}
 use Rattle.kabi_types.specs.declared.replies.Reply.TheVariants.{Fail, Val}
-use Rattle.kabi_types.specs.declared.scripts.Script.{Script}
 use Rattle.lock_table.specs.Chain.{HoldsLocks}
-use Rattle.posix_defs.specs.Calls.OnLocks.{is_clear}
+use Rattle.posix_defs.specs.Calls.OnLocks.{is_clear, lock_told}
 use Rattle.posix_defs.specs.Calls.Opened.{opened_at}
-use Rattle.posix_defs.specs.Locks.{Locks, Request, after_set}
+use Rattle.posix_defs.specs.Locks.{Locks, Request, after_set, first_in_way}
 use Rattle.posix_defs.specs.Plain.{Plain}
-use Rattle.posix_defs.specs.World.{World}
 use Rattle.posix_defs.specs.declared.turner.Turned.{Turned}
 use Rattle.posix_defs.specs.declared.turner.Turned.TheVariants as turned
 use Rattle.store_objects.specs.declared.objects.Objects.{Objects}
-use Rattle.store_objects.specs.Standing.{StandsFor, answered_in}
 use Rattle.lock_calls.specs.Claiming.{claimed_by}
 
 -- what setlk tells
@@ -41,7 +38,14 @@ HasTried old new plain pid fd asked (Ok set) =
     (number : ℕ) × (claimed_by plain.files asked.kind (opened_at plain.files pid fd) ≡ Ok number) × (set ≡ is_clear plain.files.locks pid number asked)
     × HoldsLocks new.heap.locks new.locks (locks_after plain.files.locks pid number asked set)
 
--- a process sleeps, and nothing is other than before; or it would wait for itself, and is told so
-abbrev pub WaitsOrFails : Script → Objects → Objects → World → ℕ → Bool → Turned → Type 0
-WaitsOrFails script old new world pid true told = (told ≡ turned.Done (Fail EDEADLK)) × StandsFor script new (answered_in script world pid (Fail EDEADLK))
-WaitsOrFails script old new world pid false told = (told ≡ turned.Sleep) × (new ≡ old)
+-- a process sleeps, or is told that it would wait for itself
+abbrev pub wait_told : Bool → Turned
+wait_told true = turned.Done (Fail EDEADLK)
+wait_told false = turned.Sleep
+
+-- ---- getlk
+
+-- what is told of the first lock in the way in a file, or why it isn't looked at
+abbrev pub first_told : Locks → ℕ → Request → Result ℕ Errno → Reply
+first_told locks pid asked (Ok number) = lock_told (first_in_way locks pid number asked)
+first_told locks pid asked (Err errno) = Fail errno

@@ -1,6 +1,7 @@
 //! The file of a request, and who may hold its places.
 
-ghost use Rattle.std.specs.Prelude.{◌≡◌, ℕ, []};
+ghost use Rattle.std.specs.Prelude.{◌≡◌, ℕ, [], Ok};
+ghost use Rattle.kheap_slabs.specs.Heap.{Heap};
 ghost use Rattle.memfs_ops.specs.FileTree.{IsUsed};
 ghost use Rattle.open_laws.specs.Described.{access_in};
 ghost use Rattle.open_laws.specs.Owned.{HasItsOwners};
@@ -8,15 +9,17 @@ ghost use Rattle.open_laws.specs.Placed.{Numbers};
 ghost use Rattle.posix_defs.specs.Calls.OnLocks.{kind_asked, may_hold};
 ghost use Rattle.posix_defs.specs.Calls.Opened.{opened_at};
 ghost use Rattle.posix_defs.specs.Files.State.{Files};
+ghost use Rattle.posix_defs.specs.PathCalls.{stat_info};
+ghost use Rattle.posix_defs.specs.Tree.{Tree, is_directory};
 ghost use Rattle.proc_files.specs.Answering.{StaysOffNodes};
 ghost use Rattle.proc_files.specs.Holding.{HoldFiles, HoldSome};
 ghost use Rattle.proc_numbers.specs.Found.{IsOpened};
-ghost use Rattle.proc_numbers.specs.Having.{AreListed};
-ghost use Rattle.proc_table.specs.Table.{IsPlaced};
+ghost use Rattle.proc_numbers.specs.Having.{AreListed, HaveOpen};
+ghost use Rattle.proc_table.specs.Table.{IsPlaced, TableView};
 ghost use Rattle.lock_calls.specs.Claiming.{claimed_by, file_by, node_in};
 
 use crate::requests::{F_RDLCK, F_WRLCK};
-use kabi_types::{Errno, NodeKind};
+use kabi_types::{Errno, NodeKind, StatInfo};
 use kheap_slabs::{KHeap, Target};
 use memfs_ops::FileTree;
 use proc_numbers::{Found, Named};
@@ -45,7 +48,17 @@ pub(crate) fn claimed(
     ensures used { IsUsed tree.old tree.new }
     ensures stays { StaysOffNodes heap.now procs.now place.pid on.now.fd tree.old tree.new }
 {
-    let file = file_of(heap, procs, tree, place, on)?;
+    match file_of(heap, procs, tree, place, on) {
+        Ok(file) => claim(on, kind, file),
+        Err(errno) => Err(errno),
+    }
+}
+
+/// The same file, where it is open for that.
+fn claim(on: &Named, kind: u32, file: u32) -> Result<u32, Errno>
+    ensures { (h : Heap) (kept : TableView) (pid : ℕ) (numbers : Numbers) (files : Files) → IsOpened h kept pid on.now → HaveOpen numbers h kept files
+        → Ok file ≡ file_by files (opened_at files pid on.now.fd) → result ≡ claimed_by files (kind_asked kind) (opened_at files pid on.now.fd) }
+{
     let Some(found) = on.found else {
         return Err(Errno::EBADF);
     };
@@ -83,9 +96,20 @@ pub(crate) fn file_of(
     let Some(node) = node_of(found.desc.target) else {
         return Err(Errno::EINVAL);
     };
-    match tree.stat_node(heap, node).kind {
-        NodeKind::Dir => Err(Errno::EINVAL),
-        _ => Ok(node),
+    let info = tree.stat_node(heap, node);
+    if is_directory(&info) {
+        return Err(Errno::EINVAL);
+    }
+    Ok(node)
+}
+
+/// Whether what is told of a node is told of a directory.
+fn is_directory(info: &StatInfo) -> bool
+    ensures { (tree : Tree) (number : ℕ) → info.now ≡ stat_info tree number → result ≡ is_directory tree number }
+{
+    match info.kind {
+        NodeKind::Dir => true,
+        NodeKind::File | NodeKind::Sock | NodeKind::Pipe | NodeKind::Fifo => false,
     }
 }
 

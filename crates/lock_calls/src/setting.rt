@@ -3,6 +3,8 @@
 ghost use Rattle.std.specs.Prelude.{◌≡◌, ◌≤◌, ◌×◌, ℕ, None};
 ghost use Rattle.kabi_types.specs.Arguments.{argument_fault};
 ghost use Rattle.kabi_types.specs.declared.calls.Call.{Call};
+ghost use Rattle.kabi_types.specs.declared.errnos.Errno.TheVariants.{EDEADLK};
+ghost use Rattle.kabi_types.specs.declared.replies.Reply.TheVariants.{Fail};
 ghost use Rattle.kabi_types.specs.declared.scripts.Script.{Script as ScriptOf};
 ghost use Rattle.kheap_slabs.specs.Paid.{CanPay, IsPaid, TakesNothing};
 ghost use Rattle.lock_table.specs.Chain.{HoldsLocks, IsLockTable};
@@ -12,15 +14,16 @@ ghost use Rattle.open_laws.specs.Placed.{Numbers};
 ghost use Rattle.posix_defs.specs.Files.State.{Files};
 ghost use Rattle.posix_defs.specs.Locks.{Locks};
 ghost use Rattle.posix_defs.specs.World.{World};
+ghost use Rattle.posix_defs.specs.declared.turner.Turned.TheVariants as turned;
 ghost use Rattle.proc_numbers.specs.Found.{IsOpened};
 ghost use Rattle.proc_table.specs.Table.{IsPlaced};
 ghost use Rattle.store_objects.specs.Objects.{AreKept, Runs};
-ghost use Rattle.store_objects.specs.Standing.{IsSound, StandsFor};
+ghost use Rattle.store_objects.specs.Standing.{IsSound, StandsFor, answered_in};
 ghost use Rattle.store_objects.specs.Walking.{Serves};
 ghost use Rattle.memfs_ops.specs.FileTree.{IsUsed};
 ghost use Rattle.proc_files.specs.Answering.{StaysOffNodes};
 ghost use Rattle.proc_files.specs.Holding.{HoldFiles};
-ghost use Rattle.lock_calls.specs.Setting.{ChangesLocks, HasTried, WaitsOrFails, locks_after, told_of};
+ghost use Rattle.lock_calls.specs.Setting.{ChangesLocks, HasTried, locks_after, told_of, wait_told};
 
 use crate::claiming::claimed;
 use crate::requests::range_of;
@@ -118,8 +121,11 @@ fn wait(script: &Script, objects: &mut Objects, caller: &Caller) -> Turned
     requires placed { IsPlaced objects.old.procs caller.now.place }
     ensures kept { AreKept script.now objects.new }
     ensures takes { TakesNothing objects.old.heap objects.new.heap }
-    ensures waits { (world : World) → StandsFor script.now objects.old world → IsSound world.plain
-        → WaitsOrFails script.now objects.old objects.new world caller.now.place.pid (circles script.now world.plain caller.now.place.pid) result }
+    ensures told { (world : World) → StandsFor script.now objects.old world → IsSound world.plain
+        → result ≡ wait_told (circles script.now world.plain caller.now.place.pid) }
+    ensures asleep { result ≡ turned.Sleep → objects.new ≡ objects.old }
+    ensures goes { result ≡ turned.Done (Fail EDEADLK) → (world : World) → StandsFor script.now objects.old world
+        → StandsFor script.now objects.new (answered_in script.now world caller.now.place.pid (Fail EDEADLK)) }
 {
     if circles(script, objects, caller) {
         go_on(script, objects, caller, Reply::Fail(Errno::EDEADLK))
@@ -154,15 +160,18 @@ fn set_claimed(
     ensures paid { IsPaid objects.old.heap purse.old objects.new.heap purse.new }
 {
     objects.heap_is_well_formed();
-    let node = claimed(
+    let file = claimed(
         &objects.heap,
         &objects.procs,
         &mut objects.tree,
         caller.place,
         on,
         range.kind,
-    )?;
-    Ok(set_if_clear(objects, purse, caller.place.pid, node, range))
+    );
+    match file {
+        Ok(node) => Ok(set_if_clear(objects, purse, caller.place.pid, node, range)),
+        Err(errno) => Err(errno),
+    }
 }
 
 /// The same of a file.
@@ -188,7 +197,9 @@ fn set_if_clear(
     if first.is_some() {
         return false;
     }
-    objects.locks.set(&mut objects.heap, purse, node, pid, range);
+    objects
+        .locks
+        .set(&mut objects.heap, purse, node, pid, range);
     true
 }
 

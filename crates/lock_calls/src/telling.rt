@@ -5,20 +5,22 @@ ghost use Rattle.std.specs.Option.{option_map};
 ghost use Rattle.kabi_types.specs.Arguments.{argument_fault};
 ghost use Rattle.kabi_types.specs.declared.calls.Call.{Call};
 ghost use Rattle.kheap_slabs.specs.Paid.{TakesNothing};
-ghost use Rattle.lock_table.specs.Holding.{info_of};
+ghost use Rattle.lock_table.specs.Chain.{HoldsLocks, IsLockTable};
+ghost use Rattle.lock_table.specs.Holding.{asked_by, info_of};
 ghost use Rattle.posix_defs.specs.Calls.OnLocks.{getlk, lock_told};
-ghost use Rattle.posix_defs.specs.Locks.{Lock};
+ghost use Rattle.posix_defs.specs.Locks.{Lock, Locks};
 ghost use Rattle.posix_defs.specs.World.{World};
 ghost use Rattle.proc_numbers.specs.Found.{IsOpened};
 ghost use Rattle.proc_table.specs.Table.{IsPlaced};
 ghost use Rattle.store_objects.specs.Objects.{AreKept, Runs};
 ghost use Rattle.store_objects.specs.Standing.{IsSound, StandsFor};
 ghost use Rattle.store_objects.specs.Walking.{Serves};
+ghost use Rattle.lock_calls.specs.Setting.{first_told};
 
 use crate::claiming::file_of;
 use crate::requests::{F_UNLCK, range_of};
-use kabi_types::{Reply, Script};
-use lock_table::LockInfo;
+use kabi_types::{Errno, Reply, Script};
+use lock_table::{LockInfo, LockRange};
 use posix_defs::Turned;
 use proc_numbers::Named;
 use store_objects::{Caller, Objects, go_on};
@@ -57,16 +59,19 @@ pub fn getlk(
         caller.place,
         on,
     );
-    let reply = match file {
-        Ok(node) => told(objects.locks.conflict(
-            &objects.heap,
-            node,
-            caller.place.pid,
-            &range,
-        )),
-        Err(errno) => Reply::Fail(errno),
-    };
+    let reply = told_on(objects, caller.place.pid, file, &range);
     go_on(script, objects, caller, reply)
+}
+
+/// What is told of a file, or why it isn't looked at.
+fn told_on(objects: &Objects, pid: u32, file: Result<u32, Errno>, range: &LockRange) -> Reply
+    requires { IsLockTable objects.now.heap.locks objects.now.locks }
+    ensures { (locks : Locks) → HoldsLocks objects.now.heap.locks objects.now.locks locks → result ≡ first_told locks pid (asked_by range.now) file }
+{
+    match file {
+        Ok(node) => told(objects.locks.conflict(&objects.heap, node, pid, range)),
+        Err(errno) => Reply::Fail(errno),
+    }
 }
 
 /// Whose a lock is, and its kind.

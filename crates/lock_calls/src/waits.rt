@@ -15,6 +15,7 @@ ghost use Rattle.posix_defs.specs.Locks.{Locks, stops};
 ghost use Rattle.posix_defs.specs.Plain.{call_of};
 ghost use Rattle.posix_defs.specs.Process.{is_alive};
 ghost use Rattle.posix_defs.specs.World.{World};
+ghost use Rattle.prog_ctl.specs.Waits.{wait_of};
 ghost use Rattle.proc_numbers.specs.Found.{IsOpened};
 ghost use Rattle.proc_numbers.specs.Having.{HaveOpen};
 ghost use Rattle.proc_table.specs.Table.{IsPlaced, TableView, key_of};
@@ -96,7 +97,7 @@ fn wanted_on(on: &Named, range: LockRange) -> Option<Wanted>
 }
 
 /// The same by the operands of a `setlkw`.
-fn wanted(
+fn asked(
     objects: &Objects,
     place: Place,
     fd: i64,
@@ -114,6 +115,24 @@ fn wanted(
     };
     let on = opened(&objects.heap, &objects.procs, place, fd);
     wanted_on(&on, range)
+}
+
+/// For which places of a file a process asks with a call that waits for this.
+fn asked_with(objects: &Objects, place: Place, wait: Awaited) -> Option<Wanted>
+    requires kept { (script : ScriptOf) × AreKept script objects.now }
+    requires there { IsPlaced objects.now.procs place }
+    ensures { (script : ScriptOf) (world : World) → StandsFor script objects.now world → (call : Call) → Some wait ≡ wait_of call
+        → all_wanted world.plain.files.tree result ≡ wanted_by world.plain.files place.pid call }
+{
+    match wait {
+        Awaited::Lock {
+            fd,
+            kind,
+            start,
+            length,
+        } => asked(objects, place, fd, kind, start, length),
+        _ => None,
+    }
 }
 
 /// Whether another process's lock is in the way of the places for which a number asks, if they may be asked for through it.
@@ -153,16 +172,10 @@ fn wanted_by(script: &Script, objects: &Objects, place: Place) -> Option<Wanted>
     if proc.status.is_some() {
         return None;
     }
-    let Some(Awaited::Lock {
-        fd,
-        kind,
-        start,
-        length,
-    }) = wait_here(script, &proc.control)
-    else {
-        return None;
-    };
-    wanted(objects, place, fd, kind, start, length)
+    match wait_here(script, &proc.control) {
+        Some(wait) => asked_with(objects, place, wait),
+        None => None,
+    }
 }
 
 /// Those that hold what is in the way of a process, as bits.
@@ -184,7 +197,7 @@ fn holders_of(objects: &Objects, pid: u32, wanted: &Wanted) -> u64
         → bit_at result at ≡ bit_if (stops_at locks pid wanted.now (pid_at objects.now.procs.listed at)) }
 {
     let mut holders = 0;
-    let mut at = 0;
+    let mut at: u32 = 0;
     for other in objects.procs.listed() {
         if stops(objects, pid, wanted, other.pid) {
             holders |= 1 << at;

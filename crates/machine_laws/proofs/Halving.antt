@@ -462,7 +462,7 @@ module _ (plain : Plain) (pid : ℕ) (call : Call) (next : Files) (who : ℕ) (a
   step_waits (step.accepts fd opened place to taken named on free first is) = unwaited _ is refl refl
   step_waits (step.receives fd addr n opened place k which named on moves is) = unwaited _ is refl refl
   step_waits (step.sends fd addr n done opened place k which named on moves is) = unwaited _ is refl refl
-  step_waits (step.locks fd opened number asked sets named_so target file places clear is) = unwaited _ is refl refl
+  step_waits (step.locks fd opened number asked sets named_so target is_file places clear is) = unwaited _ is refl refl
   step_waits (step.starts is) = waits_by _ is exec_waits
   step_waits (step.forks which is) = absurd (no_fork which)
   step_waits (step.ends_caller over ending is) = absurd (true_false true refl over)
@@ -533,7 +533,7 @@ module _ (plain : Plain) (pid : ℕ) (call : Call) (next : Files) (who : ℕ) (a
   step_keeps (step.accepts fd opened place to taken named on free first is) = by _ is (one _ to _ _ refl refl)
   step_keeps (step.receives fd addr n opened place k which named on moves is) = same _ is refl refl
   step_keeps (step.sends fd addr n done opened place k which named on moves is) = same _ is refl refl
-  step_keeps (step.locks fd opened number asked sets named_so target file places clear is) = same _ is refl refl
+  step_keeps (step.locks fd opened number asked sets named_so target is_file places clear is) = same _ is refl refl
   step_keeps (step.starts is) = by _ is (keeps_named plain.files _ who
       (exec_holds (λ other. who ≢ other) (StaysNamed plain.files who) (named_closed plain.files who) plain.files pid apart (stays_now plain.files who)))
   step_keeps (step.forks which is) = absurd (no_fork which)

@@ -124,7 +124,7 @@ module _ (plain : Plain) (pid : ℕ) (call : Call) (next : Files) (none : HasNon
   step_none (step.accepts fd opened place to taken named on free first is) = same _ is refl
   step_none (step.receives fd addr n opened place k which named on moves is) = same _ is refl
   step_none (step.sends fd addr n done opened place k which named on moves is) = same _ is refl
-  step_none (step.locks fd opened number asked sets named target file places clear is) = absurd (true_false (is_setting call) sets other)
+  step_none (step.locks fd opened number asked sets named target is_file places clear is) = absurd (true_false (is_setting call) sets other)
   step_none (step.starts is) = by _ is (exec_none plain.files pid none)
   step_none (step.forks which is) = same _ is refl
   step_none (step.ends_caller over ending is) = by _ is (closed_none plain.files pid none)

@@ -147,12 +147,12 @@ module _ (plain : Plain) (pid : ℕ) (call : Call) (next : Files) (locked : Lock
   step_file (step.accepts fd opened place to taken named on free first is) = same _ is refl
   step_file (step.receives fd addr n opened place k which named on moves is) = same _ is refl
   step_file (step.sends fd addr n done opened place k which named on moves is) = same _ is refl
-  step_file (step.locks fd opened number asked sets named target file places clear is) = λ who node some. set_file who node (subst (λ (files : Files). ranges_of files.locks who node ≢ []) is some)
+  step_file (step.locks fd opened number asked sets named target is_file places clear is) = λ who node some. set_file who node (subst (λ (files : Files). ranges_of files.locks who node ≢ []) is some)
     where
       set_file : HadFile plain.files (with_locks plain.files (after_set plain.files.locks pid number asked))
       set_file who node some = elim (key pid number who node) [
         | inl this ↦ subst (λ w. OpensFile plain.files w node × (is_directory plain.files.tree node ≡ false)) (sym this.0)
-            (subst (λ n. OpensFile plain.files pid n × (is_directory plain.files.tree n ≡ false)) (sym this.1) (opens_it plain pid fd opened number named target, file))
+            (subst (λ n. OpensFile plain.files pid n × (is_directory plain.files.tree n ≡ false)) (sym this.1) (opens_it plain pid fd opened number named target, is_file))
         | inr others ↦ held who node (λ none. some (ranges_set_others plain.files.locks pid number _ who node others ∙ none))
       ]
   step_file (step.starts is) = by _ is (exec_held plain.files pid)

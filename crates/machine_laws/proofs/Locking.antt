@@ -364,7 +364,7 @@ module _ (plain : Plain) (pid : ℕ) (call : Call) (next : Files) (locked : Lock
   step_locked (step.accepts fd opened place to taken named on free first is) = stays _ is (one _ to _ _ refl refl free) refl
   step_locked (step.receives fd addr n opened place k which named on moves is) = same _ is refl refl refl
   step_locked (step.sends fd addr n done opened place k which named on moves is) = same _ is refl refl refl
-  step_locked (step.locks fd opened number asked setting named target file places clear is) = by _ is (sets fd opened number asked named target places clear)
+  step_locked (step.locks fd opened number asked setting named target is_file places clear is) = by _ is (sets fd opened number asked named target places clear)
   step_locked (step.starts is) = by _ is (exec_locked plain.files pid locked)
   step_locked (step.forks which is) = stays _ is (heir_stays plain.files pid) refl
   step_locked (step.ends_caller over ending is) = by _ is (closed_locked plain.files pid locked)

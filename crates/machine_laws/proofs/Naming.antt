@@ -534,7 +534,7 @@ module _ (plain : Plain) (pid : ℕ) (call : Call) (next : Files) (told : Told p
   step_told (step.accepts fd opened place to taken named on free first is) = by _ is (one _ to _ _ refl refl free)
   step_told (step.receives fd addr n opened place k which named on moves is) = same _ is refl refl
   step_told (step.sends fd addr n done opened place k which named on moves is) = same _ is refl refl
-  step_told (step.locks fd opened number asked sets named_so target file places clear is) = same _ is refl refl
+  step_told (step.locks fd opened number asked sets named_so target is_file places clear is) = same _ is refl refl
   step_told (step.starts is) = by _ is (exec_told plain.files pid told)
   step_told (step.forks which is) = by _ is (heir_told plain.files pid told)
   step_told (step.ends_caller over ending is) = by _ is (closed_told plain.files pid told)

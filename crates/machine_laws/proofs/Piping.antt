@@ -631,7 +631,7 @@ module _ (plain : Plain) (pid : ℕ) (call : Call) (next : Files) (piped : Holds
   step_piped (step.accepts fd opened place to taken_one named on free first is) = by _ is (one _ (λ q. refl) tt)
   step_piped (step.receives fd addr n opened place k which named on moves is) = same _ is refl refl
   step_piped (step.sends fd addr n done opened place k which named on moves is) = same _ is refl refl
-  step_piped (step.locks fd opened number asked sets named_so target file places clear is) = same _ is refl refl
+  step_piped (step.locks fd opened number asked sets named_so target is_file places clear is) = same _ is refl refl
   step_piped (step.starts is) = by _ is (exec_holds anybody Holds closes plain.files pid tt piped)
   step_piped (step.forks which is) = same _ is refl refl
   step_piped (step.ends_caller over ending is) = by _ is (closed_by_holds anybody Holds closes plain.files pid (λ pid. tt) piped)

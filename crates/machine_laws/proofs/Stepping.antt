@@ -1,5 +1,5 @@
 -- Each answer of each call leads to files that one step leads to.
-use Rattle.std.proofs.Common.{◌≡◌, ℕ, zero, suc, ◌+◌, ◌-◌, ◌≤◌, arith, ◌==◌, ◌&&◌, ◌||◌, nat_lt, not, ℤ, pos, negsuc, ◌+ℤ◌, Bool, true, false, cond, List, length, Option, None, Some, is_some, Result, Ok, Err, refl, ap, sym, ◌∙◌, subst}
+use Rattle.std.proofs.Common.{◌≡◌, ◌≢◌, ℕ, zero, suc, ◌+◌, ◌-◌, ◌≤◌, arith, ◌==◌, ◌&&◌, ◌||◌, nat_lt, not, ℤ, pos, negsuc, ◌+ℤ◌, Bool, true, false, cond, List, length, Option, None, Some, is_some, Result, Ok, Err, refl, ap, sym, ◌∙◌, subst}
 use Rattle.std.specs.Option.{option_or}
 use Rattle.std.proofs.lemmas.Bool.{ltb-false}
 use Rattle.kabi_types.specs.Arguments.{argument_fault, count_of, greatest_place, invalid_unless, is_from, is_minus_one, is_within, locked_fault, may_be_descriptor}
@@ -79,8 +79,18 @@ end_openings files pid flags fd number = go (fifo_at files number)
 
 -- what the operands of a call on record locks ask for are places of a file
 ends_there : (most start size : ℕ) → start + (size - 1) ≤ most → (start ≤ cond (size == 0) most (start + size - 1)) × (cond (size == 0) most (start + size - 1) ≤ most)
-ends_there most start zero h = (let low : start ≤ most = (let from : start + 0 ≤ most = h in omega arith) in low, let high : most ≤ most = omega arith in high)
-ends_there most start (suc n) h = (let low : start ≤ start + suc n - 1 = omega arith in low, let high : start + suc n - 1 ≤ most = (let from : start + n ≤ most = h in omega arith) in high)
+ends_there most start size h = by (size == 0) refl
+  where
+    some : (size == 0) ≡ false → size ≢ 0
+    some is none = absurd (no (sym is ∙ ap (λ n. n == 0) none))
+      where
+        no : false ≡ true → ⊥
+        no e = cc
+
+    by : (b : Bool) → (size == 0) ≡ b → (start ≤ cond b most (start + size - 1)) × (cond b most (start + size - 1) ≤ most)
+    by true is = (let low : start ≤ most = omega (arith, h) in low, let high : most ≤ most = omega arith in high)
+    by false is = let more : size ≢ 0 = some is in
+        (let low : start ≤ start + size - 1 = omega (arith, more) in low, let high : start + size - 1 ≤ most = omega (arith, h, more) in high)
 
 ends_before : (right beyond : Bool) → option_or (invalid_unless right) (cond beyond (Some EOVERFLOW) None) ≡ None → beyond ≡ false
 ends_before right false e = refl

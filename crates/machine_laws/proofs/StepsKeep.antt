@@ -490,7 +490,7 @@ module _ (plain : Plain) (pid : ℕ) (call : Call) (next : Files) (rooted : Root
   step_after (step.sends fd addr n done opened place k which named on moves is) = resocketed _ is (sock_after_write plain.files.sockets place (bytes_left plain pid addr (count_of n) done) k)
       (sent_wells (peer_of (stage_at plain.files.sockets place)) place (take k (bytes_left plain pid addr (count_of n) done)) refl (All-take IsByte k (bytes_left plain pid addr (count_of n) done) (left_bytes addr (count_of n) done)))
       (write_once plain.files.sockets place (bytes_left plain pid addr (count_of n) done) k joined.0 rooted.alone) refl refl refl refl
-  step_after (step.locks fd opened number asked sets named_so target file places clear is) = same _ is refl refl refl refl
+  step_after (step.locks fd opened number asked sets named_so target is_file places clear is) = same _ is refl refl refl refl
   step_after (step.starts is) = by _ is (exec_after plain rooted pipes joined piped pid)
   step_after (step.forks which is) = same _ is refl refl refl refl
   step_after (step.ends_caller over ending is) = by _ is (closed_after plain rooted pipes joined piped pid)

@@ -72,7 +72,7 @@ module _ (plain : Plain) (pid : ℕ) (call : Call) (next : Files) (unnamed : nam
   by_step (step.accepts fd opened place to taken named_by on free first is) = tree_of _ is refl
   by_step (step.receives fd addr n opened place k which named_by on moves is) = tree_of _ is refl
   by_step (step.sends fd addr n done opened place k which named_by on moves is) = tree_of _ is refl
-  by_step (step.locks fd opened number asked sets named_so target file places clear is) = tree_of _ is refl
+  by_step (step.locks fd opened number asked sets named_so target is_file places clear is) = tree_of _ is refl
   by_step (step.starts is) = kept _ is (λ none. tree_kept plain.files _ (exec_fades plain.files pid) none)
   by_step (step.forks which is) = tree_of _ is refl
   by_step (step.ends_caller over ending is) = kept _ is (λ none. tree_kept plain.files _ (closed_by_fades plain.files pid) none)

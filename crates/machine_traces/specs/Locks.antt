@@ -33,27 +33,29 @@ script_with body = record (script_of 64 []) { programs = record { name = codes "
 
 -- ---- two clerks and one ledger
 
--- the first clerk is the parent, the second the child, from the place behind the jump on
+-- what the first clerk does, and behind the jump the second, who is its child
+abbrev pub clerks_apart : List Statement
+clerks_apart =
+    calls kind.Read (pos 1 ∷ pos 4096 ∷ pos 1 ∷ [])
+    ∷ calls kind.Getlk (pos 0 ∷ pos 0 ∷ pos 0 ∷ pos 0 ∷ [])
+    ∷ calls kind.Setlkw (pos 0 ∷ pos 1 ∷ pos 25 ∷ pos 1 ∷ [])
+    ∷ calls kind.Setlk (pos 0 ∷ pos 1 ∷ pos 29 ∷ pos 1 ∷ [])
+    ∷ calls kind.Setlk (pos 0 ∷ pos 2 ∷ pos 4 ∷ pos 2 ∷ [])
+    ∷ calls kind.Waitpid (pos 2 ∷ pos 0 ∷ [])
+    ∷ statement.Jump 17
+    ∷ calls kind.Setlk (pos 0 ∷ pos 1 ∷ pos 20 ∷ pos 10 ∷ [])
+    ∷ calls kind.Write (pos 2 ∷ pos 4096 ∷ pos 1 ∷ [])
+    ∷ calls kind.Setlkw (pos 0 ∷ pos 1 ∷ pos 4 ∷ pos 2 ∷ [])
+    ∷ calls kind.Close (pos 0 ∷ [])
+    ∷ []
+
 abbrev pub two_clerks : List Statement
 two_clerks =
     calls kind.Mmap (pos 4096 ∷ [])
     ∷ opens_it
     ∷ calls kind.Setlk (pos 0 ∷ pos 1 ∷ pos 0 ∷ pos 10 ∷ [])
     ∷ calls kind.Pipe []
-    ∷ forks_to 0 13 (
-      calls kind.Read (pos 1 ∷ pos 4096 ∷ pos 1 ∷ [])
-      ∷ calls kind.Getlk (pos 0 ∷ pos 0 ∷ pos 0 ∷ pos 0 ∷ [])
-      ∷ calls kind.Setlkw (pos 0 ∷ pos 1 ∷ pos 25 ∷ pos 1 ∷ [])
-      ∷ calls kind.Setlk (pos 0 ∷ pos 1 ∷ pos 29 ∷ pos 1 ∷ [])
-      ∷ calls kind.Setlk (pos 0 ∷ pos 2 ∷ pos 4 ∷ pos 2 ∷ [])
-      ∷ calls kind.Waitpid (pos 2 ∷ pos 0 ∷ [])
-      ∷ statement.Jump 17
-      ∷ calls kind.Setlk (pos 0 ∷ pos 1 ∷ pos 20 ∷ pos 10 ∷ [])
-      ∷ calls kind.Write (pos 2 ∷ pos 4096 ∷ pos 1 ∷ [])
-      ∷ calls kind.Setlkw (pos 0 ∷ pos 1 ∷ pos 4 ∷ pos 2 ∷ [])
-      ∷ calls kind.Close (pos 0 ∷ [])
-      ∷ []
-    )
+    ∷ forks_to 0 13 clerks_apart
 
 -- Each holds what the other waits for, so the second to wait is refused; it lets some of the middle go, and the other goes on. To close the
 -- file lets all of it go.
@@ -89,22 +91,22 @@ clerks_in_a_circle_pin = 1 ∷ 2 ∷ 2 ∷ 2 ∷ 2 ∷ 2 ∷ 2 ∷ 2 ∷ 2 ∷ 2
 
 -- ---- a circle of three
 
--- each holds a place, and wants that of the next
+-- each holds a place, and wants that of the next: the parent, and behind each jump a child
+abbrev pub three_apart : List Statement
+three_apart =
+    calls kind.Setlk (pos 0 ∷ pos 1 ∷ pos 0 ∷ pos 1 ∷ [])
+    ∷ calls kind.Setlkw (pos 0 ∷ pos 1 ∷ pos 1 ∷ pos 1 ∷ [])
+    ∷ calls kind.Close (pos 0 ∷ [])
+    ∷ statement.Jump 14
+    ∷ calls kind.Setlk (pos 0 ∷ pos 1 ∷ pos 1 ∷ pos 1 ∷ [])
+    ∷ calls kind.Setlkw (pos 0 ∷ pos 1 ∷ pos 2 ∷ pos 1 ∷ [])
+    ∷ statement.Jump 14
+    ∷ calls kind.Setlk (pos 0 ∷ pos 1 ∷ pos 2 ∷ pos 1 ∷ [])
+    ∷ calls kind.Setlkw (pos 0 ∷ pos 1 ∷ pos 0 ∷ pos 1 ∷ [])
+    ∷ []
+
 abbrev pub three_in_turn : List Statement
-three_in_turn =
-    opens_it
-    ∷ forks_to 0 9 (forks_to 1 12 (
-      calls kind.Setlk (pos 0 ∷ pos 1 ∷ pos 0 ∷ pos 1 ∷ [])
-      ∷ calls kind.Setlkw (pos 0 ∷ pos 1 ∷ pos 1 ∷ pos 1 ∷ [])
-      ∷ calls kind.Close (pos 0 ∷ [])
-      ∷ statement.Jump 14
-      ∷ calls kind.Setlk (pos 0 ∷ pos 1 ∷ pos 1 ∷ pos 1 ∷ [])
-      ∷ calls kind.Setlkw (pos 0 ∷ pos 1 ∷ pos 2 ∷ pos 1 ∷ [])
-      ∷ statement.Jump 14
-      ∷ calls kind.Setlk (pos 0 ∷ pos 1 ∷ pos 2 ∷ pos 1 ∷ [])
-      ∷ calls kind.Setlkw (pos 0 ∷ pos 1 ∷ pos 0 ∷ pos 1 ∷ [])
-      ∷ []
-    ))
+three_in_turn = opens_it ∷ forks_to 0 9 (forks_to 1 12 three_apart)
 
 -- Who would close the circle is refused; once it has ended the others go on, and what touches is one range.
 abbrev pub three_in_a_circle : List Line

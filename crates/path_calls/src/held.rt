@@ -71,12 +71,7 @@ fn add_leaf(heap: &KHeap, leaf: Option<u32>, no_fifo: bool, nodes: &mut NodeSet)
 }
 
 // The nodes that these descriptors are open on. Where no FIFO is open no pipe is asked for its own.
-fn add_row(
-    heap: &KHeap,
-    row: &[Option<Descriptor>; 32],
-    no_fifo: bool,
-    nodes: &mut NodeSet,
-)
+fn add_row(heap: &KHeap, row: &[Option<Descriptor>; 32], no_fifo: bool, nodes: &mut NodeSet)
     requires owners { HasItsOwners heap.now [] }
     requires fifos { HasNoFifo heap.now no_fifo }
     requires named { (fd : ℕ) (held : HeldDescriptor) → object row.now fd ≡ Some held → InUse heap.now.descs held.desc }

@@ -1,5 +1,6 @@
 -- Locks are beside all else in the heap: whichever there are, it stands for the same; and which of them go with a number.
-use Rattle.std.proofs.Common.{◌≡◌, ℕ, true, List, [], Option, None, Some, is_none, refl, ap, sym, ◌∙◌, subst}
+use Rattle.std.proofs.Common.{◌≡◌, ℕ, ◌+◌, ◌||◌, true, cond, List, [], ◌∷◌, Option, None, Some, is_none, refl, ap, sym, ◌∙◌, subst}
+use Rattle.std.specs.List.{list_any}
 use Rattle.std.specs.Option.{option_map}
 use Rattle.fifo_nodes.proofs.ChainLemmas.{chain_kept}
 use Rattle.fifo_nodes.specs.Chain.{IsChain}
@@ -19,9 +20,10 @@ use Rattle.open_laws.specs.Placed.{Numbers}
 use Rattle.open_laws.proofs.GoingLemmas.{held_open_on, named_on, open_on}
 use Rattle.pipe_ends.proofs.LinkLemmas.{links_same}
 use Rattle.posix_defs.specs.Files.Closing.{after_close}
-use Rattle.posix_defs.specs.Files.Descriptions.{Description}
-use Rattle.posix_defs.specs.Files.State.{Files, file_of_target, let_go, opened_file, with_locks}
+use Rattle.posix_defs.specs.Files.Descriptions.{Description, Descriptions}
+use Rattle.posix_defs.specs.Files.State.{Files, beside, file_of_target, is_number, let_go, node_of, opened_file, opened_node, opens, with_locks}
 use Rattle.posix_defs.specs.Locks.{Locks}
+use Rattle.posix_defs.specs.TreeChanges.{closed}
 use Rattle.proc_numbers.specs.Closed.{locks_left, locks_without, without_number}
 use Rattle.proc_numbers.specs.Found.{IsOpened}
 use Rattle.proc_numbers.specs.Having.{AreListed, HaveOpen}
@@ -32,10 +34,11 @@ use Rattle.proc_numbers.proofs.NumberNames.{descriptor_at_is}
 use Rattle.proc_numbers.proofs.WithLocks.{close_is, have_locked}
 use Rattle.proc_table.specs.Table.{TableView}
 use Rattle.proc_files.specs.Closing.{ClosesHolding}
-use Rattle.proc_files.specs.Holders.{holders}
+use Rattle.proc_files.specs.Holders.{holders, times}
 use Rattle.proc_files.specs.NameHolding.{HoldNames, HoldSomeNames}
-use Rattle.proc_files.proofs.Closings.{Goes}
-use Rattle.proc_files.proofs.Holding.{stands_on}
+use Rattle.proc_files.proofs.Closings.{Goes, tree_left}
+use Rattle.proc_files.proofs.Holding.{same_pins, stands_on}
+use Rattle.proc_files.proofs.Openings.{all_same, same_node, same_nodes}
 
 -- ---- the heap
 
@@ -96,14 +99,18 @@ module _ (numbers : Numbers) (others : ℕ → ℕ) (h : Heap) (kept : TableView
   names_locked locks hold = record {
     held = record {
       opened = have_locked numbers h kept files locks hold.held.opened;
-      tree = hold.held.tree;
-      nodes = hold.held.nodes;
+      tree = same_pins h fs files.tree (holders others files) (holders others then)
+          (λ n. ap (λ nodes. others n + times n nodes) (same_nodes files then files.descriptions (all_same files then files.descriptions refl))) hold.held.tree;
+      nodes = λ place number d there on. hold.held.nodes place number d there (same_node files then refl d.target ∙ on);
       beside = hold.held.beside;
     };
     bound = hold.bound;
     named = record { bound = hold.named.bound; waiting = hold.named.waiting };
     places = hold.places;
   }
+    where
+      then : Files
+      then = with_locks files locks
 
 -- so what a close leaves of what is open is what it leaves
 pub names_closed : (numbers : Numbers) (others : ℕ → ℕ) (h : Heap) (kept : TableView) (fs : TreeView) (names : List (Option ℕ)) (files : Files) (pid fd : ℕ)
@@ -118,7 +125,26 @@ open_left numbers h kept files pid fd have =
 
 -- the same goes, whichever locks there are
 pub goes_locked : (files next : Files) (gone : Option ℕ) (locks : Locks) → Goes files next gone → Goes files (with_locks next locks) gone
-goes_locked files next gone locks goes = record { opened = goes.opened; tree = goes.tree; left = goes.left; nodes = goes.nodes }
+goes_locked files next gone locks goes = record {
+  opened = λ n. ap (λ nodes. times n nodes + times n (beside gone [])) (same_nodes then next next.descriptions (all_same then next next.descriptions refl)) ∙ goes.opened n;
+  tree = goes.tree ∙ same_tree gone;
+  left = goes.left;
+  nodes = λ place d there. same_node then next refl d.target ∙ goes.nodes place d there;
+}
+  where
+    then : Files
+    then = with_locks next locks
+
+    same_tests : (n : ℕ) (list : Descriptions) → list_any (λ d. is_number n (opened_node next d)) list ≡ list_any (λ d. is_number n (opened_node then d)) list
+    same_tests n [] = refl
+    same_tests n (None ∷ list) = same_tests n list
+    same_tests n (Some d ∷ list) =
+        ap (λ o. is_number n o || list_any (λ e. is_number n (opened_node next e)) list) (same_node next then refl d.target)
+        ∙ ap (λ b. is_number n (node_of then d.target) || b) (same_tests n list)
+
+    same_tree : (which : Option ℕ) → tree_left files.tree which (opens next) ≡ tree_left files.tree which (opens then)
+    same_tree None = refl
+    same_tree (Some number) = ap (λ b. cond b files.tree (closed files.tree number)) (same_tests number next.descriptions)
 
 pub goes_closed : (files : Files) (pid fd : ℕ) (gone : Option ℕ) → Goes files (without_number files pid fd) gone → Goes files (after_close files pid fd) gone
 goes_closed files pid fd gone goes =

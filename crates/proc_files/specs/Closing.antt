@@ -36,8 +36,8 @@ pub record ClosesHolding (old new : Heap) (kept : TableView) (pid fd : ℕ) : Ty
   pub closes : ClosesNumber old mid kept pid fd
   pub caches : CachesChange mid new
 
--- Of one process other numbers are open, in its Proc and its Leaves; of the other objects only what is open, what the caches keep and locks are
--- others.
+-- Of one process other numbers are open, in its Proc and its Leaves; of the other objects only what is open, what the caches keep
+-- and locks are others.
 pub record ChangesHolding (old new : Heap) (kept : TableView) (pid : ℕ) : Type 0 where
   pub key : ℕ
   pub proc : Proc

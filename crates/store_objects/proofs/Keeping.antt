@@ -122,8 +122,8 @@ moved_caches old new was now moves = record {
   size = ap (λ (h : Heap). h.heap) moves.kept;
 }
 
--- What is kept of a heap, a table, a tree of files, a table of names, the chain of FIFOs' pipes and that of locks, but for what is open. Some
--- Leaves may have come that no process has yet.
+-- What is kept of a heap, a table, a tree of files, a table of names, the chain of FIFOs' pipes and that of locks, but for what is
+-- open. Some Leaves may have come that no process has yet.
 pub record KeepsHeap (script : Script) (h : Heap) (kept : TableView) (fs : TreeView) (names : List (Option ℕ)) (first held : Option ℕ) : Type 0 where
   pub without : List (Option Leaf)
   pub listed : AreListed (record h { leaves = without }) kept

@@ -21,6 +21,7 @@ pub mod LockedOn
 pub mod Keeping
 pub mod GoingOn
 pub mod RunningProcs
+pub mod NextCalls
 pub mod Beside
 pub mod Marking
 pub mod WhatGoes

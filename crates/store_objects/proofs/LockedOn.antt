@@ -20,7 +20,7 @@ module _ (old new : Objects) (stay : LocksStay old new) where
       subst (λ first. HoldsLocks new.heap.locks first locks) (sym stay.first) (subst (λ (shelf : List (Option HeldLock)). HoldsLocks shelf old.locks locks) (sym stay.shelf) holds)
 
   pub locked_on : IsLockTable old.heap.locks old.locks → IsLockTable new.heap.locks new.locks
-  locked_on (locks, holds) = (locks, holds_on locks holds)
+  locked_on held = (held.0, holds_on held.0 held.1)
 
 -- so they follow a call that leaves the machine's
 pub locks_follow : (script : Script) (old new : Objects) (pid : ℕ) (answer : Plain → Answer) (said : Reply) → LocksStay old new → ((plain : Plain) → LeavesLocks plain (answer plain))

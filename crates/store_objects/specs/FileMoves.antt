@@ -20,8 +20,8 @@ use Rattle.store_objects.specs.Objects.{procs_of}
 use Rattle.store_objects.specs.Trees.{KeepsTree}
 
 -- Of a store what is open, what a process has in memory, the tree of files with what its caches keep, and names of sockets have
--- changed, and locks may have: its processes stay but for their descriptors, all that is in the heap has its owner, and the table of names has as many
--- places, with each socket that is bound at its node.
+-- changed, and locks may have: its processes stay but for their descriptors, all that is in the heap has its owner, and the table
+-- of names has as many places, with each socket that is bound at its node.
 pub record FileMoves (old new : Objects) : Type 0 where
   pub procs : ProcsStay old new
   pub holds : Holds new.heap new.procs

@@ -91,8 +91,8 @@ most_nodes = 4096
 
 -- What the objects of a store keep, whatever they stand for: the table has every process that is in the heap, all nodes,
 -- descriptions, pipes, sockets and chunks have their owners, and the rest is what the tree of files keeps in its caches. The table
--- of names has for each node the socket that is bound to it, and the pipes of all FIFOs are a chain, as all locks are. Who runs stands at its
--- next call.
+-- of names has for each node the socket that is bound to it, and the pipes of all FIFOs are a chain, as all locks are. Who runs
+-- stands at its next call.
 pub record AreKept (script : Script) (objects : Objects) : Type 0 where
   pub holds : Holds objects.heap objects.procs
   pub all : AreKeysOf objects.heap.procs (keys_of objects.procs.listed)

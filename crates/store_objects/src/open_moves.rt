@@ -37,8 +37,8 @@ pub fn a_store_goes_on_with_what_is_open()
 {}
 
 /// Where a call changes what a process has open that runs, and no socket's name, only what is open has changed of the store; and
-/// where its answer is a reply that leaves all memory and all locks, with which the machine's files have become those that the objects have, its
-/// caller goes on in that machine.
+/// where its answer is a reply that leaves all memory and all locks, with which the machine's files have become those that the
+/// objects have, its caller goes on in that machine.
 pub fn a_call_changes_what_a_process_has_open()
     ensures moves { (old : Objects) (new : Objects) (pid : ℕ) → Holds old.heap old.procs → new.procs ≡ old.procs → new.tree ≡ old.tree → new.names ≡ old.names
         → new.fifos ≡ old.fifos → new.locks ≡ old.locks → IsChain old.heap old.fifos → IsAlive (procs_of old) pid → ChangesNumbers old.heap new.heap old.procs pid → AreListed new.heap old.procs → HasItsOwners new.heap []

@@ -1,5 +1,6 @@
 -- Behind a turn that passes by each other process lives, and its next call blocks where it would have before.
-use Rattle.std.proofs.Common.{◌≡◌, ◌≢◌, ℕ, ◌≤◌, ◌==◌, ◌&&◌, Bool, true, false, [], ◌∷◌, unwrap_or, length, refl, ap, sym, ◌∙◌, subst}
+use Rattle.std.proofs.Common.{◌≡◌, ◌≢◌, ℕ, ◌≤◌, ◌==◌, ◌&&◌, Bool, true, false, [], ◌∷◌, inl, inr, arith, unwrap_or, length, refl, ap, sym, ◌∙◌, subst}
+use Rattle.std.proofs.lemmas.Bool.Decides.{eqb_tells}
 use Rattle.kabi_types.specs.declared.calls.Call.{Call}
 use Rattle.kabi_types.specs.declared.errnos.Errno.{Errno}
 use Rattle.kabi_types.specs.declared.replies.Reply.TheVariants as reply
@@ -10,7 +11,7 @@ use Rattle.kern_laws.proofs.Families.{alive_there}
 use Rattle.kern_laws.proofs.TablePlaces.{was_made}
 use Rattle.machine_laws.specs.Own.{IsLeftAlone}
 use Rattle.machine_laws.proofs.Alone.{answers_leave_alone}
-use Rattle.machine_laws.proofs.Tables.{at_other}
+use Rattle.machine_laws.proofs.Tables.{at_other, true_false}
 use Rattle.machine_laws.specs.Described.{AreDescribed}
 use Rattle.machine_laws.specs.FileSteps.{LeadsTo}
 use Rattle.machine_laws.specs.Reached.{IsReached}
@@ -37,11 +38,11 @@ use Rattle.waking_laws.proofs.Staying.{itself, sees, sees_queues}
 -- ---- nobody holds a lock
 
 pub none_held : (files : Files) → no_lock files ≡ true → files.locks ≡ []
-none_held files is = go files.locks is
+none_held files is = elim (eqb_tells (length files.locks) 0) [ inl alike ↦ go files.locks alike.1 | inr apart ↦ absurd (true_false is apart.0) ]
   where
-    go : (locks : Locks) → (length locks == 0) ≡ true → locks ≡ []
+    go : (locks : Locks) → length locks ≡ 0 → locks ≡ []
     go [] e = refl
-    go (lock ∷ locks) e = cc
+    go (lock ∷ locks) e = absurd (omega arith)
 
 -- ---- a machine that is seen as the same
 

@@ -114,11 +114,11 @@ has_open files pid number = list_any (opens_by files number) (descriptors_of fil
 
 -- Of locks: what a process holds of a file lies apart, and is one range where it touches; no two processes hold a place that they can't
 -- both hold so; who holds some of a file has it open, and it is no directory.
-pub record AreLocks (files : Files) : Type 0 where
-  pub canonical : (pid number : ℕ) → IsCanonical (ranges_of files.locks pid number)
-  pub apart : (pid other number : ℕ) → pid ≢ other → AreApart (ranges_of files.locks pid number) (ranges_of files.locks other number)
-  pub opened : (pid number : ℕ) → ranges_of files.locks pid number ≢ [] → has_open files pid number ≡ true
-  pub files : (pid number : ℕ) → ranges_of files.locks pid number ≢ [] → is_directory files.tree number ≡ false
+pub record AreLocks (held : Files) : Type 0 where
+  pub canonical : (pid number : ℕ) → IsCanonical (ranges_of held.locks pid number)
+  pub apart : (pid other number : ℕ) → pid ≢ other → AreApart (ranges_of held.locks pid number) (ranges_of held.locks other number)
+  pub opened : (pid number : ℕ) → ranges_of held.locks pid number ≢ [] → has_open held pid number ≡ true
+  pub files : (pid number : ℕ) → ranges_of held.locks pid number ≢ [] → is_directory held.tree number ≡ false
 
 -- ---- half-done writes
 

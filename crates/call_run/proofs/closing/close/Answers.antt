@@ -70,7 +70,7 @@ returns-clause-does c =
     let said = c.zero.result in
     let one : HoldSome n.new.heap old.procs n.new.tree = record { numbers = some.numbers; others = some.others; files = some.files; hold = some.hold.held } in
     let answers : (numbers : Numbers) (others : ℕ → ℕ) (plain : Plain) → HoldNames numbers others old.heap old.procs old.tree old.names plain.files
-        → AnswersClosing numbers others old.heap n.new.heap old.locks n.new.locks old.procs n.new.tree n.new.names script plain pid (close script plain pid c.args.on.now.fd) said =
+    → AnswersClosing numbers others old.heap n.new.heap old.locks n.new.locks old.procs n.new.tree n.new.names script plain pid (close script plain pid c.args.on.now.fd) said =
     λ numbers others plain hold.
     subst (AnswersClosing numbers others old.heap n.new.heap old.locks n.new.locks old.procs n.new.tree n.new.names script plain pid (close script plain pid c.args.on.now.fd)) (sym c.zero.ensures)
     (n.ensures.answers numbers others script plain hold) in

@@ -84,7 +84,7 @@ returns-clause-does c =
     let to = to_z-of_z w64 c.args.to c.ranges.to in
     let one : HoldSome n.new.heap old.procs n.new.tree = record { numbers = some.numbers; others = some.others; files = some.files; hold = some.hold.held } in
     let answers : (numbers : Numbers) (others : ℕ → ℕ) (plain : Plain) → HoldNames numbers others old.heap old.procs old.tree old.names plain.files
-        → AnswersClosing numbers others old.heap n.new.heap old.locks n.new.locks old.procs n.new.tree n.new.names script plain pid (dup2 script plain pid c.args.on.now.fd c.args.to) said =
+    → AnswersClosing numbers others old.heap n.new.heap old.locks n.new.locks old.procs n.new.tree n.new.names script plain pid (dup2 script plain pid c.args.on.now.fd c.args.to) said =
     λ numbers others plain hold.
     subst (AnswersClosing numbers others old.heap n.new.heap old.locks n.new.locks old.procs n.new.tree n.new.names script plain pid (dup2 script plain pid c.args.on.now.fd c.args.to)) (sym c.value.ensures)
     (subst (λ z. AnswersClosing numbers others old.heap n.new.heap old.locks n.new.locks old.procs n.new.tree n.new.names script plain pid (dup2 script plain pid c.args.on.now.fd z) (value_of n.result)) to

@@ -1,4 +1,4 @@
-use Rattle.lock_calls.proofs.Requests.{other_kind}
+use Rattle.lock_calls.proofs.Operands.{other_kind}
 use Rattle.lock_calls.proofs.requests.kind_of.Goals as goal
 
 pub returns-in_default-clause-same : goal.returns-in_default-clause-same

@@ -1,4 +1,4 @@
-use Rattle.lock_calls.proofs.Requests.{right_places}
+use Rattle.lock_calls.proofs.Operands.{right_places}
 use Rattle.lock_calls.proofs.requests.range_of.Goals as goal
 
 pub returns-clause-asked : goal.returns-clause-asked

@@ -1,10 +1,9 @@
 use Rattle.std.proofs.Common.{◌≡◌, ◌∙◌, Option, None, Some, refl, sym}
 use Rattle.std.specs.Option.{option_map}
-use Rattle.kabi_types.specs.declared.replies.Reply.{Reply}
 use Rattle.kabi_types.specs.declared.replies.Reply.TheVariants.{Pair}
 use Rattle.lock_table.specs.Holding.{info_of}
 use Rattle.lock_table.specs.declared.locks.LockInfo.{LockInfo}
-use Rattle.posix_defs.specs.Calls.OnLocks.{kind_told, lock_told}
+use Rattle.posix_defs.specs.Calls.OnLocks.{lock_told}
 use Rattle.posix_defs.specs.Locks.{Lock}
 use Rattle.lock_calls.proofs.telling.told.Goals as goal
 

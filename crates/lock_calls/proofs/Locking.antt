@@ -1,20 +1,19 @@
 -- A call on locks has changed a store, and its caller goes on.
-use Rattle.std.proofs.Common.{◌≡◌, ℕ, ℤ, ◌+◌, ◌≤◌, pos, not, Bool, true, false, cond, [], Option, None, Some, Result, Ok, Err, length, refl, ap, sym, ◌∙◌, subst, arith}
-use Rattle.kabi_types.specs.Arguments.{argument_fault}
+use Rattle.std.proofs.Common.{◌≡◌, ℕ, ℤ, ◌+◌, ◌≤◌, Bool, true, false, cond, Option, None, Result, Ok, Err, refl, ap, sym, ◌∙◌, subst, arith}
 use Rattle.kabi_types.specs.declared.calls.Call.{Call}
 use Rattle.kabi_types.specs.declared.errnos.Errno.{Errno}
-use Rattle.kabi_types.specs.declared.errnos.Errno.TheVariants.{EAGAIN, EBADF, EDEADLK}
+use Rattle.kabi_types.specs.declared.errnos.Errno.TheVariants.{EAGAIN}
 use Rattle.kabi_types.specs.declared.replies.Reply.{Reply}
-use Rattle.kabi_types.specs.declared.replies.Reply.TheVariants.{Fail, Val}
 use Rattle.kabi_types.specs.declared.scripts.Control.{Control}
 use Rattle.kabi_types.specs.declared.scripts.Script.{Script}
 use Rattle.kheap_slabs.specs.Heap.{Heap, IsWellFormed}
 use Rattle.kheap_slabs.specs.Objects.{count}
+use Rattle.lock_ranges.specs.declared.range.Kind.{Kind}
 use Rattle.lock_table.specs.Chain.{HoldsLocks, IsLockTable}
 use Rattle.memfs_ops.specs.FileTree.{IsUsed}
 use Rattle.open_laws.specs.Placed.{Numbers}
 use Rattle.posix_defs.specs.Answer.{Answer, Blocked, failed, replied}
-use Rattle.posix_defs.specs.Calls.OnLocks.{circles, granted, granted_or, is_clear, setlk, setlkw}
+use Rattle.posix_defs.specs.Calls.OnLocks.{granted, granted_or}
 use Rattle.posix_defs.specs.Calls.Opened.{opened_at}
 use Rattle.posix_defs.specs.Files.State.{Files, with_locks}
 use Rattle.posix_defs.specs.Locks.{Locks, Request, after_set}
@@ -22,11 +21,10 @@ use Rattle.posix_defs.specs.Memory.{Frames}
 use Rattle.posix_defs.specs.MemoryCalls.{frames_after}
 use Rattle.posix_defs.specs.Needs.{need_of}
 use Rattle.posix_defs.specs.Plain.{Plain, with_files}
-use Rattle.posix_defs.specs.Reaching.{path_to_leave, path_to_walk, paths_of}
+use Rattle.posix_defs.specs.Reaching.{path_to_leave}
 use Rattle.posix_defs.specs.World.{World}
 use Rattle.posix_defs.specs.declared.turner.Turned.{Turned}
 use Rattle.posix_defs.specs.declared.turner.Turned.TheVariants as turned
-use Rattle.proc_files.specs.Answering.{AnswersHolding, StaysOffNodes}
 use Rattle.proc_files.specs.Closing.{ChangesHolding}
 use Rattle.proc_files.specs.Holding.{HoldFiles, HoldSome}
 use Rattle.proc_files.proofs.OpenFiles.{used_reads}
@@ -177,3 +175,10 @@ some_set script old mid well some holds = record {
   files = some.0.plain.files;
   hold = holds some.1.files.numbers (others_in some.0.plain) some.0.plain.files (holds_files script old some.0 some.1 well some.2);
 }
+
+-- what may be claimed is what the machine says, since the store holds its files
+pub claimed_so : (script : Script) (old : Objects) (world : World) → IsWellFormed old.heap → StandsFor script old world → IsSound world.plain → {kind : Option Kind} {pid : ℕ} {fd : ℤ} {result : Result ℕ Errno}
+    → ((numbers : Numbers) (others : ℕ → ℕ) (files : Files) → HoldFiles numbers others old.heap old.procs old.tree files → result ≡ claimed_by files kind (opened_at files pid fd))
+    → (is : Result ℕ Errno) → result ≡ is → claimed_by world.plain.files kind (opened_at world.plain.files pid fd) ≡ is
+claimed_so script old world well stands sound tells is e =
+    sym (tells stands.files.numbers (others_in world.plain) world.plain.files (holds_files script old world stands well sound)) ∙ e
