@@ -1,0 +1,4 @@
+pub mod RowLemmas
+pub mod TallyLemmas
+pub mod FrameLemmas
+pub mod PlaceLemmas
