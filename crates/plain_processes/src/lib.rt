@@ -2,10 +2,10 @@
 //! memory, works in and ignores.
 #![tactic(auto)]
 
+mod ending;
 mod process;
 mod table;
 mod waiting;
-mod ending;
 
 pub use table::Table;
 pub use waiting::Exited;

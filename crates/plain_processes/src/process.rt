@@ -1,5 +1,5 @@
 ghost use Rattle.std.specs.Prelude.{◌≡◌, IfOk, ◌+◌, ◌≤◌, length};
-ghost use Rattle.posix_defs.specs.Memory.{no_memory};
+ghost use Rattle.posix_defs.specs.Memory.{no_memory, stored, with_pages, without_pages};
 ghost use Rattle.posix_defs.specs.Plain.{first_process};
 ghost use Rattle.posix_defs.specs.Process.{Ended, runs};
 ghost use Rattle.posix_defs.specs.Signals.{ignores_signal, with_disposition};
@@ -143,5 +143,36 @@ impl Process {
     {
         self.ended = Some(status);
         self.memory.clear();
+    }
+
+    // It maps so many pages from this one on, each with zeros.
+    pub(crate) fn map(&mut self, alloc: Global, first: u32, count: u32) -> Result<(), Memory>
+        requires { first + count ≤ 256 }
+        ensures { IfOk result (λ _. self.new ≡ record self.old { memory = with_pages self.old.memory first count }) }
+    {
+        self.memory.map(alloc, first, count)
+    }
+
+    // It unmaps so many pages from this one on.
+    pub(crate) fn unmap(&mut self, first: u32, count: u32)
+        requires { first + count ≤ 256 }
+        ensures { self.new ≡ record self.old { memory = without_pages self.old.memory first count } }
+    {
+        self.memory.unmap(first, count);
+    }
+
+    // It has no page mapped any more.
+    pub(crate) fn clear(&mut self)
+        ensures { self.new ≡ record self.old { memory = no_memory } }
+    {
+        self.memory.clear();
+    }
+
+    // Bytes are put in its memory, where it is mapped.
+    pub(crate) fn store(&mut self, addr: u32, bytes: &[u8])
+        requires { addr + length bytes.now ≤ 1048576 }
+        ensures { self.new ≡ record self.old { memory = stored self.old.memory addr bytes.now } }
+    {
+        self.memory.store(addr, bytes);
     }
 }

@@ -4,7 +4,7 @@ ghost use Rattle.posix_defs.specs.ByPid.{with_pid};
 ghost use Rattle.posix_defs.specs.Forking.{child_of};
 ghost use Rattle.posix_defs.specs.Memory.{no_memory, stored, with_pages, without_pages};
 ghost use Rattle.posix_defs.specs.Plain.{first_process};
-ghost use Rattle.posix_defs.specs.Process.{directory_of, how_many, ignores_of, is_alive, memory_of, parent_of, process_at, with_directory, with_ignores, with_memory};
+ghost use Rattle.posix_defs.specs.Process.{directory_of, how_many, ignores_of, is_alive, is_there, memory_of, parent_of, process_at, with_directory, with_ignores, with_memory};
 ghost use Rattle.posix_defs.specs.Signals.{is_ignored, with_disposition};
 
 use crate::process::Process;
@@ -59,6 +59,13 @@ impl Table {
         ensures { option_copied result ≡ process_at self.now pid }
     {
         if pid == 0 { None } else { self.processes.get(pid - 1) }
+    }
+
+    /// Whether a process is there, alive or ended and not waited for.
+    pub fn is_there(&self, pid: u32) -> bool
+        ensures { result ≡ is_there (process_at self.now pid) }
+    {
+        self.find(pid).is_some()
     }
 
     /// Whether a process is there and has not ended.
