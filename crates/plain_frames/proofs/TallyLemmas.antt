@@ -93,9 +93,9 @@ fallen counts named frame some =
     elim (cases_eq named frame) [
       | inl same ↦
           let now : get_or (set counts named (get_or counts named 0 - 1)) frame 0 ≡ get_or counts frame 0 - 1 =
-              ap (λ f. get_or (set counts named (get_or counts named 0 - 1)) f 0) (sym same)
-              ∙ get_or-set_same counts named (get_or counts named 0 - 1) 0 lt
-              ∙ ap (λ f. get_or counts f 0 - 1) same in
+          ap (λ f. get_or (set counts named (get_or counts named 0 - 1)) f 0) (sym same)
+          ∙ get_or-set_same counts named (get_or counts named 0 - 1) 0 lt
+          ∙ ap (λ f. get_or counts f 0 - 1) same in
           let above : 0 < get_or counts frame 0 = subst (λ f. 0 < get_or counts f 0) same some in
           omega (arith, now, above, cond-true {A = ℕ} (named == frame) 1 0 (eq-eqb named frame same))
       | inr differs ↦

@@ -55,7 +55,12 @@ impl Frames {
     {
         let mut rows = Vec::new(alloc);
         rows.push(Row::new(alloc))?;
-        Ok(Frames { alloc, rows, tally: Tally::new(alloc), nodes: 0 })
+        Ok(Frames {
+            alloc,
+            rows,
+            tally: Tally::new(alloc),
+            nodes: 0,
+        })
     }
 
     // What a page has.

@@ -36,7 +36,9 @@ impl Row {
     pub(crate) fn new(alloc: Global) -> Row
         ensures { result ≡ no_places }
     {
-        Row { slots: Vec::new(alloc) }
+        Row {
+            slots: Vec::new(alloc),
+        }
     }
 
     // What it says of a page.
@@ -109,7 +111,11 @@ fn has_mapped(slots: &[Slot], group: usize) -> bool
     requires { group < 4 }
     ensures { result ≡ list_any is_place (take 64 (drop (64 * group) slots.now)) }
 {
-    slots.iter().skip(64 * group).take(64).any(|slot| slot.is_mapped())
+    slots
+        .iter()
+        .skip(64 * group)
+        .take(64)
+        .any(|slot| slot.is_mapped())
 }
 
 // 1 where a page of that group of 64 is mapped, else 0.

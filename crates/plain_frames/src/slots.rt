@@ -34,7 +34,9 @@ impl Slot {
     pub(crate) fn unmapped() -> Slot
         ensures { result ≡ place.Unmapped }
     {
-        Slot { what: What::Unmapped }
+        Slot {
+            what: What::Unmapped,
+        }
     }
 
     // The page is mapped and has zeros.
@@ -48,7 +50,9 @@ impl Slot {
     pub(crate) fn naming(frame: usize) -> Slot
         ensures { result ≡ place.Frame frame }
     {
-        Slot { what: What::Frame(frame) }
+        Slot {
+            what: What::Frame(frame),
+        }
     }
 
     // The same again.

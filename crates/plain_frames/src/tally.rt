@@ -29,7 +29,10 @@ impl Tally {
     pub(crate) fn new(alloc: Global) -> Tally
         ensures { result ≡ [] }
     {
-        Tally { counts: Vec::new(alloc), named: 0 }
+        Tally {
+            counts: Vec::new(alloc),
+            named: 0,
+        }
     }
 
     // How many frames were made.

@@ -1,13 +1,10 @@
 -- Places of a list that a loop writes one after another.
-use Rattle.std.proofs.Common.{◌≡◌, ℕ, ◌+◌, ◌-◌, ◌<◌, ◌≤◌, List, [], ◌++◌, ◌∷◌, length, take, drop, replicate, get_or, set, refl, sym, ap, ◌∙◌, subst, arith, add-zero}
-use Rattle.std.proofs.lemmas.List.{append-nil, length-append, length-drop, length-replicate, length-set, length-take, take-append-drop, take_all}
+use Rattle.std.proofs.Common.{◌≡◌, ℕ, ◌+◌, ◌-◌, ◌<◌, ◌≤◌, List, ◌++◌, length, take, drop, replicate, set, sym, ap, ◌∙◌, arith}
+use Rattle.std.proofs.lemmas.List.{length-replicate, take_all}
 use Rattle.std.proofs.lemmas.List.Edits.{fill_from_more}
 use Rattle.posix_defs.specs.Memory.{with_range}
 
 module _ {X : Type 0} where
-  with_range_none : (xs : List X) (first : ℕ) (x : X) → xs ≡ with_range xs first 0 x
-  with_range_none xs first x = rw (append-nil, add-zero) (sym (take-append-drop first xs))
-
   with_range_next : (xs : List X) (first n : ℕ) (x : X) → first + n < length xs → set (with_range xs first n x) (first + n) x ≡ with_range xs first (n + 1) x
   with_range_next xs first n x lt =
       let now : take n (replicate n x) ≡ replicate n x = take_all n (replicate n x) (omega (arith, length-replicate n x)) in
@@ -15,10 +12,6 @@ module _ {X : Type 0} where
       ap (λ ys. set (take first xs ++ ys ++ drop (first + n) xs) (first + n) x) (sym now)
       ∙ fill_from_more xs first n x lt
       ∙ ap (λ ys. take first xs ++ ys ++ drop (first + (n + 1)) xs) later
-
-  -- before the first place, and once each has been written
-  pub range_begins : (xs : List X) (first : ℕ) (x : X) → xs ≡ with_range xs first (first - first) x
-  range_begins xs first x = let none : first - first ≡ 0 = omega arith in rw none (with_range_none xs first x)
 
   pub range_goes_on : (xs ys : List X) (first page : ℕ) (x : X) → first ≤ page → page < length xs → ys ≡ with_range xs first (page - first) x
       → set ys page x ≡ with_range xs first (page + 1 - first) x
@@ -29,6 +22,3 @@ module _ {X : Type 0} where
       ∙ ap (λ p. set (with_range xs first (page - first) x) p x) (sym here)
       ∙ with_range_next xs first (page - first) x (omega arith)
       ∙ ap (λ n. with_range xs first n x) more
-
-  pub range_ends : (xs ys : List X) (first page count : ℕ) (x : X) → page ≡ first + count → ys ≡ with_range xs first (page - first) x → ys ≡ with_range xs first count x
-  range_ends xs ys first page count x is ends = let all : page - first ≡ count = omega arith in ends ∙ ap (λ n. with_range xs first n x) all

@@ -29,14 +29,18 @@ impl Page {
     pub(crate) fn zero(alloc: Global) -> Result<Page, Memory>
         ensures { IfOk result (λ page. page ≡ zero_page) }
     {
-        Ok(Page { bytes: vec![in alloc; 0; PAGE]? })
+        Ok(Page {
+            bytes: vec![in alloc; 0; PAGE]?,
+        })
     }
 
     // A page with the same bytes.
     pub(crate) fn copy(&self, alloc: Global) -> Result<Page, Memory>
         ensures { IfOk result (λ page. page ≡ self.now) }
     {
-        Ok(Page { bytes: Vec::from_slice(alloc, self.bytes.as_slice())? })
+        Ok(Page {
+            bytes: Vec::from_slice(alloc, self.bytes.as_slice())?,
+        })
     }
 
     // The byte at a place.

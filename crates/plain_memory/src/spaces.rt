@@ -63,7 +63,12 @@ impl Space {
         ensures { result ≡ is_mapped_range self.now addr n }
     {
         let first = addr / 4096;
-        let end = first + if n == 0 { 0 } else { (addr + n - 1) / 4096 - first + 1 };
+        let end = first
+            + if n == 0 {
+                0
+            } else {
+                (addr + n - 1) / 4096 - first + 1
+            };
         (first..end).all(|page| self.is_mapped(page))
     }
 
