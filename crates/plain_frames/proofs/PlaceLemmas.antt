@@ -1,10 +1,10 @@
 -- The frames, as the pages of one process get other places one after another.
-use Rattle.std.proofs.Common.{◌≡◌, ◌≢◌, ℕ, zero, suc, ◌+◌, ◌-◌, ◌<◌, ◌≤◌, Bool, true, false, List, [], ◌∷◌, ◌++◌, length, get_or, set, take, drop, replicate, refl, sym, ap, ◌∙◌, subst, inl, inr, arith}
-use Rattle.std.proofs.lemmas.Bool.{false≢true}
+use Rattle.std.proofs.Common.{◌≡◌, ◌≢◌, ℕ, zero, suc, ◌+◌, ◌-◌, ◌<◌, ◌≤◌, Bool, true, false, cond, List, [], ◌∷◌, ◌++◌, length, get_or, set, take, drop, replicate, refl, sym, ap, ◌∙◌, subst, inl, inr, arith}
+use Rattle.std.proofs.lemmas.Bool.{cond-false, cond-true, false≢true}
 use Rattle.std.proofs.lemmas.List.{append-nil, append_assoc, drop_all, drop_more, get_or-set_other, get_or-set_same, get_or_append_left, get_or_read, length-append, length-set, length-take-le, set-get_or, set-set, set_at, take_all, take_more}
 use Rattle.posix_defs.specs.ByPid.{with_pid}
-use Rattle.posix_defs.specs.Memory.{Frames, Place, Places, Unmapped, Zero, Frame, after_clear, after_fork, after_unmap, is_place, kept_from, no_places, place_at, places_of, with_places, with_range, without_dead, written_at, written_from}
-use Rattle.plain_frames.specs.Counted.{frames_of, with_place}
+use Rattle.posix_defs.specs.Memory.{Frames, Place, Places, Unmapped, Zero, Frame, after_clear, after_fork, after_unmap, fresh_at, is_place, kept_from, no_places, place_at, places_of, with_places, with_range, without_dead, written_as, written_at, written_from}
+use Rattle.plain_frames.specs.Counted.{frames_of, wants_frame, with_place}
 use Rattle.plain_memory.proofs.Ranges.{range_goes_on}
 use Rattle.plain_frames.proofs.RowLemmas.{at-no_places, length-no_places}
 
@@ -86,6 +86,29 @@ pub cleared : (frames : Frames) (pid : ℕ) → length (places_of frames pid) �
 unfolding no_places
 cleared frames pid whole =
     ap (with_places frames pid) (ap (λ rest. replicate 256 Unmapped ++ rest) (drop_all 256 (places_of frames pid) (omega arith)) ∙ append-nil (replicate 256 Unmapped))
+
+-- ---- bytes are put in one page
+
+written_if : (frames : Frames) (pid page : ℕ) (place : Place) → written_as frames pid page place ≡ cond (wants_frame frames place) (fresh_at frames pid page) frames
+written_if frames pid page Unmapped = refl
+written_if frames pid page Zero = refl
+written_if frames pid page (Frame frame) = refl
+
+fresh_is : (frames : Frames) (pid page : ℕ) → with_place (record frames { made = frames.made + 1 }) pid page (Frame frames.made) ≡ fresh_at frames pid page
+fresh_is frames zero page = refl
+fresh_is frames (suc before) page = refl
+
+-- the page gets a new frame, where it wants one
+pub written_new : (frames made now : Frames) (pid page : ℕ) → wants_frame frames (place_at (places_of frames pid) page) ≡ true
+    → made ≡ record frames { made = frames.made + 1 } → now ≡ with_place made pid page (Frame frames.made) → now ≡ written_at frames pid page
+written_new frames made now pid page wants is placed =
+    placed ∙ ap (λ f. with_place f pid page (Frame frames.made)) is ∙ fresh_is frames pid page
+    ∙ sym (written_if frames pid page (place_at (places_of frames pid) page) ∙ cond-true (wants_frame frames (place_at (places_of frames pid) page)) (fresh_at frames pid page) frames wants)
+
+-- else nothing changes
+pub written_none : (frames : Frames) (pid page : ℕ) → wants_frame frames (place_at (places_of frames pid) page) ≡ false → frames ≡ written_at frames pid page
+written_none frames pid page wants =
+    sym (written_if frames pid page (place_at (places_of frames pid) page) ∙ cond-false (wants_frame frames (place_at (places_of frames pid) page)) (fresh_at frames pid page) frames wants)
 
 -- ---- a loop that puts bytes in pages
 
