@@ -1,0 +1,3 @@
+pub mod PlaceLemmas
+pub mod TurnLemmas
+pub mod FifoLemmas

@@ -1,0 +1,107 @@
+-- Changes of several sockets, one after another.
+use Rattle.std.proofs.Common.{◌≡◌, ◌≢◌, ℕ, ◌<◌, ◌≤◌, Bool, true, false, List, [], ◌∷◌, ◌++◌, length, Option, None, Some, IsSome, refl, ap, sym, ◌∙◌, subst, inl, inr, arith}
+use Rattle.std.specs.Prelude.{unwrap_or}
+use Rattle.std.specs.List.{position_from}
+use Rattle.std.proofs.lemmas.Bool.{false≢true}
+use Rattle.std.proofs.lemmas.Bool.Decides.{eqb_tells}
+use Rattle.posix_defs.specs.Files.State.{is_number}
+use Rattle.posix_defs.specs.Socket.{Socket, Connected, Listening, connected_to, new_socket, peer_of, waiting_of, without_peer}
+use Rattle.posix_defs.specs.SocketLinks.{AreLinked, NamesNone}
+use Rattle.posix_defs.specs.Sockets.{Sockets, after_connect, gone, left_alone, sock_at, socket_at, stage_at, with_pair, with_socket, with_stage}
+use Rattle.socket_laws.proofs.SocketLaws.{peer_there, peers_differ}
+use Rattle.socket_laws.proofs.SocketTable.{length-with, sock_at-with_other, there_within, with-length}
+use Rattle.plain_bytes.proofs.PlaceLemmas.{passes_nowhere, passes_there}
+use Rattle.plain_sockets.specs.Held.{is_bound_to}
+
+-- one that is there is there still after a change elsewhere
+pub still : (sockets : Sockets) (place other : ℕ) (socket : Option Socket) → place ≤ length sockets → other ≢ place → IsSome (sock_at sockets other)
+    → IsSome (sock_at (with_socket sockets place socket) other)
+still sockets place other socket within differs there = subst (λ o. IsSome o) (sym (sock_at-with_other sockets place other socket within differs)) there
+
+-- ---- connect
+
+module _ (sockets : Sockets) (client listener : ℕ) (client_there : IsSome (sock_at sockets client)) (listener_there : IsSome (sock_at sockets listener)) (apart : client ≢ listener) where
+  joined : Sockets
+  joined = with_socket sockets (length sockets) (Some (connected_to client))
+
+  pub client_still : IsSome (sock_at (with_socket sockets (length sockets) (Some (connected_to client))) client)
+  client_still =
+      let within : client < length sockets = there_within sockets client client_there in
+      still sockets (length sockets) client (Some (connected_to client)) (omega arith) (λ same. omega arith) client_there
+
+  listener_beside : IsSome (sock_at (with_socket sockets (length sockets) (Some (connected_to client))) listener)
+  listener_beside =
+      let within : listener < length sockets = there_within sockets listener listener_there in
+      still sockets (length sockets) listener (Some (connected_to client)) (omega arith) (λ same. omega arith) listener_there
+
+  client_within : client ≤ length (with_socket sockets (length sockets) (Some (connected_to client)))
+  client_within =
+      let within : client < length (with_socket sockets (length sockets) (Some (connected_to client))) =
+        there_within (with_socket sockets (length sockets) (Some (connected_to client))) client client_still in omega arith
+
+  pub listener_still : (made : ℕ) → made ≡ length sockets
+      → IsSome (sock_at (with_stage (with_socket sockets (length sockets) (Some (connected_to client))) client (Connected (Some made) false false)) listener)
+  listener_still made is =
+      still (with_socket sockets (length sockets) (Some (connected_to client))) client listener _ client_within (λ same. apart (sym same)) listener_beside
+
+  listener_stage : stage_at (with_stage (with_socket sockets (length sockets) (Some (connected_to client))) client (Connected (Some (length sockets)) false false)) listener
+      ≡ stage_at sockets listener
+  listener_stage =
+      let within : listener < length sockets = there_within sockets listener listener_there in
+      ap (λ o. (unwrap_or o new_socket).stage)
+      (sock_at-with_other (with_socket sockets (length sockets) (Some (connected_to client))) client listener _ client_within (λ same. apart (sym same))
+      ∙ sock_at-with_other sockets (length sockets) listener (Some (connected_to client)) (omega arith) (λ same. omega arith))
+
+  pub connected : with_stage (with_stage (with_socket sockets (length sockets) (Some (connected_to client))) client (Connected (Some (length sockets)) false false)) listener
+      (Listening (waiting_of (stage_at (with_stage (with_socket sockets (length sockets) (Some (connected_to client))) client (Connected (Some (length sockets)) false false)) listener) ++ length sockets ∷ []))
+      ≡ after_connect sockets client listener (length sockets)
+  connected =
+      ap (λ stage. with_stage (with_stage (with_socket sockets (length sockets) (Some (connected_to client))) client (Connected (Some (length sockets)) false false)) listener
+      (Listening (waiting_of stage ++ length sockets ∷ []))) listener_stage
+
+-- ---- going
+
+pub peer_still : (sockets : Sockets) (place peer : ℕ) → AreLinked sockets → IsSome (sock_at sockets place) → peer_of (stage_at sockets place) ≡ Some peer
+    → IsSome (sock_at (with_socket sockets place None) peer)
+peer_still sockets place peer linked there is =
+    let within : place < length sockets = there_within sockets place there in
+    still sockets place peer None (omega arith) (λ same. peers_differ sockets place peer linked is (sym same)) (peer_there sockets place peer linked is)
+
+pub gone_with : (sockets : Sockets) (place : ℕ) (peer : Option ℕ) → peer_of (stage_at sockets place) ≡ peer → gone sockets place ≡ left_alone (with_socket sockets place None) peer
+gone_with sockets place peer is = ap (left_alone (with_socket sockets place None)) is
+
+-- ---- who is bound to a node
+
+is_same : (number : ℕ) (node : Option ℕ) → is_number number node ≡ true → node ≡ Some number
+is_same number None is = absurd (cc)
+is_same number (Some other) is = elim (eqb_tells other number) [
+  | inl (holds, same) ↦ ap Some same
+  | inr (fails, differs) ↦ absurd (false≢true (sym fails ∙ is))
+]
+
+number_same : (number : ℕ) → is_number number (Some number) ≡ true
+number_same number = elim (eqb_tells number number) [
+  | inl (holds, same) ↦ holds
+  | inr (fails, differs) ↦ absurd (differs refl)
+]
+
+bound_there : (number : ℕ) (o : Option Socket) → is_bound_to number o ≡ true → IsSome o
+bound_there number None is = absurd (cc)
+bound_there number (Some socket) is = refl
+
+bound_name : (number : ℕ) (o : Option Socket) → is_bound_to number o ≡ true → (unwrap_or o new_socket).node ≡ Some number
+bound_name number None is = absurd (cc)
+bound_name number (Some socket) is = is_same number socket.node is
+
+bound_not : (number : ℕ) (o : Option Socket) → is_bound_to number o ≡ false → (unwrap_or o new_socket).node ≢ Some number
+bound_not number None fails name = cc
+bound_not number (Some socket) fails name = false≢true (sym fails ∙ ap (is_number number) name ∙ number_same number)
+
+pub is_bound : (number : ℕ) (sockets : Sockets) (place : ℕ) → position_from (is_bound_to number) 0 sockets ≡ Some place
+    → IsSome (sock_at sockets place) × ((socket_at sockets place).node ≡ Some number)
+is_bound number sockets place is =
+    let passes = passes_there (is_bound_to number) sockets place is in
+    (bound_there number (sock_at sockets place) passes, bound_name number (sock_at sockets place) passes)
+
+pub nobody_bound : (number : ℕ) (sockets : Sockets) → position_from (is_bound_to number) 0 sockets ≡ None → NamesNone sockets number
+nobody_bound number sockets is place = bound_not number (sock_at sockets place) (passes_nowhere (is_bound_to number) 0 sockets refl is place)
