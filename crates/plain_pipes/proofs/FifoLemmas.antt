@@ -2,7 +2,7 @@
 use Rattle.std.proofs.Common.{◌≡◌, ℕ, Bool, true, false, List, [], ◌∷◌, ◌++◌, get_or, Option, None, Some, refl, ap, sym, ◌∙◌}
 use Rattle.std.specs.Prelude.{◌==◌, unwrap_or}
 use Rattle.std.specs.List.{position_from}
-use Rattle.posix_defs.specs.Pipe.{Pipe, is_of_fifo, new_pipe, unopened, with_end}
+use Rattle.posix_defs.specs.Pipe.{is_of_fifo, new_pipe, unopened, with_end}
 use Rattle.posix_defs.specs.Files.State.{Files, pipe_at, with_pipe}
 use Rattle.posix_defs.specs.Calls.OnFiles.{fifo_at, fifo_pipe, fifo_place, fifo_there, with_fifo}
 use Rattle.kept_places.specs.Places.{there_from}

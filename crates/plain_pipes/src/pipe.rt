@@ -1,4 +1,4 @@
-ghost use Rattle.std.specs.Prelude.{◌≡◌, ◌<◌, ◌≤◌, ◌==◌, ◌||◌, length, OnOk, OnErr, if◌then◌else◌};
+ghost use Rattle.std.specs.Prelude.{◌≡◌, ◌<◌, ◌≤◌, ◌==◌, ◌||◌, nat_lt, length, OnOk, OnErr, if◌then◌else◌};
 ghost use Rattle.plain_bytes.specs.Moving.{meant};
 ghost use Rattle.plain_bytes.specs.Unread.{taken_by};
 ghost use Rattle.plain_pipes.specs.Held.{IsHeld, becomes, queue_of};
@@ -121,7 +121,7 @@ impl Pipe {
 
     /// Whether a description has one of its ends.
     pub fn has_end(&self) -> bool
-        ensures { result ≡ (0 < self.now.pipe.readers || 0 < self.now.pipe.writers) }
+        ensures { result ≡ (nat_lt 0 self.now.pipe.readers || nat_lt 0 self.now.pipe.writers) }
     {
         self.readers > 0 || self.writers > 0
     }

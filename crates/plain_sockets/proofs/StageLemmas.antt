@@ -1,13 +1,12 @@
 -- What a read, a write and a poll come to, by what a stage is asked.
-use Rattle.std.proofs.Common.{◌≡◌, ℕ, ℤ, Bool, true, false, List, length, Option, None, Some, refl, ap}
-use Rattle.std.proofs.lemmas.Bool.{false≢true}
+use Rattle.std.proofs.Common.{◌≡◌, ℕ, ℤ, Bool, true, false, List, length, None, refl, ap}
 use Rattle.std.specs.Prelude.{◌&&◌, ◌||◌, nat_lt, unwrap_or, if◌then◌else◌}
 use Rattle.kabi_types.specs.declared.errnos.Errno.TheVariants as errno
 use Rattle.posix_defs.specs.Calls.Writing.{is_unread_in}
 use Rattle.posix_defs.specs.Files.SocketNames.{listens}
-use Rattle.posix_defs.specs.Pipe.{Moving, Fails, is_asked}
+use Rattle.posix_defs.specs.Pipe.{Fails, is_asked}
 use Rattle.posix_defs.specs.Socket.{Stage, Idle, Listening, Connected, is_connected, is_shut_read, is_shut_write, new_socket, peer_of, waiting_of}
-use Rattle.posix_defs.specs.Sockets.{Sockets, polled_connected, polled_in_stage, read_connected, read_in_stage, reads_no_more, sock_at, socket_at, stage_at, write_in_stage, write_to}
+use Rattle.posix_defs.specs.Sockets.{Sockets, polled_connected, polled_in_stage, read_connected, read_in_stage, reads_no_more, sock_at, socket_at, write_in_stage, write_to}
 
 -- a place without a socket
 pub none_there : (sockets : Sockets) (place : ℕ) → sock_at sockets place ≡ None → socket_at sockets place ≡ new_socket

@@ -1,15 +1,15 @@
 -- Changes of several sockets, one after another.
-use Rattle.std.proofs.Common.{◌≡◌, ◌≢◌, ℕ, ◌<◌, ◌≤◌, Bool, true, false, List, [], ◌∷◌, ◌++◌, length, Option, None, Some, IsSome, refl, ap, sym, ◌∙◌, subst, inl, inr, arith}
+use Rattle.std.proofs.Common.{◌≡◌, ◌≢◌, ℕ, ◌<◌, ◌≤◌, true, false, [], ◌∷◌, ◌++◌, length, Option, None, Some, IsSome, refl, ap, sym, ◌∙◌, subst, inl, inr, arith}
 use Rattle.std.specs.Prelude.{unwrap_or}
 use Rattle.std.specs.List.{position_from}
 use Rattle.std.proofs.lemmas.Bool.{false≢true}
 use Rattle.std.proofs.lemmas.Bool.Decides.{eqb_tells}
 use Rattle.posix_defs.specs.Files.State.{is_number}
-use Rattle.posix_defs.specs.Socket.{Socket, Connected, Listening, connected_to, new_socket, peer_of, waiting_of, without_peer}
+use Rattle.posix_defs.specs.Socket.{Socket, Connected, Listening, connected_to, new_socket, peer_of, waiting_of}
 use Rattle.posix_defs.specs.SocketLinks.{AreLinked, NamesNone}
-use Rattle.posix_defs.specs.Sockets.{Sockets, after_connect, gone, left_alone, sock_at, socket_at, stage_at, with_pair, with_socket, with_stage}
+use Rattle.posix_defs.specs.Sockets.{Sockets, after_connect, gone, left_alone, sock_at, socket_at, stage_at, with_socket, with_stage}
 use Rattle.socket_laws.proofs.SocketLaws.{peer_there, peers_differ}
-use Rattle.socket_laws.proofs.SocketTable.{length-with, sock_at-with_other, there_within, with-length}
+use Rattle.socket_laws.proofs.SocketTable.{sock_at-with_other, there_within}
 use Rattle.plain_bytes.proofs.PlaceLemmas.{passes_nowhere, passes_there}
 use Rattle.plain_sockets.specs.Held.{is_bound_to}
 
@@ -21,9 +21,6 @@ still sockets place other socket within differs there = subst (λ o. IsSome o) (
 -- ---- connect
 
 module _ (sockets : Sockets) (client listener : ℕ) (client_there : IsSome (sock_at sockets client)) (listener_there : IsSome (sock_at sockets listener)) (apart : client ≢ listener) where
-  joined : Sockets
-  joined = with_socket sockets (length sockets) (Some (connected_to client))
-
   pub client_still : IsSome (sock_at (with_socket sockets (length sockets) (Some (connected_to client))) client)
   client_still =
       let within : client < length sockets = there_within sockets client client_there in

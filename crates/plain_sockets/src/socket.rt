@@ -248,10 +248,8 @@ impl Socket {
         ensures front { self.new.front ≡ (with_unread self.old (after_shutdown self.old.socket how).bytes).front }
         ensures queue { IsQueue (queue_of self.new) }
     {
-        let reading = how == 0 || how == 2;
-        let writing = how == 1 || how == 2;
-        self.stage.shut(reading, writing);
-        if reading {
+        self.stage.shut(shuts_reading(how), shuts_writing(how));
+        if shuts_reading(how) {
             self.queue.clear();
         }
     }
@@ -274,4 +272,17 @@ impl Socket {
     {
         self.queue.put(&bytes[..count as usize])
     }
+}
+
+// SHUT_RD 0, SHUT_WR 1, SHUT_RDWR 2.
+fn shuts_reading(how: i64) -> bool
+    ensures { result ≡ shuts_reading how }
+{
+    how == 0 || how == 2
+}
+
+fn shuts_writing(how: i64) -> bool
+    ensures { result ≡ shuts_writing how }
+{
+    how == 1 || how == 2
 }
