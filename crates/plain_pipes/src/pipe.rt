@@ -14,7 +14,9 @@ use std::marker::Model;
 const WHOLE: u32 = 512;
 
 const O_WRONLY: u64 = 1;
+
 const O_RDWR: u64 = 2;
+
 const O_NONBLOCK: u64 = 2048;
 
 /// A pipe that is there, or that of a FIFO that nobody has open. Contracts see the pipe of the definitions, and the front of
@@ -91,7 +93,11 @@ impl Pipe {
     pub fn fifo(&self) -> Option<u32>
         ensures { result ≡ fifo_of self.now.pipe }
     {
-        if self.node == 0 { None } else { Some(self.node) }
+        if self.node == 0 {
+            None
+        } else {
+            Some(self.node)
+        }
     }
 
     /// Whether its node has this number.

@@ -34,7 +34,7 @@ module _ (sockets : Sockets) (client listener : ℕ) (client_there : IsSome (soc
   client_within : client ≤ length (with_socket sockets (length sockets) (Some (connected_to client)))
   client_within =
       let within : client < length (with_socket sockets (length sockets) (Some (connected_to client))) =
-        there_within (with_socket sockets (length sockets) (Some (connected_to client))) client client_still in omega arith
+      there_within (with_socket sockets (length sockets) (Some (connected_to client))) client client_still in omega arith
 
   pub listener_still : (made : ℕ) → made ≡ length sockets
       → IsSome (sock_at (with_stage (with_socket sockets (length sockets) (Some (connected_to client))) client (Connected (Some made) false false)) listener)

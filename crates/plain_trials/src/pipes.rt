@@ -34,10 +34,28 @@ const FILLED: &[Row] = &[
     (Deed::Put(506), Moving::Moves(100), ALL, MANY, 1),
     (Deed::Put(1), Moving::Moves(100), ALL, MANY, 2),
     (Deed::Take(513), AGAIN, ALL, MANY, 0),
-    (Deed::Put(4000), Moving::Moves(100), AGAIN, Moving::Moves(96), 8),
+    (
+        Deed::Put(4000),
+        Moving::Moves(100),
+        AGAIN,
+        Moving::Moves(96),
+        8,
+    ),
     (Deed::Put(96), Moving::Moves(100), AGAIN, AGAIN, 8),
-    (Deed::Take(300), Moving::Moves(100), ALL, Moving::Moves(300), 8),
-    (Deed::Put(299), Moving::Moves(100), AGAIN, Moving::Moves(1), 9),
+    (
+        Deed::Take(300),
+        Moving::Moves(100),
+        ALL,
+        Moving::Moves(300),
+        8,
+    ),
+    (
+        Deed::Put(299),
+        Moving::Moves(100),
+        AGAIN,
+        Moving::Moves(1),
+        9,
+    ),
 ];
 
 const NOBODY_WRITES: &[Row] = &[

@@ -44,7 +44,15 @@ const CUT: &[Row] = &[
     (Deed::Put(0, 10), AGAIN, ALL, Moving::Moves(10), ALL, 4, 5),
     (Deed::Shut(0, 1), AGAIN, SHUT, Moving::Moves(10), ALL, 4, 5),
     (Deed::Take(1, 10), AGAIN, SHUT, Moving::Moves(0), ALL, 4, 5),
-    (Deed::Shut(0, 0), Moving::Moves(0), SHUT, Moving::Moves(0), SHUT, 4, 5),
+    (
+        Deed::Shut(0, 0),
+        Moving::Moves(0),
+        SHUT,
+        Moving::Moves(0),
+        SHUT,
+        4,
+        5,
+    ),
 ];
 
 fn sends(sockets: &mut Sockets, place: u32, bytes: &[u8], count: u32) -> Result<(), Memory> {
@@ -209,12 +217,7 @@ fn each_stage_refuses_what_it_must(rt: HostRuntime) -> Result<(), Fail> {
         Some(Errno::EISCONN),
         None,
     ];
-    let idle = [
-        None,
-        Some(Errno::EDESTADDRREQ),
-        None,
-        Some(Errno::ENOTCONN),
-    ];
+    let idle = [None, Some(Errno::EDESTADDRREQ), None, Some(Errno::ENOTCONN)];
     assert!(rt; faults(&sockets, 0) == listens);
     assert!(rt; faults(&sockets, 1) == joined);
     assert!(rt; faults(&sockets, 2) == idle);
