@@ -8,7 +8,7 @@ use Rattle.posix_defs.specs.Files.State.{Files, pipe_at, pipe_there}
 use Rattle.kept_places.specs.Places.{IsThere, at}
 use Rattle.plain_bytes.specs.Many.{Follow, lengths, queues_of}
 use Rattle.plain_bytes.proofs.PlaceLemmas.{at_mapped, is_there}
-use Rattle.plain_pipes.specs.Held.{FrontsFollow, HasPipe, Held, fronts_in, lengths_in, pipe_of, pipes_in, queue_of}
+use Rattle.plain_pipes.specs.Held.{FrontsFollow, HasPipe, Held, fronts_in, lengths_in, pipe_in, pipe_of, pipes_in, queue_of}
 
 pub pipe_here : (held : List (Option Held)) (files : Files) (place : ℕ) (old : Held) → files.pipes ≡ pipes_in held → at held place ≡ Some old
     → pipe_there files place ≡ Some old.pipe
@@ -17,6 +17,9 @@ pipe_here held files place old same there = ap (λ pipes. get_or pipes place Non
 pub pipe_is : (held : List (Option Held)) (files : Files) (place : ℕ) (old : Held) → files.pipes ≡ pipes_in held → at held place ≡ Some old
     → pipe_at files place ≡ old.pipe
 pipe_is held files place old same there = ap (λ o. unwrap_or o new_pipe) (pipe_here held files place old same there)
+
+pub pipe_is_in : (held : List (Option Held)) (place : ℕ) (old : Held) → at held place ≡ Some old → pipe_in held place ≡ old.pipe
+pipe_is_in held place old there = ap (λ o. unwrap_or o new_pipe) (at_mapped pipe_of held place ∙ ap (option_map pipe_of) there)
 
 -- a pipe that is there is kept
 pub is_kept : (held : List (Option Held)) (place : ℕ) → HasPipe held place → IsThere held place

@@ -1,9 +1,10 @@
 -- A pipe with the front of its queue, and what all pipes ever made are to the definitions: a list of pipes, and one of fronts.
-use Rattle.std.specs.Prelude.{◌≡◌, ℕ, ◌+◌, ◌≤◌, List, length, map, Option, None, Some, IsSome, slice_index_or, unwrap_or}
+use Rattle.std.specs.Prelude.{◌≡◌, ℕ, ◌+◌, ◌≤◌, ◌==◌, Bool, List, [], ◌∷◌, ◌++◌, length, map, Option, None, Some, IsSome, slice_index_or, slice_set, unwrap_or, if◌then◌else◌}
 use Rattle.std.specs.List.{position_from}
 use Rattle.std.specs.Option.{option_map}
-use Rattle.posix_defs.specs.Pipe.{Pipe, is_of_fifo, new_pipe, unopened}
+use Rattle.posix_defs.specs.Pipe.{Pipe, is_of_fifo, new_pipe, unopened, with_end}
 use Rattle.posix_defs.specs.Account.{front_after, fronts_after, unread_in_pipe}
+use Rattle.kept_places.specs.declared.search.Kept.{Kept}
 use Rattle.plain_bytes.specs.Unread.{IsQueue, Unread}
 use Rattle.plain_bytes.specs.Many.{fronts, queues_of}
 
@@ -57,6 +58,25 @@ fifo_there_in held number (Some place) = pipe_in held place
 -- the pipe of a FIFO, as files with these pipes have it
 abbrev pub fifo_in : List (Option Held) → ℕ → Pipe
 fifo_in held number = fifo_there_in held number (position_from (is_of_fifo number) 0 (pipes_in held))
+
+-- where the pipe of a FIFO stands, or gets its place
+abbrev pub place_in : List (Option Held) → Option ℕ → ℕ
+place_in held None = length (pipes_in held)
+place_in held (Some place) = place
+
+-- the place of the pipe of a FIFO; None where nobody has it open
+abbrev pub fifo_at_in : List (Option Held) → ℕ → Option ℕ
+fifo_at_in held number = position_from (is_of_fifo number) 0 (pipes_in held)
+
+-- the pipes after one side of a FIFO was opened once more, by its place
+abbrev pub opened_in : List (Option Held) → ℕ → Bool → Option ℕ → List (Option Pipe)
+opened_in held number writing None = pipes_in held ++ Some (with_end (unopened number) writing) ∷ []
+opened_in held number writing (Some place) = slice_set (pipes_in held) place (Some (with_end (pipe_in held place) writing))
+
+-- of those that are there, each with its place, the first whose node has this number
+abbrev pub first_of_fifo : ℕ → List (Kept Held) → Option ℕ
+first_of_fifo number [] = None
+first_of_fifo number (kept ∷ rest) = if kept.what.pipe.node == number then Some kept.place else first_of_fifo number rest
 
 -- the fronts are those that the account has after the pipes have changed so
 abbrev pub FrontsFollow : List (Option Held) → List (Option Held) → Type 0

@@ -1,16 +1,16 @@
-ghost use Rattle.std.specs.Prelude.{◌≡◌, ℕ, ◌+◌, ◌^◌, ◌<◌, ◌≤◌, ◌++◌, [], ◌∷◌, length, slice_index_or, None, Some, is_some, IfOk, OnOk, OnErr};
+ghost use Rattle.std.specs.Prelude.{◌≡◌, ℕ, ◌+◌, ◌^◌, ◌<◌, ◌≤◌, ◌++◌, [], ◌∷◌, length, slice_index_or, slice_set, None, Some, is_some, IfOk, OnOk, OnErr};
 ghost use Rattle.std.specs.List.{count_by};
 ghost use Rattle.std.specs.Option.{option_copied, option_map};
-ghost use Rattle.plain_pipes.specs.Held.{FrontsFollow, HasPipe, fifo_in, fronts_in, lengths_in, pipe_in, pipe_of, pipes_in};
+ghost use Rattle.plain_pipes.specs.Held.{FrontsFollow, HasPipe, fifo_at_in, fifo_in, first_of_fifo, fronts_in, lengths_in, opened_in, pipe_in, pipe_of, pipes_in, place_in};
 ghost use Rattle.posix_defs.specs.Account.{chunks_taken};
-ghost use Rattle.posix_defs.specs.Calls.OnFiles.{fifo_at, fifo_fault, fifo_pipe, fifo_place, fifo_waits, most_opens, with_fifo};
+ghost use Rattle.posix_defs.specs.Calls.OnFiles.{fifo_fault, fifo_waits, most_opens};
 ghost use Rattle.posix_defs.specs.Files.State.{Files, pipe_at, pipe_there, with_pipe};
-ghost use Rattle.posix_defs.specs.Pipe.{after_close, after_read, free_in, new_pipe, opens_of, with_end};
+ghost use Rattle.posix_defs.specs.Pipe.{after_close, after_read, free_in, new_pipe, opens_of, unopened, with_end};
 ghost use Rattle.posix_defs.specs.Calls.Writing.{put_in_pipe};
 
 use crate::pipe::Pipe;
 use kabi_types::{Errno, Memory};
-use kept_places::Places;
+use kept_places::{Kept, Places};
 use std::alloc::Global;
 use std::marker::Model;
 
@@ -88,20 +88,14 @@ impl Pipes {
 
     /// The place of the pipe of a FIFO; None where nobody has it open.
     pub fn fifo_at(&self, number: u32) -> Option<u32>
-        ensures { (files : Files) → files.pipes ≡ pipes_in self.now → result ≡ fifo_at files number }
+        ensures { result ≡ fifo_at_in self.now number }
     {
-        for kept in self.places.there() {
-            if kept.what.is_of(number) {
-                return Some(kept.place);
-            }
-        }
-        None
+        first_of_fifo(self.places.there(), number)
     }
 
     /// How often one side of a FIFO was opened so far.
     pub fn fifo_opens(&self, number: u32, writing: bool) -> u32
-        ensures files { (files : Files) → files.pipes ≡ pipes_in self.now → result ≡ opens_of (fifo_pipe files number) writing }
-        ensures value { result ≡ opens_of (fifo_in self.now number) writing }
+        ensures { result ≡ opens_of (fifo_in self.now number) writing }
     {
         match self.fifo_at(number) {
             Some(place) => self.at(place).opens(writing),
@@ -111,7 +105,7 @@ impl Pipes {
 
     /// Why a FIFO isn't opened with these flags.
     pub fn fifo_fault(&self, alloc: Global, number: u32, flags: i64) -> Option<Errno>
-        ensures { (files : Files) → files.pipes ≡ pipes_in self.now → result ≡ fifo_fault (fifo_pipe files number) flags }
+        ensures { result ≡ fifo_fault (fifo_in self.now number) flags }
     {
         match self.fifo_at(number) {
             Some(place) => self.at(place).fault(flags),
@@ -121,7 +115,7 @@ impl Pipes {
 
     /// Whether an open of a FIFO waits for the other side.
     pub fn fifo_waits(&self, alloc: Global, number: u32, flags: i64) -> bool
-        ensures { (files : Files) → files.pipes ≡ pipes_in self.now → result ≡ fifo_waits (fifo_pipe files number) flags }
+        ensures { result ≡ fifo_waits (fifo_in self.now number) flags }
     {
         match self.fifo_at(number) {
             Some(place) => self.at(place).waits(flags),
@@ -145,16 +139,41 @@ impl Pipes {
     pub fn open_end(&mut self, alloc: Global, number: u32, writing: bool) -> Result<u32, Memory>
         requires room { length (pipes_in self.old) + 1 < 2 ^ 32 }
         requires few { opens_of (fifo_in self.old number) writing < most_opens }
-        ensures place { IfOk result (λ place. (files : Files) → files.pipes ≡ pipes_in self.old → place ≡ fifo_place files (fifo_at files number)) }
-        ensures pipes { OnOk result ((files : Files) → files.pipes ≡ pipes_in self.old
-            → pipes_in self.new ≡ (with_fifo files (fifo_at files number) (with_end (fifo_pipe files number) writing)).pipes) }
+        ensures place { IfOk result (λ place. place ≡ place_in self.old (fifo_at_in self.old number)) }
+        ensures pipes { OnOk result (pipes_in self.new ≡ opened_in self.old number writing (fifo_at_in self.old number)) }
         ensures fronts { OnOk result (FrontsFollow self.old self.new) }
         ensures kept { OnErr result (self.new ≡ self.old) }
     {
-        if let Some(place) = self.fifo_at(number) {
-            self.places.get_mut(place).open_end(writing);
-            return Ok(place);
+        match self.fifo_at(number) {
+            Some(place) => {
+                self.open_more(place, writing);
+                Ok(place)
+            }
+            None => self.open_first(alloc, number, writing),
         }
+    }
+
+    // One side of the pipe of a place is opened once more.
+    fn open_more(&mut self, place: u32, writing: bool)
+        requires there { HasPipe self.old place }
+        requires few { opens_of (pipe_in self.old place) writing < most_opens }
+        ensures pipes { pipes_in self.new ≡ slice_set (pipes_in self.old) place (Some (with_end (pipe_in self.old place) writing)) }
+        ensures fronts { FrontsFollow self.old self.new }
+    {
+        let pipe = self.places.get_mut(place);
+        let before = pipe.chunks();
+        pipe.open_end(writing);
+        self.chunks = self.chunks - before + pipe.chunks();
+    }
+
+    // One side of a FIFO that nobody has open is opened.
+    fn open_first(&mut self, alloc: Global, number: u32, writing: bool) -> Result<u32, Memory>
+        requires { length (pipes_in self.old) + 1 < 2 ^ 32 }
+        ensures place { IfOk result (λ place. place ≡ length (pipes_in self.old)) }
+        ensures pipes { OnOk result (pipes_in self.new ≡ pipes_in self.old ++ Some (with_end (unopened number) writing) ∷ []) }
+        ensures fronts { OnOk result (FrontsFollow self.old self.new) }
+        ensures kept { OnErr result (self.new ≡ self.old) }
+    {
         let mut pipe = Pipe::unopened(alloc, number);
         pipe.open_end(writing);
         self.places.push(pipe)
@@ -207,4 +226,16 @@ impl Pipes {
         self.chunks -= before;
         self.places.remove(place);
     }
+}
+
+// The place of the first of these pipes that is of this FIFO.
+fn first_of_fifo(there: &[Kept<Pipe>], number: u32) -> Option<u32>
+    ensures { result ≡ first_of_fifo number there.now }
+{
+    for kept in there {
+        if kept.what.is_of(number) {
+            return Some(kept.place);
+        }
+    }
+    None
 }
