@@ -1,9 +1,10 @@
 -- Changes of several sockets, one after another.
-use Rattle.std.proofs.Common.{◌≡◌, ◌≢◌, ℕ, ◌<◌, ◌≤◌, true, false, [], ◌∷◌, ◌++◌, length, Option, None, Some, IsSome, refl, ap, sym, ◌∙◌, subst, inl, inr, arith}
-use Rattle.std.specs.Prelude.{unwrap_or}
+use Rattle.std.proofs.Common.{◌≡◌, ◌≢◌, ℕ, ◌+◌, ◌<◌, ◌≤◌, true, false, List, [], ◌∷◌, ◌++◌, length, cond, Option, None, Some, IsSome, refl, ap, sym, ◌∙◌, subst, inl, inr, arith}
+use Rattle.std.specs.Prelude.{IfSome, unwrap_or}
 use Rattle.std.specs.List.{position_from}
 use Rattle.std.proofs.lemmas.Bool.{false≢true}
 use Rattle.std.proofs.lemmas.Bool.Decides.{eqb_tells}
+use Rattle.posix_defs.specs.Files.SocketNames.{listens_at}
 use Rattle.posix_defs.specs.Files.State.{is_number}
 use Rattle.posix_defs.specs.Socket.{Socket, Connected, Listening, connected_to, new_socket, peer_of, waiting_of}
 use Rattle.posix_defs.specs.SocketLinks.{AreLinked, NamesNone}
@@ -11,7 +12,8 @@ use Rattle.posix_defs.specs.Sockets.{Sockets, after_connect, gone, left_alone, s
 use Rattle.socket_laws.proofs.SocketLaws.{peer_there, peers_differ}
 use Rattle.socket_laws.proofs.SocketTable.{sock_at-with_other, there_within}
 use Rattle.plain_bytes.proofs.PlaceLemmas.{passes_nowhere, passes_there}
-use Rattle.plain_sockets.specs.Held.{is_bound_to}
+use Rattle.kept_places.specs.Places.{there_from}
+use Rattle.plain_sockets.specs.Held.{Held, first_bound, first_listening, is_bound_to, sockets_in}
 
 -- one that is there is there still after a change elsewhere
 pub still : (sockets : Sockets) (place other : ℕ) (socket : Option Socket) → place ≤ length sockets → other ≢ place → IsSome (sock_at sockets other)
@@ -64,6 +66,11 @@ peer_still sockets place peer linked there is =
     let within : place < length sockets = there_within sockets place there in
     still sockets place peer None (omega arith) (λ same. peers_differ sockets place peer linked is (sym same)) (peer_there sockets place peer linked is)
 
+pub peers_still : (sockets : Sockets) (place : ℕ) (peer : Option ℕ) → AreLinked sockets → IsSome (sock_at sockets place) → peer_of (stage_at sockets place) ≡ peer
+    → IfSome peer (λ other. IsSome (sock_at (with_socket sockets place None) other))
+peers_still sockets place None linked there is = tt
+peers_still sockets place (Some peer) linked there is = peer_still sockets place peer linked there is
+
 pub gone_with : (sockets : Sockets) (place : ℕ) (peer : Option ℕ) → peer_of (stage_at sockets place) ≡ peer → gone sockets place ≡ left_alone (with_socket sockets place None) peer
 gone_with sockets place peer is = ap (left_alone (with_socket sockets place None)) is
 
@@ -102,3 +109,15 @@ is_bound number sockets place is =
 
 pub nobody_bound : (number : ℕ) (sockets : Sockets) → position_from (is_bound_to number) 0 sockets ≡ None → NamesNone sockets number
 nobody_bound number sockets is place = bound_not number (sock_at sockets place) (passes_nowhere (is_bound_to number) 0 sockets refl is place)
+
+-- ---- the first of those that are there
+
+pub listening_there : (number from : ℕ) (held : List (Option Held)) → first_listening number (there_from from held) ≡ position_from (listens_at number) from (sockets_in held)
+listening_there number from [] = refl
+listening_there number from (None ∷ rest) = listening_there number (from + 1) rest
+listening_there number from (Some old ∷ rest) = ap (cond (listens_at number (Some old.socket)) (Some from)) (listening_there number (from + 1) rest)
+
+pub bound_first : (number from : ℕ) (held : List (Option Held)) → first_bound number (there_from from held) ≡ position_from (is_bound_to number) from (sockets_in held)
+bound_first number from [] = refl
+bound_first number from (None ∷ rest) = bound_first number (from + 1) rest
+bound_first number from (Some old ∷ rest) = ap (cond (is_number number old.socket.node) (Some from)) (bound_first number (from + 1) rest)

@@ -1,8 +1,10 @@
 -- A socket with the front of its queue, and what all sockets ever made are to the definitions: the sockets, and a list of fronts.
-use Rattle.std.specs.Prelude.{◌≡◌, ℕ, Bool, false, List, length, map, Option, None, Some, IsSome}
+use Rattle.std.specs.Prelude.{◌≡◌, ℕ, Bool, false, List, [], ◌∷◌, length, map, Option, None, Some, IsSome, if◌then◌else◌}
 use Rattle.std.specs.Option.{option_map}
 use Rattle.posix_defs.specs.Socket.{Socket, Stage}
 use Rattle.posix_defs.specs.Sockets.{Sockets, sock_at}
+use Rattle.kept_places.specs.declared.search.Kept.{Kept}
+use Rattle.posix_defs.specs.Files.SocketNames.{listens_at}
 use Rattle.posix_defs.specs.Files.State.{is_number}
 use Rattle.posix_defs.specs.Account.{front_after, fronts_after, unread_in_socket}
 use Rattle.plain_bytes.specs.Unread.{Unread}
@@ -63,3 +65,12 @@ pub record OnlyFades (old new : List (Option Held)) : Type 0 where
 abbrev pub is_bound_to : ℕ → Option Socket → Bool
 is_bound_to number None = false
 is_bound_to number (Some socket) = is_number number socket.node
+
+-- of those that are there, each with its place, the first that listens under the name of a node, and the first that is bound to it
+abbrev pub first_listening : ℕ → List (Kept Held) → Option ℕ
+first_listening number [] = None
+first_listening number (kept ∷ rest) = if listens_at number (Some kept.what.socket) then Some kept.place else first_listening number rest
+
+abbrev pub first_bound : ℕ → List (Kept Held) → Option ℕ
+first_bound number [] = None
+first_bound number (kept ∷ rest) = if is_number number kept.what.socket.node then Some kept.place else first_bound number rest

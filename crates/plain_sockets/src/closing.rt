@@ -1,7 +1,8 @@
-ghost use Rattle.std.specs.Prelude.{◌≡◌};
-ghost use Rattle.plain_sockets.specs.Held.{FrontsFollow, HasSocket, OnlyFades, sockets_in};
+ghost use Rattle.std.specs.Prelude.{◌≡◌, IfSome};
+ghost use Rattle.plain_bytes.specs.Many.{Fade, queues_of};
+ghost use Rattle.plain_sockets.specs.Held.{FrontsFollow, HasSocket, OnlyFades, queue_of, sockets_in};
 ghost use Rattle.posix_defs.specs.SocketLinks.{AreLinked, AreLoose, WaitsNowhere};
-ghost use Rattle.posix_defs.specs.Sockets.{after_close, all_gone, gone, socket_at};
+ghost use Rattle.posix_defs.specs.Sockets.{after_close, all_gone, gone, left_alone, socket_at};
 
 use crate::socket::Socket;
 use crate::sockets::Sockets;
@@ -28,10 +29,19 @@ impl Sockets {
         ensures fades { OnlyFades self.old self.new }
     {
         let socket = self.remove(place);
-        if let Some(peer) = socket.peer() {
+        self.part(socket.peer());
+        socket
+    }
+
+    // A peer stays connected to nobody.
+    fn part(&mut self, peer: Option<u32>)
+        requires { IfSome peer (λ place. HasSocket self.old place) }
+        ensures sockets { sockets_in self.new ≡ left_alone (sockets_in self.old) peer }
+        ensures fade { Fade (queues_of queue_of self.old) (queues_of queue_of self.new) }
+    {
+        if let Some(peer) = peer {
             self.leave_alone(peer);
         }
-        socket
     }
 
     // These go, one after another.
@@ -39,7 +49,7 @@ impl Sockets {
         requires linked { AreLinked (sockets_in self.old) }
         requires loose { AreLoose (sockets_in self.old) places.now }
         ensures sockets { sockets_in self.new ≡ all_gone (sockets_in self.old) places.now }
-        ensures fades { OnlyFades self.old self.new }
+        ensures fade { Fade (queues_of queue_of self.old) (queues_of queue_of self.new) }
     {
         for place in places {
             self.go(*place);

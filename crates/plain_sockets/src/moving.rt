@@ -13,6 +13,7 @@ use plain_bytes::Moving;
 
 impl Sockets {
     /// What a read of at most so many bytes comes to.
+    #[tactic(auto, using(crate::proofs::StageLemmas::read_apart, crate::proofs::StageLemmas::read_joined))]
     pub fn reads(&self, place: u32, nonblock: bool, count: u32) -> Moving
         requires { HasSocket self.now place }
         ensures { meant result ≡ sock_read (sockets_in self.now) place nonblock count }
@@ -34,6 +35,7 @@ impl Sockets {
     }
 
     /// What a write comes to of which so many bytes are left.
+    #[tactic(auto, using(crate::proofs::StageLemmas::write_apart, crate::proofs::StageLemmas::write_joined))]
     pub fn writes(&self, place: u32, nonblock: bool, left: u32) -> Moving
         requires { HasSocket self.now place }
         ensures { meant result ≡ sock_write (sockets_in self.now) place nonblock left }
@@ -49,6 +51,7 @@ impl Sockets {
     }
 
     /// Whether nobody reads what is written to a socket.
+    #[tactic(auto, using(crate::proofs::StageLemmas::unread_is))]
     pub fn is_unread(&self, place: u32) -> bool
         requires { HasSocket self.now place }
         ensures { result ≡ is_unread_in (sockets_in self.now) (stage_at (sockets_in self.now) place) }

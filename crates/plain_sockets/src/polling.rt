@@ -19,6 +19,7 @@ impl Sockets {
     }
 
     /// What `poll` tells of a socket.
+    #[tactic(auto, using(crate::proofs::StageLemmas::polled_joined, crate::proofs::StageLemmas::polled_listening, crate::proofs::StageLemmas::polled_idle))]
     pub fn polled(&self, place: u32, events: i64) -> u8
         requires { HasSocket self.now place }
         ensures { result ≡ sock_polled (sockets_in self.now) place events }

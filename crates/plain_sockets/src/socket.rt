@@ -215,7 +215,8 @@ impl Socket {
     }
 
     pub(crate) fn wait(&mut self, alloc: Global, place: u32) -> Result<(), Memory>
-        ensures { OnOk result (self.new ≡ in_stage self.old (Listening (waiting_of self.old.socket.stage ++ place ∷ []))) }
+        ensures waits { OnOk result (self.new ≡ in_stage self.old (Listening (waiting_of self.old.socket.stage ++ place ∷ []))) }
+        ensures queue { queue_of self.new ≡ queue_of self.old }
     {
         self.stage.wait(alloc, place)
     }

@@ -3,7 +3,7 @@ ghost use Rattle.std.specs.List.{count_by, position_from};
 ghost use Rattle.std.specs.Option.{option_copied, option_map};
 ghost use Rattle.kept_places.specs.Places.{at};
 ghost use Rattle.plain_bytes.specs.Unread.{nothing};
-ghost use Rattle.plain_sockets.specs.Held.{FrontsFollow, HasSocket, OnlyFades, fronts_in, is_bound_to, lengths_in, queue_of, socket_of, sockets_in};
+ghost use Rattle.plain_sockets.specs.Held.{FrontsFollow, HasSocket, OnlyFades, first_bound, first_listening, fronts_in, is_bound_to, lengths_in, queue_of, socket_of, sockets_in};
 ghost use Rattle.posix_defs.specs.Account.{chunks_taken};
 ghost use Rattle.posix_defs.specs.Files.SocketNames.{listener_at};
 ghost use Rattle.posix_defs.specs.Socket.{Connected, Listening, waiting_of, without_peer};
@@ -11,7 +11,7 @@ ghost use Rattle.posix_defs.specs.Sockets.{after_accept, after_listen, after_rea
 
 use crate::socket::Socket;
 use kabi_types::Memory;
-use kept_places::Places;
+use kept_places::{Kept, Places};
 use std::alloc::Global;
 use std::marker::Model;
 
@@ -95,7 +95,7 @@ impl Sockets {
         ensures fades { OnOk result (OnlyFades self.old self.new) }
         ensures kept { OnErr result (self.new ≡ self.old) }
     {
-        Ok(self.places.push(socket)?)
+        self.places.push(socket)
     }
 
     /// A socket gets a name, or loses it.
@@ -104,7 +104,8 @@ impl Sockets {
         ensures sockets { sockets_in self.new ≡ with_name (sockets_in self.old) place node }
         ensures fronts { FrontsFollow self.old self.new }
     {
-        self.places.get_mut(place).set_name(node);
+        let socket = self.places.get_mut(place);
+        socket.set_name(node);
     }
 
     /// A socket listens from now on; one that listens goes on.
@@ -113,7 +114,8 @@ impl Sockets {
         ensures sockets { sockets_in self.new ≡ after_listen (sockets_in self.old) place }
         ensures fronts { FrontsFollow self.old self.new }
     {
-        self.places.get_mut(place).listen(alloc);
+        let socket = self.places.get_mut(place);
+        socket.listen(alloc);
     }
 
     /// The first that waits for a socket is accepted.
@@ -122,7 +124,8 @@ impl Sockets {
         ensures sockets { sockets_in self.new ≡ after_accept (sockets_in self.old) place }
         ensures fronts { FrontsFollow self.old self.new }
     {
-        self.places.get_mut(place).let_first_go();
+        let socket = self.places.get_mut(place);
+        socket.let_first_go();
     }
 
     /// A socket is connected to another one.
@@ -131,7 +134,8 @@ impl Sockets {
         ensures sockets { sockets_in self.new ≡ with_stage (sockets_in self.old) place (Connected (Some peer) false false) }
         ensures fades { OnlyFades self.old self.new }
     {
-        self.places.get_mut(place).connect(peer);
+        let socket = self.places.get_mut(place);
+        socket.connect(peer);
     }
 
     /// A socket waits behind the others of a listening one.
@@ -139,9 +143,10 @@ impl Sockets {
         requires { HasSocket self.old place }
         ensures sockets { OnOk result (sockets_in self.new
             ≡ with_stage (sockets_in self.old) place (Listening (waiting_of (stage_at (sockets_in self.old) place) ++ waiting ∷ []))) }
-        ensures fades { OnOk result (OnlyFades self.old self.new) }
+        ensures fades { OnlyFades self.old self.new }
     {
-        self.places.get_mut(place).wait(alloc, waiting)
+        let socket = self.places.get_mut(place);
+        socket.wait(alloc, waiting)
     }
 
     /// The peer of a socket has closed.
@@ -150,7 +155,8 @@ impl Sockets {
         ensures sockets { sockets_in self.new ≡ with_stage (sockets_in self.old) place (without_peer (stage_at (sockets_in self.old) place)) }
         ensures fades { OnlyFades self.old self.new }
     {
-        self.places.get_mut(place).leave_alone();
+        let socket = self.places.get_mut(place);
+        socket.leave_alone();
     }
 
     /// A socket is shut for reading, for writing or for both.
@@ -212,23 +218,37 @@ impl Sockets {
     pub fn listener_at(&self, number: u32) -> Option<u32>
         ensures { result ≡ listener_at (sockets_in self.now) number }
     {
-        for kept in self.places.there() {
-            if kept.what.listens_at(number) {
-                return Some(kept.place);
-            }
-        }
-        None
+        first_listening(self.places.there(), number)
     }
 
     /// The place of the first socket that is bound to a node.
     pub(crate) fn bound_to(&self, number: u32) -> Option<u32>
         ensures { result ≡ position_from (is_bound_to number) 0 (sockets_in self.now) }
     {
-        for kept in self.places.there() {
-            if kept.what.has_name(number) {
-                return Some(kept.place);
-            }
-        }
-        None
+        first_bound(self.places.there(), number)
     }
+}
+
+// The place of the first of these sockets that listens under the name of a node.
+fn first_listening(there: &[Kept<Socket>], number: u32) -> Option<u32>
+    ensures { result ≡ first_listening number there.now }
+{
+    for kept in there {
+        if kept.what.listens_at(number) {
+            return Some(kept.place);
+        }
+    }
+    None
+}
+
+// The place of the first of these sockets that is bound to a node.
+fn first_bound(there: &[Kept<Socket>], number: u32) -> Option<u32>
+    ensures { result ≡ first_bound number there.now }
+{
+    for kept in there {
+        if kept.what.has_name(number) {
+            return Some(kept.place);
+        }
+    }
+    None
 }
