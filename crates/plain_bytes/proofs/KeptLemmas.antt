@@ -1,6 +1,7 @@
 -- Objects that have a queue each, by their places: what the change, the going and the coming of one leave of the queues and of the
 -- sum of their chunks.
-use Rattle.std.proofs.Common.{◌≡◌, ◌⊎◌, ℕ, ◌+◌, ◌-◌, ◌*◌, ◌^◌, ◌<◌, ◌≤◌, List, [], ◌∷◌, ◌++◌, length, get_or, set, map, Option, None, Some, refl, ap, sym, ◌∙◌, subst, arith}
+use Rattle.std.proofs.Common.{◌≡◌, ◌⊎◌, ℕ, ◌+◌, ◌-◌, ◌^◌, ◌<◌, ◌≤◌, List, [], ◌∷◌, ◌++◌, length, get_or, set, Option, None, Some, Result, Ok, Err, ap, sym, ◌∙◌, subst, arith}
+use Rattle.std.specs.Prelude.{OnErr, OnOk}
 use Rattle.std.specs.Option.{option_map}
 use Rattle.std.proofs.lemmas.List.{length-map, length-set, length_push, map-set, map_push}
 use Rattle.std.proofs.lemmas.List.Sums.{get_or-le-sum_by, sum_by-set, sum_by_push}
@@ -8,7 +9,7 @@ use Rattle.std.proofs.lemmas.Option.{none-some, same_Some}
 use Rattle.plain_bytes.specs.Unread.{IsQueue, Unread, nothing, taken_by}
 use Rattle.plain_bytes.specs.Many.{AreKept, AreQueues, Fade, Follow, all_taken, queue_at, queues_of, taken_in}
 use Rattle.plain_bytes.proofs.PlaceLemmas.{at_mapped}
-use Rattle.plain_bytes.proofs.ManyLemmas.{fade_gone, fade_pushed, fade_set, follow_set, is_within, queues_pushed, queues_set, taken_most}
+use Rattle.plain_bytes.proofs.ManyLemmas.{fade_gone, fade_pushed, fade_set, is_within, queues_pushed, queues_set, taken_most}
 
 module _ {X : Type 0} (queue : X → Unread) (there : List (Option X)) where
   -- the sum of chunks has room for some more
@@ -65,6 +66,13 @@ module _ {X : Type 0} (queue : X → Unread) (there : List (Option X)) where
           few = omega (arith, length-set there place (Some now), are.few);
         }
 
+    -- the same, with the sum as it is told before and after
+    pub kept_turned : (now : X) (chunks before after : ℕ) → AreKept queue there chunks → IsQueue (queue now)
+        → before ≡ taken_by (queue old) → after ≡ taken_by (queue now) → AreKept queue (set there place (Some now)) ((chunks - before) + after)
+    kept_turned now chunks before after are is was will =
+        subst (λ n. AreKept queue (set there place (Some now)) ((chunks - n) + after)) (sym was)
+        (subst (λ n. AreKept queue (set there place (Some now)) ((chunks - taken_by (queue old)) + n)) (sym will) (kept_put chunks now are is))
+
     -- the same where its queue stays
     pub kept_same : (chunks : ℕ) (now : X) → AreKept queue there chunks → queue now ≡ queue old → AreKept queue (set there place (Some now)) chunks
     kept_same chunks now are same =
@@ -107,3 +115,9 @@ module _ {X : Type 0} (queue : X → Unread) (there : List (Option X)) where
           sum = omega (arith, same, sum, are.sum);
           few = omega (arith, length_push there (Some new), few);
         }
+
+    -- also where the host had no memory for it
+    pub kept_pushed : {E : Type 0} (result : Result ℕ E) (left : List (Option X)) (chunks : ℕ) → OnOk result (left ≡ there ++ Some new ∷ [])
+        → OnErr result (left ≡ there) → AreKept queue there chunks → length there + 1 < 2 ^ 32 → AreKept queue left chunks
+    kept_pushed (Ok place) left chunks ok err are few = subst (λ l. AreKept queue l chunks) (sym ok) (kept_added chunks are few)
+    kept_pushed (Err error) left chunks ok err are few = subst (λ l. AreKept queue l chunks) (sym err) are

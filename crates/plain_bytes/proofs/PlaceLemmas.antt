@@ -1,12 +1,11 @@
 -- Objects by their places, and another list that is made of them, object by object: what it has at a place, how many are there, and
--- where the first stands that passes a test.
-use Rattle.std.proofs.Common.{◌≡◌, ℕ, zero, suc, ◌+◌, Bool, true, false, List, [], ◌∷◌, length, get_or, cond, map, Option, None, Some, refl, ap, sym, ◌∙◌, subst, inl, inr, arith}
+-- what was found by a test.
+use Rattle.std.proofs.Common.{◌≡◌, ℕ, zero, suc, ◌+◌, Bool, true, false, List, [], ◌∷◌, length, get_or, cond, map, Option, None, Some, refl, sym, ◌∙◌, subst, inl, inr, arith}
 use Rattle.std.specs.Prelude.{is_some}
 use Rattle.std.specs.List.{count_by, position_from}
 use Rattle.std.specs.Option.{option_map}
 use Rattle.std.proofs.lemmas.Bool.{cases_Bool, false≢true}
 use Rattle.std.proofs.lemmas.List.Sums.{sum_by-cons}
-use Rattle.kept_places.specs.declared.search.Kept.{Kept}
 use Rattle.kept_places.specs.Places.{there_from}
 
 -- what the list has at the place of an object
@@ -32,18 +31,6 @@ pub count_there : {A B : Type 0} (f : A → B) (from : ℕ) (there : List (Optio
 count_there f from [] = refl
 count_there f from (None ∷ rest) = omega (arith, count_there f (from + 1) rest, count_cons None (map (option_map f) rest))
 count_there f from (Some a ∷ rest) = omega (arith, count_there f (from + 1) rest, count_cons (Some (f a)) (map (option_map f) rest))
-
--- the place of the first of these that passes
-abbrev pub first_of : {A : Type 0} → (A → Bool) → List (Kept A) → Option ℕ
-first_of test [] = None
-first_of test (kept ∷ rest) = cond (test kept.what) (Some kept.place) (first_of test rest)
-
-pub first_there : {A B : Type 0} (f : A → B) (test : Option B → Bool) (from : ℕ) (there : List (Option A)) → test None ≡ false
-    → first_of (λ a. test (Some (f a))) (there_from from there) ≡ position_from test from (map (option_map f) there)
-first_there f test from [] never = refl
-first_there f test from (None ∷ rest) never =
-    first_there f test (from + 1) rest never ∙ sym (ap (λ b. cond b (Some from) (position_from test (from + 1) (map (option_map f) rest))) never)
-first_there f test from (Some a ∷ rest) never = ap (cond (test (Some (f a))) (Some from)) (first_there f test (from + 1) rest never)
 
 -- ---- what was found
 

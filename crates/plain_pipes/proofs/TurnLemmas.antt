@@ -1,16 +1,16 @@
 -- What one pipe's change, its going and its coming leave of the list of pipes, of the fronts and of the sum of chunks.
-use Rattle.std.proofs.Common.{◌≡◌, ℕ, ◌+◌, ◌-◌, ◌^◌, ◌<◌, Bool, true, false, List, [], ◌∷◌, ◌++◌, cond, set, Option, None, Some, Result, Ok, Err, refl, ap, sym, ◌∙◌, subst, inl, inr, arith}
-use Rattle.std.specs.Prelude.{◌==◌, ◌&&◌, ◌||◌, length, nat_lt, OnErr, OnOk, if◌then◌else◌}
+use Rattle.std.proofs.Common.{◌≡◌, ℕ, ◌-◌, Bool, true, false, List, [], ◌∷◌, ◌++◌, cond, set, Option, None, Some, refl, ap, sym, ◌∙◌, subst, inl, inr, arith}
+use Rattle.std.specs.Prelude.{◌==◌, ◌&&◌, ◌||◌, nat_lt, if◌then◌else◌}
 use Rattle.std.specs.Option.{option_map}
 use Rattle.std.proofs.lemmas.Bool.{and_from, and_left, and_right, cases_Bool, eq-eqb, false≢true, ltb-false, ltb-true, ne_eqb, or_cases}
-use Rattle.std.proofs.lemmas.List.{map-set, map_push, set-set}
+use Rattle.std.proofs.lemmas.List.{map-set, set-set}
 use Rattle.posix_defs.specs.Pipe.{Pipe, after_close, while_open, without_reader, without_writer}
 use Rattle.posix_defs.specs.Files.State.{Files, pipe_at, with_pipe}
 use Rattle.kept_places.specs.Places.{at, put, without}
-use Rattle.plain_bytes.specs.Unread.{IsQueue, nothing, taken_by}
+use Rattle.plain_bytes.specs.Unread.{nothing, taken_by}
 use Rattle.plain_bytes.specs.Many.{AreKept, queues_of}
 use Rattle.plain_bytes.proofs.ManyLemmas.{follow_fade, follow_set}
-use Rattle.plain_bytes.proofs.KeptLemmas.{fade_added, fade_out, follow_put, kept_added, kept_gone, kept_put, queue_here}
+use Rattle.plain_bytes.proofs.KeptLemmas.{fade_added, fade_out, follow_put, kept_gone, queue_here}
 use Rattle.plain_pipes.specs.Held.{FrontsFollow, Held, becomes, pipe_in, pipe_of, pipes_in, queue_of}
 use Rattle.plain_pipes.proofs.PlaceLemmas.{fronts_follow, pipe_is, pipe_is_in}
 
@@ -67,13 +67,6 @@ module _ (held : List (Option Held)) (place : ℕ) (old : Held) (there : at held
       (follow_put queue_of held place old there (becomes old pipe) are.queues
       (follow_set (queues_of queue_of held) place (queue_of old) (queue_of (becomes old pipe)) are.queues (queue_here queue_of held place old there) refl)))
 
-  pub kept_turned : (now : Held) (chunks before after : ℕ) → AreKept queue_of held chunks → IsQueue (queue_of now)
-      → before ≡ taken_by (queue_of old) → after ≡ taken_by (queue_of now) → AreKept queue_of (put held place now) ((chunks - before) + after)
-  kept_turned now chunks before after are is was will =
-      subst (λ n. AreKept queue_of (put held place now) ((chunks - n) + after)) (sym was)
-      (subst (λ n. AreKept queue_of (put held place now) ((chunks - taken_by (queue_of old)) + n)) (sym will)
-      (kept_put queue_of held place old there chunks now are is))
-
   -- an end was closed, and the pipe has another one
   pub pipes_closed : (files : Files) (writing : Bool) (now : Held) → now ≡ becomes old (closed_of writing old.pipe) → files.pipes ≡ pipes_in held
       → (nat_lt 0 now.pipe.readers || nat_lt 0 now.pipe.writers) ≡ true
@@ -121,10 +114,3 @@ pub fronts_added : (held : List (Option Held)) (new : Held) (chunks : ℕ) → q
 fronts_added held new chunks empty are =
     fronts_follow held (held ++ Some new ∷ [])
     (follow_fade (queues_of queue_of held) (queues_of queue_of (held ++ Some new ∷ [])) are.queues (fade_added queue_of held new empty))
-
--- also where the host had no memory for it
-pub kept_pushed : {E : Type 0} (result : Result ℕ E) (held left : List (Option Held)) (new : Held) (chunks : ℕ) → OnOk result (left ≡ held ++ Some new ∷ [])
-    → OnErr result (left ≡ held) → queue_of new ≡ nothing → AreKept queue_of held chunks → length held + 1 < 2 ^ 32 → AreKept queue_of left chunks
-kept_pushed (Ok place) held left new chunks ok err empty are few =
-    subst (λ l. AreKept queue_of l chunks) (sym ok) (kept_added queue_of held new empty chunks are few)
-kept_pushed (Err error) held left new chunks ok err empty are few = subst (λ l. AreKept queue_of l chunks) (sym err) are

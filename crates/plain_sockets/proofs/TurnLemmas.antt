@@ -1,16 +1,16 @@
 -- What one socket's change, its going and its coming leave of the list of sockets and of the fronts.
-use Rattle.std.proofs.Common.{◌≡◌, ℕ, zero, suc, ◌+◌, ◌-◌, ◌^◌, ◌<◌, List, [], ◌∷◌, ◌++◌, length, set, Option, None, Some, Result, Ok, Err, refl, ap, sym, ◌∙◌, subst, inl, arith}
-use Rattle.std.specs.Prelude.{OnErr, OnOk, is_some}
+use Rattle.std.proofs.Common.{◌≡◌, ℕ, zero, suc, ◌<◌, List, [], ◌∷◌, ◌++◌, length, set, Option, None, Some, refl, ap, sym, ◌∙◌, subst, inl, arith}
+use Rattle.std.specs.Prelude.{is_some}
 use Rattle.std.specs.Option.{option_map}
 use Rattle.std.proofs.lemmas.List.{map-set, map_push}
 use Rattle.posix_defs.specs.Socket.{Socket}
 use Rattle.posix_defs.specs.Sockets.{Sockets, socket_at, with_socket}
 use Rattle.socket_laws.proofs.SocketTable.{there_within, with-length}
 use Rattle.kept_places.specs.Places.{at, put, without}
-use Rattle.plain_bytes.specs.Unread.{IsQueue, nothing, taken_by}
+use Rattle.plain_bytes.specs.Unread.{nothing}
 use Rattle.plain_bytes.specs.Many.{AreKept, Fade, queues_of}
 use Rattle.plain_bytes.proofs.ManyLemmas.{fade_further, fade_same, follow_fade, follow_set}
-use Rattle.plain_bytes.proofs.KeptLemmas.{fade_added, fade_out, fade_put, follow_put, kept_added, kept_put, queue_here}
+use Rattle.plain_bytes.proofs.KeptLemmas.{fade_added, fade_out, fade_put, follow_put, queue_here}
 use Rattle.plain_sockets.specs.Held.{FrontsFollow, Held, OnlyFades, queue_of, socket_of, sockets_in, with_unread}
 use Rattle.plain_sockets.proofs.PlaceLemmas.{fronts_follow, sock_here, socket_is}
 
@@ -48,13 +48,6 @@ module _ (held : List (Option Held)) (place : ℕ) (old : Held) (there : at held
   fronts_unread chunks bytes now are is =
       subst (λ n. FrontsFollow held (put held place n)) (sym is) (fronts_put chunks (with_unread old bytes) are refl)
 
-  pub kept_turned : (now : Held) (chunks before after : ℕ) → AreKept queue_of held chunks → IsQueue (queue_of now)
-      → before ≡ taken_by (queue_of old) → after ≡ taken_by (queue_of now) → AreKept queue_of (put held place now) ((chunks - before) + after)
-  kept_turned now chunks before after are is was will =
-      subst (λ n. AreKept queue_of (put held place now) ((chunks - n) + after)) (sym was)
-      (subst (λ n. AreKept queue_of (put held place now) ((chunks - taken_by (queue_of old)) + n)) (sym will)
-      (kept_put queue_of held place old there chunks now are is))
-
   pub sockets_gone : sockets_in (without held place) ≡ with_socket (sockets_in held) place None
   sockets_gone = map-set (option_map socket_of) held place None ∙ sym (with_set (sockets_in held) place None within)
 
@@ -90,10 +83,3 @@ fades_then old middle new first second = record {
   queues = first.queues;
   fade = fade_further (queues_of queue_of old) (queues_of queue_of middle) (queues_of queue_of new) first.fade second;
 }
-
--- also where the host had no memory for it
-pub kept_pushed : {E : Type 0} (result : Result ℕ E) (held left : List (Option Held)) (new : Held) (chunks : ℕ) → OnOk result (left ≡ held ++ Some new ∷ [])
-    → OnErr result (left ≡ held) → queue_of new ≡ nothing → AreKept queue_of held chunks → length held + 1 < 2 ^ 32 → AreKept queue_of left chunks
-kept_pushed (Ok place) held left new chunks ok err empty are few =
-    subst (λ l. AreKept queue_of l chunks) (sym ok) (kept_added queue_of held new empty chunks are few)
-kept_pushed (Err error) held left new chunks ok err empty are few = subst (λ l. AreKept queue_of l chunks) (sym err) are

@@ -1,6 +1,5 @@
-use Rattle.std.proofs.Common.{◌≡◌, Some, ap, sym}
+use Rattle.std.proofs.Common.{Some, subst}
 use Rattle.std.proofs.lemmas.Option.{same_Some}
-use Rattle.std.proofs.Common.{subst}
 use Rattle.plain_bytes.specs.Unread.{IsQueue}
 use Rattle.plain_bytes.proofs.ManyLemmas.{follow_set, queues_set}
 use Rattle.plain_bytes.proofs.laws.a_change_of_one_follows.Goals as goal

@@ -1,10 +1,10 @@
 use Rattle.std.proofs.Common.{◌<◌, ap, sym, ◌∙◌, subst, arith}
-use Rattle.plain_bytes.proofs.KeptLemmas.{has_chunks}
+use Rattle.plain_bytes.proofs.KeptLemmas.{has_chunks, kept_turned}
 use Rattle.posix_defs.specs.Calls.OnFiles.{most_opens}
 use Rattle.posix_defs.specs.Pipe.{Pipe, opens_of, with_end}
 use Rattle.plain_pipes.specs.Held.{pipe_in, queue_of}
 use Rattle.plain_pipes.proofs.PlaceLemmas.{pipe_is_in}
-use Rattle.plain_pipes.proofs.TurnLemmas.{fronts_turned, kept_turned, list_turned}
+use Rattle.plain_pipes.proofs.TurnLemmas.{fronts_turned, list_turned}
 use Rattle.plain_pipes.proofs.pipes.Pipes.open_more.Goals as goal
 
 pub open_end-requires : goal.open_end-requires
@@ -20,7 +20,7 @@ overflow_sub-self c =
 
 pub invariant_of-self : goal.invariant_of-self
 invariant_of-self c =
-    kept_turned c.self.inside.places c.args.place c.get_mut-pipe.result.now c.get_mut-pipe.ensures.value c.open_end.new.self c.self.inside.chunks c.chunks-before.result
+    kept_turned queue_of c.self.inside.places c.args.place c.get_mut-pipe.result.now c.get_mut-pipe.ensures.value c.open_end.new.self c.self.inside.chunks c.chunks-before.result
     c.chunks.result c.self.invariant c.open_end.ensures.held.queue c.chunks-before.ensures.value c.chunks.ensures.value
 
 pub returns-clause-pipes : goal.returns-clause-pipes

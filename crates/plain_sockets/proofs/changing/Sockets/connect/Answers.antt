@@ -1,4 +1,4 @@
-use Rattle.std.proofs.Common.{◌≡◌, true, false, ◌++◌, ◌∷◌, [], length, Some, IsSome, refl, ap, sym, ◌∙◌, subst}
+use Rattle.std.proofs.Common.{◌≡◌, false, ◌++◌, ◌∷◌, [], length, Some, IsSome, refl, ap, sym, ◌∙◌, subst}
 use Rattle.std.proofs.lemmas.Result.{on_ok_weaker}
 use Rattle.posix_defs.specs.Socket.{Connected, Listening, connected_to, waiting_of}
 use Rattle.posix_defs.specs.Sockets.{sock_at, stage_at, with_socket, with_stage}

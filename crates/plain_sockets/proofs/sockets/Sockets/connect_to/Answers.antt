@@ -1,4 +1,4 @@
-use Rattle.std.proofs.Common.{true, false, Some, ap}
+use Rattle.std.proofs.Common.{false, Some, ap}
 use Rattle.posix_defs.specs.Socket.{Connected, Socket}
 use Rattle.plain_bytes.proofs.KeptLemmas.{kept_same}
 use Rattle.plain_sockets.specs.Held.{queue_of, socket_of}

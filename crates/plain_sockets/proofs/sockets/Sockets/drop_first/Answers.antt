@@ -1,8 +1,8 @@
 use Rattle.std.proofs.Common.{drop, ap, arith}
 use Rattle.posix_defs.specs.Socket.{Socket}
-use Rattle.plain_bytes.proofs.KeptLemmas.{chunks_fit, has_chunks}
+use Rattle.plain_bytes.proofs.KeptLemmas.{chunks_fit, has_chunks, kept_turned}
 use Rattle.plain_sockets.specs.Held.{queue_of, socket_of}
-use Rattle.plain_sockets.proofs.TurnLemmas.{fronts_unread, kept_turned, sockets_turned}
+use Rattle.plain_sockets.proofs.TurnLemmas.{fronts_unread, sockets_turned}
 use Rattle.plain_sockets.proofs.sockets.Sockets.drop_first.Goals as goal
 
 pub overflow_sub-self : goal.overflow_sub-self
@@ -17,7 +17,7 @@ overflow_add-self c =
 
 pub invariant_of-self : goal.invariant_of-self
 invariant_of-self c =
-    kept_turned c.self.inside.places c.args.place c.get_mut-socket.result.now c.get_mut-socket.ensures.value c.drop_first.new.self c.self.inside.chunks c.chunks-before.result c.chunks.result
+    kept_turned queue_of c.self.inside.places c.args.place c.get_mut-socket.result.now c.get_mut-socket.ensures.value c.drop_first.new.self c.self.inside.chunks c.chunks-before.result c.chunks.result
     c.self.invariant c.drop_first.ensures.queue c.chunks-before.ensures.value c.chunks.ensures.value
 
 pub returns-clause-sockets : goal.returns-clause-sockets
