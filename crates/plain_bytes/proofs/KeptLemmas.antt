@@ -61,7 +61,7 @@ module _ {X : Type 0} (queue : X → Unread) (there : List (Option X)) where
         let same : all_taken (queues_of queue (set there place (Some now))) ≡ all_taken (set (queues_of queue there) place (Some (queue now))) = ap all_taken (queues_put now) in
         record {
           queues = subst AreQueues (sym (queues_put now))
-            (queues_set (queues_of queue there) place (Some (queue now)) are.queues (λ q h. subst IsQueue (same_Some (queue now) q h) is));
+              (queues_set (queues_of queue there) place (Some (queue now)) are.queues (λ q h. subst IsQueue (same_Some (queue now) q h) is));
           sum = omega (arith, same, sum_after (Some (queue now)), are.sum, has_chunks chunks are);
           few = omega (arith, length-set there place (Some now), are.few);
         }

@@ -47,7 +47,7 @@ stays (Some q) is = same_front (length q.bytes) q.front (is q refl).empty
 -- where the fronts follow at each place they all do
 pub follow_each : (old new : List (Option Unread))
     → ((place : ℕ) → place < length new
-      → front_after (length_in (queue_at old place)) (length_in (queue_at new place)) (front_in (queue_at old place)) ≡ front_in (queue_at new place))
+    → front_after (length_in (queue_at old place)) (length_in (queue_at new place)) (front_in (queue_at old place)) ≡ front_in (queue_at new place))
     → Follow old new
 follow_each old new each =
     let moved : ℕ → ℕ = λ place. front_after (get_or (lengths old) place 0) (get_or (lengths new) place 0) (get_or (fronts old) place 0) in
@@ -68,7 +68,7 @@ follow_set queues place queue now are there moved = follow_each queues (set queu
   | inl same ↦
       let old : queue_at queues k ≡ Some queue = ap (queue_at queues) same ∙ there in
       let new : queue_at (set queues place (Some now)) k ≡ Some now =
-        ap (queue_at (set queues place (Some now))) same ∙ get_or-set_same queues place (Some now) None (is_within queues place queue there) in
+      ap (queue_at (set queues place (Some now))) same ∙ get_or-set_same queues place (Some now) None (is_within queues place queue there) in
       ap (λ o. front_after (length_in o) (length_in (queue_at (set queues place (Some now)) k)) (front_in o)) old
       ∙ ap (λ o. front_after (length queue.bytes) (length_in o) queue.front) new ∙ sym moved ∙ sym (ap front_in new)
   | inr differs ↦
@@ -122,12 +122,12 @@ taken_all queues =
     let taken : ℕ → ℕ = λ place. chunks_of (record { place = get_or (fronts queues) place 0; len = get_or (lengths queues) place 0 }) in
     let long : length (lengths queues) ≡ length queues = length-map queues length_in in
     let same : map taken_in queues ≡ map taken (range_with_len 0 (length (lengths queues))) =
-      same_lists _ _ (length-map queues taken_in ∙ sym long ∙ sym (length-map-range_with_len taken 0 (length (lengths queues)))) (λ k none lt.
-      let within : k < length queues = omega (arith, lt, length-map queues taken_in) in
-      get_or-map taken_in queues k None none within ∙ sym (taken_is (queue_at queues k))
-      ∙ ap (λ n. chunks_of (record { place = n; len = length_in (queue_at queues k) })) (sym (front_at queues k))
-      ∙ ap (λ n. chunks_of (record { place = get_or (fronts queues) k 0; len = n })) (sym (length_at queues k))
-      ∙ sym (get_or-map-range_with_len taken 0 (length (lengths queues)) k k none (omega (arith, within, long)) (omega arith))) in
+    same_lists _ _ (length-map queues taken_in ∙ sym long ∙ sym (length-map-range_with_len taken 0 (length (lengths queues)))) (λ k none lt.
+    let within : k < length queues = omega (arith, lt, length-map queues taken_in) in
+    get_or-map taken_in queues k None none within ∙ sym (taken_is (queue_at queues k))
+    ∙ ap (λ n. chunks_of (record { place = n; len = length_in (queue_at queues k) })) (sym (front_at queues k))
+    ∙ ap (λ n. chunks_of (record { place = get_or (fronts queues) k 0; len = n })) (sym (length_at queues k))
+    ∙ sym (get_or-map-range_with_len taken 0 (length (lengths queues)) k k none (omega (arith, within, long)) (omega arith))) in
     sym (sum-map taken_in queues) ∙ ap (sum_by (λ n. n)) same
 
 taken_few : (queue : Unread) → IsQueue queue → taken_by queue ≤ 9
@@ -180,7 +180,7 @@ fade_set queues place old now there so = record {
   each = λ k. elim (cases_eq k place) [
     | inl same ↦
         let new : queue_at (set queues place (Some now)) k ≡ Some now =
-          ap (queue_at (set queues place (Some now))) same ∙ get_or-set_same queues place (Some now) None (is_within queues place old there) in
+        ap (queue_at (set queues place (Some now))) same ∙ get_or-set_same queues place (Some now) None (is_within queues place old there) in
         elim so [
           | inl stays ↦ inl (new ∙ ap Some stays ∙ sym there ∙ ap (queue_at queues) (sym same))
           | inr goes ↦ let none : queue_at (set queues place (Some now)) k ≡ Some nothing = new ∙ ap Some goes in inr (ap length_in none, ap front_in none)

@@ -5,10 +5,8 @@
 mod bits;
 pub mod laws;
 mod moving;
-
 mod queue;
 
 pub use bits::{POLLERR, POLLHUP, POLLIN, POLLOUT, event_if, has_flag};
 pub use moving::Moving;
-
 pub use queue::Queue;

@@ -73,10 +73,10 @@ module _ (held : List (Option Held)) (place : ℕ) (old : Held) (there : at held
       → pipes_in (put held place now) ≡ (with_pipe files place (after_close (pipe_at files place) writing)).pipes
   pipes_closed files writing now is same some =
       let left : now.pipe ≡ closed_of writing (pipe_at files place) =
-        ap pipe_of is ∙ ap (closed_of writing) (sym (pipe_is held files place old same there)) in
+      ap pipe_of is ∙ ap (closed_of writing) (sym (pipe_is held files place old same there)) in
       let still : after_close (pipe_at files place) writing ≡ Some (closed_of writing (pipe_at files place)) =
-        stays_open (closed_of writing (pipe_at files place))
-        (subst (λ (pipe : Pipe). (nat_lt 0 pipe.readers || nat_lt 0 pipe.writers) ≡ true) left some) in
+      stays_open (closed_of writing (pipe_at files place))
+      (subst (λ (pipe : Pipe). (nat_lt 0 pipe.readers || nat_lt 0 pipe.writers) ≡ true) left some) in
       pipes_turned files (closed_of writing) now is same ∙ ap (λ o. set files.pipes place o) (sym still)
 
   -- ---- its going
@@ -97,10 +97,10 @@ module _ (held : List (Option Held)) (place : ℕ) (old : Held) (there : at held
       → pipes_in (without held place) ≡ (with_pipe files place (after_close (pipe_at files place) writing)).pipes
   pipes_ended files writing now is same none =
       let left : now.pipe ≡ closed_of writing (pipe_at files place) =
-        ap pipe_of is ∙ ap (closed_of writing) (sym (pipe_is held files place old same there)) in
+      ap pipe_of is ∙ ap (closed_of writing) (sym (pipe_is held files place old same there)) in
       let gone : after_close (pipe_at files place) writing ≡ None =
-        ends (closed_of writing (pipe_at files place))
-        (subst (λ (pipe : Pipe). (nat_lt 0 pipe.readers || nat_lt 0 pipe.writers) ≡ false) left none) in
+      ends (closed_of writing (pipe_at files place))
+      (subst (λ (pipe : Pipe). (nat_lt 0 pipe.readers || nat_lt 0 pipe.writers) ≡ false) left none) in
       map-set (option_map pipe_of) held place None ∙ ap (λ pipes. set pipes place None) (sym same) ∙ ap (λ o. set files.pipes place o) (sym gone)
 
   -- what was put there goes

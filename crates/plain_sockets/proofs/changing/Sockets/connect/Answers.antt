@@ -10,33 +10,33 @@ use Rattle.plain_sockets.proofs.changing.Sockets.connect.Goals as goal
 pub connect_to-requires : goal.connect_to-requires
 connect_to-requires c =
     let joined : sockets_in c.add.new.self ≡ with_socket (sockets_in c.args.self.now) (length (sockets_in c.args.self.now)) (Some (connected_to c.args.client)) =
-      c.in_ok-add.ensures.sockets
-      ∙ ap (λ (held : Held). with_socket (sockets_in c.args.self.now) (length (sockets_in c.args.self.now)) (Some held.socket)) c.connected_to.ensures in
+    c.in_ok-add.ensures.sockets
+    ∙ ap (λ (held : Held). with_socket (sockets_in c.args.self.now) (length (sockets_in c.args.self.now)) (Some held.socket)) c.connected_to.ensures in
     subst (λ s. IsSome (sock_at s c.args.client)) (sym joined) (client_still (sockets_in c.args.self.now) c.args.client c.args.listener c.requires.client c.requires.listener c.requires.apart)
 
 pub wait_at-requires : goal.wait_at-requires
 wait_at-requires c =
     let joined : sockets_in c.add.new.self ≡ with_socket (sockets_in c.args.self.now) (length (sockets_in c.args.self.now)) (Some (connected_to c.args.client)) =
-      c.in_ok-add.ensures.sockets
-      ∙ ap (λ (held : Held). with_socket (sockets_in c.args.self.now) (length (sockets_in c.args.self.now)) (Some held.socket)) c.connected_to.ensures in
+    c.in_ok-add.ensures.sockets
+    ∙ ap (λ (held : Held). with_socket (sockets_in c.args.self.now) (length (sockets_in c.args.self.now)) (Some held.socket)) c.connected_to.ensures in
     let turned : sockets_in c.connect_to.new.self ≡ with_stage (with_socket (sockets_in c.args.self.now) (length (sockets_in c.args.self.now)) (Some (connected_to c.args.client))) c.args.client (Connected (Some (length (sockets_in c.args.self.now))) false false) =
-      c.connect_to.ensures.sockets ∙ ap (λ s. with_stage s c.args.client (Connected (Some c.in_ok-add.made) false false)) joined
-      ∙ ap (λ made. with_stage (with_socket (sockets_in c.args.self.now) (length (sockets_in c.args.self.now)) (Some (connected_to c.args.client))) c.args.client (Connected (Some made) false false)) c.in_ok-add.ensures.place in
+    c.connect_to.ensures.sockets ∙ ap (λ s. with_stage s c.args.client (Connected (Some c.in_ok-add.made) false false)) joined
+    ∙ ap (λ made. with_stage (with_socket (sockets_in c.args.self.now) (length (sockets_in c.args.self.now)) (Some (connected_to c.args.client))) c.args.client (Connected (Some made) false false)) c.in_ok-add.ensures.place in
     subst (λ s. IsSome (sock_at s c.args.listener)) (sym turned) (listener_still (sockets_in c.args.self.now) c.args.client c.args.listener c.requires.client c.requires.listener c.requires.apart (length (sockets_in c.args.self.now)) refl)
 
 pub returns-clause-sockets : goal.returns-clause-sockets
 returns-clause-sockets c =
     let joined : sockets_in c.add.new.self ≡ with_socket (sockets_in c.args.self.now) (length (sockets_in c.args.self.now)) (Some (connected_to c.args.client)) =
-      c.in_ok-add.ensures.sockets
-      ∙ ap (λ (held : Held). with_socket (sockets_in c.args.self.now) (length (sockets_in c.args.self.now)) (Some held.socket)) c.connected_to.ensures in
+    c.in_ok-add.ensures.sockets
+    ∙ ap (λ (held : Held). with_socket (sockets_in c.args.self.now) (length (sockets_in c.args.self.now)) (Some held.socket)) c.connected_to.ensures in
     let turned : sockets_in c.connect_to.new.self ≡ with_stage (with_socket (sockets_in c.args.self.now) (length (sockets_in c.args.self.now)) (Some (connected_to c.args.client))) c.args.client (Connected (Some (length (sockets_in c.args.self.now))) false false) =
-      c.connect_to.ensures.sockets ∙ ap (λ s. with_stage s c.args.client (Connected (Some c.in_ok-add.made) false false)) joined
-      ∙ ap (λ made. with_stage (with_socket (sockets_in c.args.self.now) (length (sockets_in c.args.self.now)) (Some (connected_to c.args.client))) c.args.client (Connected (Some made) false false)) c.in_ok-add.ensures.place in
+    c.connect_to.ensures.sockets ∙ ap (λ s. with_stage s c.args.client (Connected (Some c.in_ok-add.made) false false)) joined
+    ∙ ap (λ made. with_stage (with_socket (sockets_in c.args.self.now) (length (sockets_in c.args.self.now)) (Some (connected_to c.args.client))) c.args.client (Connected (Some made) false false)) c.in_ok-add.ensures.place in
     on_ok_weaker c.wait_at.result
     (λ (is : sockets_in c.wait_at.new.self ≡ with_stage (sockets_in c.connect_to.new.self) c.args.listener (Listening (waiting_of (stage_at (sockets_in c.connect_to.new.self) c.args.listener) ++ c.in_ok-add.made ∷ []))).
     is ∙ ap (λ s. with_stage s c.args.listener (Listening (waiting_of (stage_at s c.args.listener) ++ c.in_ok-add.made ∷ []))) turned
     ∙ ap (λ made. with_stage (with_stage (with_socket (sockets_in c.args.self.now) (length (sockets_in c.args.self.now)) (Some (connected_to c.args.client))) c.args.client (Connected (Some (length (sockets_in c.args.self.now))) false false)) c.args.listener
-      (Listening (waiting_of (stage_at (with_stage (with_socket (sockets_in c.args.self.now) (length (sockets_in c.args.self.now)) (Some (connected_to c.args.client))) c.args.client (Connected (Some (length (sockets_in c.args.self.now))) false false)) c.args.listener) ++ made ∷ []))) c.in_ok-add.ensures.place
+    (Listening (waiting_of (stage_at (with_stage (with_socket (sockets_in c.args.self.now) (length (sockets_in c.args.self.now)) (Some (connected_to c.args.client))) c.args.client (Connected (Some (length (sockets_in c.args.self.now))) false false)) c.args.listener) ++ made ∷ []))) c.in_ok-add.ensures.place
     ∙ connected (sockets_in c.args.self.now) c.args.client c.args.listener c.requires.client c.requires.listener c.requires.apart) c.wait_at.ensures.sockets
 
 pub returns-clause-fronts : goal.returns-clause-fronts

@@ -14,7 +14,7 @@ all_go-requires-clause-linked c =
 pub all_go-requires-clause-loose : goal.all_go-requires-clause-loose
 all_go-requires-clause-loose c =
     let waiting : waiting_of (stage_at (sockets_in c.args.self.now) c.args.place) ≡ c.waiting.result.now =
-      ap (λ (s : Socket). waiting_of s.stage) (sym c.go.ensures.socket) ∙ sym c.waiting.ensures in
+    ap (λ (s : Socket). waiting_of s.stage) (sym c.go.ensures.socket) ∙ sym c.waiting.ensures in
     subst (λ s. AreLoose s c.waiting.result.now) (sym c.go.ensures.sockets)
     (subst (AreLoose (gone (sockets_in c.args.self.now) c.args.place)) waiting
     (waiting_loose (sockets_in c.args.self.now) c.args.place c.requires.linked c.requires.there c.requires.alone))
@@ -22,7 +22,7 @@ all_go-requires-clause-loose c =
 pub returns-clause-sockets : goal.returns-clause-sockets
 returns-clause-sockets c =
     let waiting : waiting_of (stage_at (sockets_in c.args.self.now) c.args.place) ≡ c.waiting.result.now =
-      ap (λ (s : Socket). waiting_of s.stage) (sym c.go.ensures.socket) ∙ sym c.waiting.ensures in
+    ap (λ (s : Socket). waiting_of s.stage) (sym c.go.ensures.socket) ∙ sym c.waiting.ensures in
     c.all_go.ensures.sockets ∙ ap (λ s. all_gone s c.waiting.result.now) c.go.ensures.sockets
     ∙ ap (all_gone (gone (sockets_in c.args.self.now) c.args.place)) (sym waiting)
 

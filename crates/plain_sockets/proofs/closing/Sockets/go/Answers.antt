@@ -10,14 +10,14 @@ use Rattle.plain_sockets.proofs.closing.Sockets.go.Goals as goal
 pub part-requires : goal.part-requires
 part-requires c =
     let is : peer_of (stage_at (sockets_in c.args.self.now) c.args.place) ≡ c.peer.result =
-      ap (λ (s : Socket). peer_of s.stage) (sym c.remove.ensures.socket) ∙ sym c.peer.ensures in
+    ap (λ (s : Socket). peer_of s.stage) (sym c.remove.ensures.socket) ∙ sym c.peer.ensures in
     subst (λ s. IfSome c.peer.result (λ other. IsSome (sock_at s other))) (sym c.remove.ensures.sockets)
     (peers_still (sockets_in c.args.self.now) c.args.place c.peer.result c.requires.linked c.requires.there is)
 
 pub returns-clause-sockets : goal.returns-clause-sockets
 returns-clause-sockets c =
     let is : peer_of (stage_at (sockets_in c.args.self.now) c.args.place) ≡ c.peer.result =
-      ap (λ (s : Socket). peer_of s.stage) (sym c.remove.ensures.socket) ∙ sym c.peer.ensures in
+    ap (λ (s : Socket). peer_of s.stage) (sym c.remove.ensures.socket) ∙ sym c.peer.ensures in
     c.part.ensures.sockets ∙ ap (λ s. left_alone s c.peer.result) c.remove.ensures.sockets ∙ sym (gone_with (sockets_in c.args.self.now) c.args.place c.peer.result is)
 
 pub returns-clause-fades : goal.returns-clause-fades
