@@ -1,4 +1,4 @@
-//! The machine over lists, part by part, by hand. Tests alone.
+//! The machine over lists, part by part, by hand: pipes and sockets. Tests alone.
 #![tactic(auto)]
 
 #[cfg(test)]

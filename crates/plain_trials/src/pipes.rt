@@ -31,9 +31,9 @@ const MANY: Moving = Moving::Moves(600);
 const FILLED: &[Row] = &[
     (Deed::Put(10), Moving::Moves(10), ALL, MANY, 1),
     (Deed::Take(4), Moving::Moves(6), ALL, MANY, 1),
-    (Deed::Put(506), Moving::Moves(100), ALL, MANY, 1),
+    (Deed::Put(502), Moving::Moves(100), ALL, MANY, 1),
     (Deed::Put(1), Moving::Moves(100), ALL, MANY, 2),
-    (Deed::Take(513), AGAIN, ALL, MANY, 0),
+    (Deed::Take(509), AGAIN, ALL, MANY, 0),
     (
         Deed::Put(4000),
         Moving::Moves(100),
