@@ -18,10 +18,10 @@ PARTS = [
     ("copies, from one value to another and of the bytes that calls move", r".*\b__memcpy|.*\b__memmove"),
     ("clearing, of locals and of memory that was never written", r".*\b__memset"),
     ("a process's next call, its operands checked, its need", r"call_run::store::StoreTurner::(next|asks)|prog_ctl|kabi_types::(arguments|calls|paths)|need_table"),
-    ("whether a call that sleeps would go on", r"call_run::store::StoreTurner::ready|call_run::(calls::would_block|sleepers)"),
+    ("whether a call that sleeps would go on", r"call_run::store::StoreTurner::ready|call_run::(calls::would_block|sleepers)|lock_calls::wait|wait_graph"),
     ("the file tree, the disk and the caches", r"memfs_|path_walk|blk_map|disk_layout|cached_disk|lru_index|\w+_cache"),
-    ("pipes and sockets", r"pipe_|chunk_queue|usock_core|queue_calls|proc_numbers::(?!closing|opening)"),
-    ("the turn but for these: processes, their memory and descriptors, the heap", r"(call_run|store_|process_|path_|file_|open_|proc_|page_|desc_|kheap_|bound_)\w*::"),
+    ("pipes and sockets", r"pipe_|fifo_nodes|chunk_queue|usock_core|queue_calls|proc_numbers::(?!closing|opening)"),
+    ("the turn but for these: processes, their memory and descriptors, the heap", r"(call_run|store_|process_|path_|file_|open_|lock_|proc_|page_|desc_|kheap_|bound_)\w*::"),
     ("the host's memory, the loader, boot and reading", r".*"),
 ]
 

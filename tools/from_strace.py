@@ -30,6 +30,8 @@ SAME = {"getpid": False, "getppid": False, "sched_yield": False, "listen": True}
 FORKS = ("fork", "vfork", "clone", "clone3")
 AT_PATHS = {"openat": "open", "mkdirat": "mkdir", "mknodat": "mknod", "newfstatat": "stat", "unlinkat": "unlink"}
 PAIRS_AT = {"renameat": "rename", "renameat2": "rename", "linkat": "link"}
+LOCK_CALLS = {"F_SETLK": "setlk", "F_SETLKW": "setlkw"}
+LOCK = re.compile(r"\{l_type=(F_\w+), l_whence=SEEK_SET, l_start=(\d+), l_len=(\d+)")
 RENAMED = {"lstat": "stat", "pread64": "pread", "pwrite64": "pwrite", "getdents64": "readdir", "accept4": "accept",
            "exit_group": "exit", "wait4": "waitpid", "dup3": "dup2", "pipe2": "pipe", "sendto": "write", "recvfrom": "read"}
 
@@ -264,6 +266,8 @@ class Translation:
         return self.shares(actor, line, old, new, to) if old != new else actor.say(line) or True
 
     def say_fcntl(self, actor, args, result):
+        if args[1] in LOCK_CALLS:
+            return self.say_lock(actor, args)
         fd, command = number(args[0]), args[1].replace("F_DUPFD_CLOEXEC", "F_DUPFD")
         if command not in CONSTANTS["COMMAND"] or actor.number(fd) is None:
             return False
@@ -275,6 +279,11 @@ class Translation:
         if command == "F_SETFD":
             actor.files[fd] = replace(actor.files[fd], cloexec=argument == "FD_CLOEXEC")
         return self.say_by(actor, "fcntl", args, f"{command} {argument or 0}")
+
+    def say_lock(self, actor, args):
+        """A range that is counted from the file's beginning."""
+        found = LOCK.match(args[2])
+        return bool(found) and self.say_by(actor, LOCK_CALLS[args[1]], args, " ".join(found.groups()))
 
     def say_two(self, actor, name, told, more):
         """A call that opens two descriptors."""

@@ -50,6 +50,12 @@ def moves_beside(asleep):
                  ["r1 = mmap 4096", "r2 r3 = pipe", *["r4 = dup r2"] * 28, "r10 = open \"/a\" O_RDWR|O_CREAT"])
 
 
+def wait_for_places(asleep):
+    """Who sleeps waits for a place of a file that the first process holds, and the last one asks for its pid."""
+    return chain(asleep, ["r12 = setlkw 0 F_WRLCK 0 1"], ["r12 = getpid"],
+                 ["open \"/f\" O_RDWR|O_CREAT", "setlk 0 F_WRLCK 0 1", "r15 = fork", "if r15 == 0 first", "waitpid -1 0", "exit 0", "label first"])
+
+
 # How many events sleepers take before their steps are all alike.
 ASLEEP = 3000
 
@@ -61,6 +67,7 @@ ROWS = [
     ("asleep in `read`, while one writes and reads a pipe", (0, 8, 62), of_pipe(["r12 = read r2 r1 8"]), ASLEEP, 1700, 110),
     ("asleep in `poll` of eight, while one asks for a file's bytes and its name", (0, 8, 62), reads_beside, ASLEEP, 1700, 110),
     ("asleep in `waitpid`, while one asks for its pid", (0, 8, 62), waits, ASLEEP, 1300, 110),
+    ("asleep in `setlkw` for one place, while one asks for its pid", (0, 8, 30), wait_for_places, ASLEEP, 31500, 2800),
     ("asleep with thirty descriptors each, while one moves a name", (0, 8, 62), moves_beside, ASLEEP, 28400, 1000),
     *OF_DISKS,
 ]

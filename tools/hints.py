@@ -13,14 +13,16 @@ ELSEWHERE = {
     "goto": "jump", "return": "exit", "wait": "waitpid", "yield": "sched_yield", "vfork": "fork", "clone": "fork", "let": "set",
     "var": "set", "while": "loop", "for": "loop", "cd": "chdir", "ls": "readdir", "rm": "unlink", "mv": "rename", "ln": "link",
     "creat": "open", "send": "write", "recv": "read", "malloc": "mmap", "free": "munmap", "sigaction": "signal",
-    "mknod": "mkfifo",
+    "mknod": "mkfifo", "flock": "setlk", "lockf": "setlk", "lock": "setlk", "unlock": "setlk",
 }
 NO_SUCH = {
     **dict.fromkeys("print printf puts echo".split(), "A script prints nothing; the report tells what each call is answered."),
-    **dict.fromkeys("sleep usleep nanosleep".split(), "There is no time; a process sleeps in waitpid, read, write, accept, poll and open."),
+    **dict.fromkeys("sleep usleep nanosleep".split(), "There is no time; a process sleeps in waitpid, read, write, accept, poll, open and setlkw."),
     **dict.fromkeys("symlink chmod chown umask alarm select mprotect fsync getuid".split(),
                     "There is no such call; ./kres table lists all that there are."),
 }
+# Commands of POSIX's fcntl that are calls here.
+COMMANDS_ELSEWHERE = {"F_SETLK": "setlk", "F_SETLKW": "setlkw", "F_GETLK": "getlk"}
 UNITS = {"k": 1024, "m": 1048576}
 
 
@@ -70,6 +72,8 @@ def constant_hint(text, name):
     for part in (it for it in text.split("|") if it not in NUMBERS):
         if not part:
             return BAR
+        if part.upper() in COMMANDS_ELSEWHERE:
+            return f"Locks have calls of their own: {COMMANDS_ELSEWHERE[part.upper()]} FD KIND START LENGTH"
         if part.upper() in NUMBERS:
             return f"{part} is no constant: {part.upper()} is."
         close = near(part, CONSTANTS.get(name, NUMBERS)) or near(part, NUMBERS)

@@ -18,13 +18,19 @@ FLAGS = ["O_RDONLY", "O_RDWR", "O_RDWR|O_CREAT", "O_RDWR|O_CREAT", "O_WRONLY|O_C
 # How a FIFO is opened, mostly.
 SIDES = ["O_RDONLY", "O_RDONLY", "O_WRONLY", "O_WRONLY", "O_RDONLY|O_NONBLOCK", "O_WRONLY|O_NONBLOCK", "O_WRONLY|O_CREAT|O_TRUNC",
          "O_RDONLY|O_CREAT|O_EXCL", "O_RDWR", "O_RDONLY|O_CLOEXEC"]
+# Which kinds of lock are asked for, and of which places, mostly; and where places end.
+KINDS = ["F_RDLCK", "F_RDLCK", "F_WRLCK", "F_WRLCK", "F_WRLCK", "F_UNLCK", "F_UNLCK"]
+LENGTHS = [0, 1, 1, 1, 2, 3, 5, 8]
+LAST_PLACES = ["9223372036854775807 1", "9223372036854775807 2", "1 9223372036854775807", "2 9223372036854775807",
+               "0 9223372036854775807", "9223372036854775806 0", "-1 5", "5 -1", "4294967295 2"]
 # What the registers of a reply hold.
 HELD = {"fork": ["child"], "mmap": ["address"], "open": ["file"], "socket": ["socket"], "accept": ["socket"],
         "pipe": ["reader", "writer"], "socketpair": ["socket", "socket"], "dup": ["file"], "dup2": ["file"]}
 # On what a call is of use.
 FITTING = {"read": ["file", "reader", "socket"], "write": ["file", "writer", "socket"], "listen": ["socket"], "accept": ["socket"],
            "bind": ["socket"], "connect": ["socket"], "shutdown": ["socket"], "pread": ["file"], "pwrite": ["file"],
-           "lseek": ["file"], "ftruncate": ["file"], "readdir": ["directory", "file"]}
+           "lseek": ["file"], "ftruncate": ["file"], "readdir": ["directory", "file"], "setlk": ["file"], "setlkw": ["file"],
+           "getlk": ["file"]}
 DESCRIPTORS = ["file", "directory", "reader", "writer", "socket"]
 EDGES = ["-9223372036854775808", "-2147483649", "4294967295", "4294967296", "9223372036854775807", "SIGKILL|O_APPEND", "r15"]
 
@@ -96,6 +102,7 @@ class Program:
             **{it: lambda: f"{self.fd(call)} {self.address()} {self.length()} {rng.choice(['0', '5', '1023', '9000', '-1'])}"
                for it in ("pread", "pwrite")},
             **{it: lambda: f"{self.fd(call)} {self.socket_path()}" for it in ("bind", "connect")},
+            **{it: lambda: f"{self.fd(call)} {self.kind()} {self.places()}" for it in ("setlk", "setlkw", "getlk")},
             **{it: self.path for it in ("stat", "chdir", "mkdir", "rmdir", "unlink", "exec")},
             **{it: lambda: f"{self.path()} {self.path()}" for it in ("link", "rename")},
         }.get(call, str)()
@@ -105,6 +112,16 @@ class Program:
         if "mkfifo" in self.calls and self.rng.random() < 0.4:
             return f"{self.path('fifo')} {self.rng.choice(SIDES)}"
         return f"{self.path()} {self.rng.choice(FLAGS)}"
+
+    def kind(self):
+        """A kind of lock."""
+        return self.rng.choice(KINDS) if self.rng.random() < 0.95 else self.rng.choice(["-1", "3", "4294967297"])
+
+    def places(self):
+        """A range, as its start and its length: of few places, so that those of two processes mostly meet."""
+        if self.rng.random() < 0.9:
+            return f"{self.rng.randint(0, 12)} {self.rng.choice(LENGTHS)}"
+        return self.rng.choice(LAST_PLACES)
 
     def polled(self):
         pairs = " ".join(f"{self.fd()} {self.rng.choice(['POLLIN', 'POLLOUT', 'POLLIN|POLLOUT', '0'])}"
@@ -232,6 +249,10 @@ class Piece:
             return self.registers[word]
         if word.startswith("@"):
             return self.names[word[1:]]
+        if word == "%kind":
+            return self.program.kind()
+        if word == "%places":
+            return self.program.places()
         if word == "#":
             return self.program.length()
         return str(self.rng.choice([0, 1, 5, 64])) if word == "##" else word

@@ -3,10 +3,11 @@
 
 Writes COUNT scripts to FOLDER, as SEED.kres, SEED + 1 and so on; each is made of its number alone, so a script that shows
 something can be told by its number. They make the calls that are named, or one of the families memory, pipes, sockets,
-paths, files, fifos, all; without a name those of processes and memory. What programs do stands in tools/random_programs.py.
-With the name sleepers alone the scripts are of many processes that mostly sleep on a few pipes and sockets, with openers of
-some that mostly open the sides of a few FIFOs. Heaps are small, so that calls wait and processes are killed, choices and
-policies vary, and some programs end while others sleep. Nothing here runs or judges a script: tools/hostile_runs.py does.
+paths, files, fifos, locks, all; without a name those of processes and memory. What programs do stands in
+tools/random_programs.py. With the name sleepers alone the scripts are of many processes that mostly sleep on a few pipes and
+sockets, with openers of some that mostly open the sides of a few FIFOs, with lockers of some that want the same places of a
+few files. Heaps are small, so that calls wait and processes are killed, choices and policies vary, and some programs end while
+others sleep. Nothing here runs or judges a script: tools/hostile_runs.py does.
 """
 import os
 import random
@@ -23,12 +24,14 @@ FAMILIES = {
     "paths": "stat chdir mkdir rmdir unlink link rename".split(),
     "files": "open close dup dup2 fcntl fstat read write pread pwrite lseek readdir ftruncate exec".split(),
     "fifos": "mkfifo open close dup dup2 fcntl fstat read write poll stat unlink link rename exec".split(),
+    "locks": "setlk setlkw getlk open close dup dup2 fcntl fstat read write pipe poll unlink link rename exec store mmap".split(),
 }
 FAMILIES["all"] = sorted({it for family in FAMILIES.values() for it in family})
 # Scripts of another form, by a name of their own: what their processes do, and how much heap they have.
 CROWDS = {
     "sleepers": (random_sleepers.Crowd, [32768, 131072, 262144, 1048576]),
     "openers": (random_sleepers.Openers, [12288, 16384, 24576, 65536, 262144]),
+    "lockers": (random_sleepers.Lockers, [8704, 10240, 12288, 16384, 65536]),
 }
 HEAPS = [8192, 9000, 12000, 16384, 20000, 32768, 65536, 65536, 131072]
 

@@ -1,4 +1,5 @@
-"""Programs of many processes that share a few pipes and sockets, or FIFOs, and mostly sleep on them, for tools/random_scripts.py."""
+"""Programs of many processes that share a few pipes and sockets, FIFOs, or places of files, and mostly sleep on them, for
+tools/random_scripts.py."""
 
 EVENTS = ["POLLIN"] * 7 + ["POLLOUT", "POLLIN|POLLOUT", "0"]
 SIZES = [0, 1, 7, 512, 513, 4000, 4096, 5000]
@@ -111,3 +112,67 @@ class Openers:
         children = [line for child in range(self.children)
                     for line in (f"label child{child}", *self.rounds(f"again{child}"), "exit 0")]
         return ["r1 = mmap 8192", *made, *forks, *self.rounds("again"), "exit 0", *children]
+
+
+class Lockers:
+    """A first process that opens files, and children of it that want the same places of them, each in rounds of its own. Some open
+    a file themselves, others have it of the fork."""
+
+    def __init__(self, rng):
+        self.rng = rng
+        self.files = [f'"/file{number}"' for number in range(rng.randint(1, 3))]
+        self.children = rng.choice([2, 2, 3, 3, 4, 6, 10, 16])
+        self.places = rng.choice([3, 6, 12])
+
+    def number(self):
+        """A number that is mostly open on a file."""
+        return self.rng.randint(0, len(self.files) - 1) if self.rng.random() < 0.97 else self.rng.randint(-1, 5)
+
+    def range(self):
+        return f"{self.rng.randint(0, self.places)} {self.rng.choice([1, 1, 1, 2, 3, 0])}"
+
+    def hold(self):
+        """Places are taken, mostly with a wait for who has them; others are wanted besides, and all or some are let go."""
+        rng, number = self.rng, self.number()
+        lines = []
+        for _ in range(rng.choice([1, 1, 2, 2, 3])):
+            call = rng.choice(["setlk", "setlkw", "setlkw", "setlkw"])
+            lines.append(f"r9 = {call} {rng.choice([number, number, self.number()])} {rng.choice(['F_RDLCK', 'F_WRLCK', 'F_WRLCK'])} {self.range()}")
+            lines += ["sched_yield"] * (rng.random() < 0.3)
+        gives = rng.choice([f"r9 = setlk {number} F_UNLCK 0 0"] * 4 + [f"r9 = setlk {number} F_UNLCK {self.range()}", "r9 = getpid"])
+        return lines + [gives]
+
+    def call(self):
+        rng = self.rng
+        return rng.choices([
+            lambda: f"r9 r10 = getlk {self.number()} {rng.choice(['F_RDLCK', 'F_WRLCK'])} {self.range()}",
+            lambda: f"r9 = setlk {self.number()} {rng.choice(['F_RDLCK', 'F_UNLCK', 'F_WRLCK'])} {self.range()}",
+            lambda: f"r9 = kill {rng.randint(2, self.children + 3)} {rng.choice(['0', '9', '9', '15'])}",
+            lambda: f"r9 r10 = waitpid -1 {rng.choice(['0', 'WNOHANG', 'WNOHANG'])}",
+            lambda: f"r9 = open {rng.choice(self.files)} {rng.choice(['O_RDWR', 'O_RDONLY', 'O_WRONLY'])}",
+            lambda: f"r9 = close {rng.choice([self.number(), 'r9', 'r9', 'r9'])}",
+            lambda: f"r9 = dup2 {self.number()} {rng.randint(0, 4)}",
+            lambda: f"r9 = dup {self.number()}",
+            lambda: f"r9 = {rng.choice(['getpid', 'sched_yield', 'getppid'])}",
+            lambda: "r9 = fork",
+            lambda: "exit 0",
+        ], [5, 4, 3, 4, 3, 3, 1, 1, 4, .4, .5])[0]()
+
+    def rounds(self, name):
+        """Some places taken and given back, over and over, and other calls between them."""
+        lines = []
+        for _ in range(self.rng.randint(1, 4)):
+            lines += self.hold() if self.rng.random() < 0.7 else [self.call()]
+        return [f"set r13 {self.rng.choice([3, 10, 30])}", f"label {name}", *lines, f"loop r13 {name}"]
+
+    def child(self, number):
+        """What a child does; some open a file in the place of the one that they have, or have none of the others."""
+        own = [f"close {at}" for at in range(len(self.files)) if self.rng.random() < 0.15]
+        own += [f"r9 = open {name} O_RDWR" for name in self.files if self.rng.random() < 0.2]
+        return [f"label child{number}", *own, *self.rounds(f"again{number}"), "exit 0"]
+
+    def lines(self):
+        made = [f"open {name} O_RDWR|O_CREAT" for name in self.files]
+        forks = [line for child in range(self.children) for line in ("r15 = fork", f"if r15 == 0 child{child}")]
+        children = [line for child in range(self.children) for line in self.child(child)]
+        return [*made, *forks, *self.rounds("again"), "exit 0", *children]

@@ -5,6 +5,7 @@ A piece is some lines of a script, of which these have a meaning of their own:
     $x             a register of the piece's own
     @file @dir @sock @fifo @other   a path of such a kind or of any, the same in the whole piece
     #              a length; ## is a small one
+    %kind %places  a kind of lock; a start and a length of few places
     ? LINE         the line stands there or it doesn't
     child .. done, child $x .. done   a child does this, and mostly ends; the register has its pid
     repeat N .. again   this is done N times
@@ -299,6 +300,232 @@ write $w r0 9000
 close $w
 $r = open @fifo O_RDONLY|O_NONBLOCK
 read $r r0 9000
+
+# Two who want what the other holds: a circle, or somebody gives way.
+$f = open @file O_RDWR|O_CREAT
+setlk $f F_WRLCK 0 1
+child
+? $g = open @file O_RDWR
+setlk $f F_WRLCK 1 1
+? sched_yield
+setlkw $f F_WRLCK 0 1
+getlk $f F_RDLCK 0 0
+? close $g
+? setlk $f F_UNLCK 0 0
+done
+? sched_yield
+? sched_yield
+setlkw $f F_WRLCK 1 1
+getlk $f F_WRLCK 0 0
+setlk $f F_UNLCK 0 1
+? setlkw $f F_WRLCK 0 0
+waitpid -1 WNOHANG
+
+# A circle of three through two files, or a chain that is none.
+$f = open @file O_RDWR|O_CREAT
+$g = open @other O_RDWR|O_CREAT
+setlk $f F_WRLCK 0 1
+child $j
+setlk $f F_WRLCK 1 1
+setlkw $g F_WRLCK 0 1
+? setlkw $f F_WRLCK 0 1
+done
+child $k
+setlk $g F_WRLCK 0 1
+? sched_yield
+setlkw $f F_WRLCK 0 1
+done
+sched_yield
+? sched_yield
+? kill $j SIGKILL
+setlkw $f F_WRLCK 1 1
+? kill $k SIGKILL
+? close $f
+? close $g
+setlkw $g F_RDLCK 0 0
+waitpid -1 WNOHANG
+
+# Who sleeps may be refused by what another stands before.
+$f = open @file O_RDWR|O_CREAT
+$r $w = pipe
+setlk $f F_WRLCK 0 1
+child
+setlk $f F_WRLCK 1 1
+read $r r0 1
+? getpid
+setlkw $f F_WRLCK 0 1
+? setlkw $f F_RDLCK 0 1
+done
+child
+? sched_yield
+? setlkw $f F_RDLCK 1 1
+done
+? waitpid -1 WNOHANG
+write $w r0 1
+? sched_yield
+setlkw $f F_WRLCK 1 1
+setlk $f F_UNLCK 0 1
+? setlkw $f F_WRLCK 1 1
+
+# A holder that is killed, or ends, and those that wait for it, of which one may be killed too.
+$f = open @file O_RDWR|O_CREAT
+$r $w = pipe
+child $j
+setlk $f F_WRLCK %places
+write $w r0 ##
+? exit 3
+poll -1
+done
+? read $r r0 1
+child $k
+setlkw $f F_RDLCK %places
+? setlkw $f F_WRLCK %places
+done
+? sched_yield
+? sched_yield
+? kill $k SIGKILL
+kill $j SIGKILL
+setlkw $f F_WRLCK 0 0
+? waitpid $j 0
+getlk $f F_WRLCK 0 0
+
+# Ranges that are cut in the middle, joined and let go, and another that looks at them and waits for some.
+$f = open @file O_RDWR|O_CREAT
+setlk $f F_WRLCK 10 30
+setlk $f F_RDLCK 20 10
+? setlk $f F_UNLCK 24 2
+child
+$g = open @file O_RDWR
+getlk $g F_WRLCK 0 0
+getlk $g F_RDLCK 20 5
+setlk $g F_RDLCK 20 4
+setlkw $g F_WRLCK 24 2
+getlk $g F_WRLCK %places
+setlkw $g F_WRLCK 12 20
+done
+? sched_yield
+setlk $f F_RDLCK 10 30
+? sched_yield
+? setlk $f F_UNLCK 0 25
+setlk $f F_UNLCK 0 0
+repeat 6
+setlk $f %kind %places
+again
+? setlk $f F_WRLCK 5 0
+? setlk $f F_UNLCK 15 1
+
+# Many ranges of a byte each, that one of many places then joins or lets go.
+$f = open @file O_RDWR|O_CREAT
+? many 20 setlk $f F_WRLCK *0 1
+many 8 setlk $f F_WRLCK *0 1
+child
+? many 8 setlkw $f F_RDLCK *5 2
+? many 8 setlk $f F_WRLCK *1 9
+? setlkw $f F_RDLCK 30 1
+getlk $f F_RDLCK 11 0
+done
+? many 8 setlk $f F_RDLCK *1 8
+? many 7 setlk $f F_WRLCK *1 9
+? setlk $f F_RDLCK 25 40
+setlk $f F_UNLCK 15 50
+setlk $f F_RDLCK 0 0
+? setlk $f F_UNLCK 0 0
+
+# What another close of the file lets go: of a copy, of the same file opened once more, by dup2, by another name.
+$f = open @file O_RDWR|O_CREAT
+$g = open @file O_RDONLY
+setlk $f F_WRLCK 0 0
+child
+setlkw $f F_WRLCK 3 1
+? getlk $f F_WRLCK 0 0
+? setlk $g F_RDLCK 0 2
+done
+sched_yield
+? link @file @other
+? $g = open @other O_RDONLY
+? $h = dup $f
+? close $h
+? dup2 $f $g
+? dup2 $g $f
+? dup2 $f $f
+close $g
+setlk $f F_RDLCK %places
+getlk $f F_WRLCK 0 0
+? close $f
+
+# A program takes the place of who holds ranges, and closes some of what it has open.
+store r0 "#!prog\n"
+$p = open "p" O_RDWR|O_CREAT
+write $p r0 7
+$f = open @file O_RDWR|O_CREAT
+child
+setlk $f F_WRLCK 2 4
+? fcntl $f F_SETFD FD_CLOEXEC
+? open @file O_RDONLY|O_CLOEXEC
+? setlk $p F_WRLCK 0 0
+exec "p"
+done
+? sched_yield
+? setlk $f F_WRLCK 0 1
+setlkw $f F_WRLCK 0 0
+? fcntl $f F_SETFD FD_CLOEXEC
+? exec "p"
+? setlkw $p F_RDLCK 0 0
+waitpid -1 WNOHANG
+
+# Readers that share, who then all want to write, and a writer that waits for them.
+$f = open @file O_RDWR|O_CREAT
+repeat 4
+child
+setlkw $f F_RDLCK 0 4
+sched_yield
+? setlkw $f F_WRLCK 0 2
+? setlk $f F_UNLCK 0 2
+? close $f
+done
+again
+setlkw $f F_WRLCK 0 0
+setlk $f F_UNLCK 2 3
+? setlk $f F_RDLCK 0 0
+waitpid -1 WNOHANG
+
+# A file whose name goes while its places are waited for; the next of that name is another.
+$f = open @file O_RDWR|O_CREAT
+setlk $f F_WRLCK 0 0
+child
+setlkw $f F_WRLCK 2 1
+fstat $f
+done
+? sched_yield
+unlink @file
+$g = open @file O_RDWR|O_CREAT|O_EXCL
+setlk $g F_WRLCK 0 0
+? close $g
+getlk $g F_WRLCK 0 0
+? setlk $f F_UNLCK 1 4
+? close $f
+waitpid -1 WNOHANG
+
+# A child has none of its parent's locks, and takes none away; what each may hold goes by how it opened the file.
+$f = open @file O_RDWR|O_CREAT
+setlk $f F_WRLCK 0 4
+child
+getlk $f F_RDLCK 0 0
+setlk $f F_UNLCK 0 0
+? close $f
+$f = open @file O_WRONLY
+setlk $f F_RDLCK 4 4
+setlk $f F_WRLCK 4 4
+setlkw $f F_WRLCK 3 1
+? $g = open @file O_RDONLY
+? setlkw $g F_RDLCK %places
+? setlkw $g F_WRLCK %places
+done
+? sched_yield
+getlk $f F_WRLCK 0 0
+? setlkw $f F_WRLCK 2 6
+? close $f
+? waitpid -1 WNOHANG
 
 # A file up to where the disk is full, and what then goes again.
 $f = open @file O_RDWR|O_CREAT

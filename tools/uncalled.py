@@ -18,11 +18,9 @@ TOP = os.path.dirname(os.path.dirname(os.path.realpath(__file__)))
 
 # The functions that are meant to stand without a caller, by crate and name, each with its reason.
 EXCEPTIONS = {
-    ("wait_graph", "circle"): "nothing stands on its crate yet, which is for calls to come that wait for one another",
-    ("lock_ranges", "all"): "nothing stands on its crate yet, which is for calls to come that hold ranges of files",
-    ("lock_ranges", "kind_at"): "nothing stands on its crate yet, which is for calls to come that hold ranges of files",
-    ("lock_ranges", "first_conflict"): "nothing stands on its crate yet, which is for calls to come that hold ranges of files",
-    ("lock_ranges", "set"): "nothing stands on its crate yet, which is for calls to come that hold ranges of files",
+    ("lock_ranges", "all"): "ranges as a list of their own; the store keeps them as a chain in the heap, by the same definitions",
+    ("lock_ranges", "kind_at"): "ranges as a list of their own; the store keeps them as a chain in the heap, by the same definitions",
+    ("lock_ranges", "first_conflict"): "ranges as a list of their own; the store keeps them as a chain in the heap, by the same definitions",
     ("run_pasts", "of"): "what an entry claims, told apart from the lines in which claims come in",
     ("claim_lines", "claim_of"): "what who checks a report line by line begins with",
     ("report_text", "event_line"): "one line of a run by itself; reports are written as a whole",

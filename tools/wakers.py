@@ -1,10 +1,11 @@
 """Finds out who woke whom in a run: at which event a call that slept could go on, and whose event that was.
 
-A report says that a process was woken, and not by whom. With the script it is known what each call was, so pipes, sockets and
-children can be followed: which descriptors lead to them, how many bytes wait in them, who has ended. A call that sleeps
-could go on from the event on at which it would block no longer.
+A report says that a process was woken, and not by whom. With the script it is known what each call was, so pipes, sockets, locks
+and children can be followed: which descriptors lead to them, how many bytes wait in them, who holds which places, who has ended.
+A call that sleeps could go on from the event on at which it would block no longer; of one that waits for a lock that is so too where
+it is refused, since the next call of another closes a circle.
 """
-from collections import namedtuple
+from collections import deque, namedtuple
 from dataclasses import dataclass, field
 
 CAPACITY = 4096  # bytes of a pipe, and of each way of a connection
@@ -12,6 +13,9 @@ WHOLE = 512  # a write to a pipe of so many bytes goes whole or not at all
 NONBLOCK, CLOEXEC = 2048, 524288
 F_DUPFD, F_SETFD, F_SETFL = 0, 2, 4
 POLLIN, POLLOUT = 1, 4
+F_WRLCK, F_UNLCK = 1, 2
+LAST_PLACE = 2 ** 63 - 1
+REFUSED = ("= EINVAL", "= EBADF", "= EOVERFLOW")  # what is told of a lock that nobody waits for
 READS, WRITES = False, True  # the sides of a pipe
 
 Woken = namedtuple("Woken", "waker woken cause wake")  # the pids, and the events
@@ -49,9 +53,33 @@ class Socket:
 
 
 @dataclass(eq=False)
+class File:
+    """The ranges that processes hold of a file, by their pids: of each the first place, the last one and the kind."""
+
+    held: dict = field(default_factory=dict)
+
+    def set(self, pid, start, last, kind):
+        """At each of these places the process has this kind from now on, elsewhere what it had."""
+        pieces = [(left, right, its) for first, end, its in self.held.get(pid, [])
+                  for left, right in ((first, min(end, start - 1)), (max(first, last + 1), end)) if left <= right]
+        self.held[pid] = pieces + [(start, last, kind)] * (kind != F_UNLCK)
+
+    def in_way(self, pid, start, last, kind):
+        """The other processes that hold what doesn't go with this."""
+        return {other for other, ranges in self.held.items() if other != pid and kind != F_UNLCK
+                for first, end, its in ranges if first <= last and start <= end and F_WRLCK in (kind, its)}
+
+
+def asked_of(operands):
+    """What a call on locks asks for: the first place, the last one, and the kind."""
+    _, kind, start, length = operands
+    return start, start + length - 1 if length else LAST_PLACE, kind
+
+
+@dataclass(eq=False)
 class Description:
-    """An open description: what it is open on (None: a file), for a pipe on which side, whether calls on it may not wait, and
-    how many descriptors name it."""
+    """An open description: what it is open on (None: nothing that is followed), for a pipe on which side, whether calls on it may
+    not wait, and how many descriptors name it."""
 
     on: object = None
     writes: bool = False
@@ -62,8 +90,8 @@ class Description:
 class Table:
     """The descriptors of a process, and those that an `exec` closes."""
 
-    def __init__(self, numbers=None, marked=()):
-        self.numbers, self.marked = {}, set(marked)
+    def __init__(self, pid, numbers=None, marked=()):
+        self.pid, self.numbers, self.marked = pid, {}, set(marked)
         for number, description in (numbers or {}).items():
             self.put(number, description)
 
@@ -78,12 +106,14 @@ class Table:
         self.marked.discard(number)
         if description is None:
             return
+        if isinstance(description.on, File):
+            description.on.held.pop(self.pid, None)
         description.count -= 1
         if description.count == 0:
             close(description)
 
-    def copy(self):
-        return Table(self.numbers, self.marked)
+    def copy(self, pid):
+        return Table(pid, self.numbers, self.marked)
 
     def on(self, number):
         return self.numbers[number].on if number in self.numbers else None
@@ -107,14 +137,15 @@ class Streams:
 
     def __init__(self, run):
         self.run = run
-        self.tables = {1: Table()}
-        self.named, self.fifos = {}, {}
+        self.tables = {1: Table(1)}
+        self.named, self.nodes = {}, {}
         # Who sleeps in an open: the FIFO, its other side, and how often that was opened before.
         self.opening = {}
         processes = run.processes.values()
         calls = [call for process in processes for call in process.calls if call.said]
         # The call that an event is over with, or has done a part of; who ends at it; and who was left without a child.
         self.calls = {number: call for call in calls for number in [call.over, *(at for at, _ in call.parts)]}
+        self.made = {process.pid: deque(it for it in process.calls if it.said) for process in processes}
         self.ending, self.children = {}, {}
         for process in processes:
             self.ending.setdefault(process.ended, []).append(process.pid)
@@ -131,7 +162,7 @@ class Streams:
         elif call and made and not call.is_error():
             made(self.tables[event.pid], call.said.operands, event)
         for pid in self.ending.get(event.number, []):
-            table = self.tables.pop(pid, Table())
+            table = self.tables.pop(pid, Table(pid))
             for number in sorted(table.numbers):
                 table.drop(number)
 
@@ -150,18 +181,18 @@ class Streams:
         table.put(int(event.reply), Description(Socket()))
 
     def did_mkfifo(self, table, operands, event):
-        self.fifos[operands[0]] = Pipe()
+        self.nodes[operands[0]] = Pipe()
 
     def began_to_open(self, pid, operands):
         """It has its end of a FIFO, and sleeps until the other side is opened. Where a path leads by which none was made isn't known."""
-        table, fifo = self.tables[pid], self.fifos.get(operands[0])
+        table, node = self.tables[pid], self.nodes.get(operands[0])
         self.put_opened(table, table.free_number(), operands)
         other = not operands[1] & 1
-        self.opening[pid] = fifo and (fifo, other, fifo.opens[other])
+        self.opening[pid] = (node, other, node.opens[other]) if isinstance(node, Pipe) else None
 
     def put_opened(self, table, number, operands):
-        fifo = self.fifos.get(operands[0])
-        table.put(number, Description(fifo, bool(operands[1] & 1), bool(fifo and operands[1] & NONBLOCK)))
+        node = self.nodes.setdefault(operands[0], File())
+        table.put(number, Description(node, bool(operands[1] & 1), isinstance(node, Pipe) and bool(operands[1] & NONBLOCK)))
         if operands[1] & CLOEXEC:
             table.marked.add(number)
 
@@ -170,6 +201,25 @@ class Streams:
             del self.opening[event.pid]
         else:
             self.put_opened(table, int(event.reply), operands)
+
+    def did_unlink(self, table, operands, event):
+        self.nodes.pop(operands[0], None)
+
+    def did_link(self, table, operands, event):
+        """Two paths are known as those of one node where they are written as here."""
+        self.nodes[operands[1]] = self.nodes.setdefault(operands[0], File())
+
+    def did_rename(self, table, operands, event):
+        if self.nodes.get(operands[0], event) is not self.nodes.get(operands[1]):
+            self.did_link(table, operands, event)
+            self.did_unlink(table, operands, event)
+
+    def did_setlk(self, table, operands, event):
+        on = table.on(operands[0])
+        if isinstance(on, File):
+            on.set(table.pid, *asked_of(operands))
+
+    did_setlkw = did_setlk
 
     def did_dup(self, table, operands, event):
         table.put(int(event.reply), table.numbers[operands[0]])
@@ -196,7 +246,7 @@ class Streams:
             table.drop(number)
 
     def did_fork(self, table, operands, event):
-        self.tables[int(event.reply)] = table.copy()
+        self.tables[int(event.reply)] = table.copy(int(event.reply))
 
     def did_bind(self, table, operands, event):
         self.named[operands[1]] = table.on(operands[0])
@@ -227,7 +277,7 @@ class Streams:
 
     def did_read(self, table, operands, event):
         on = table.on(operands[0])
-        if on is not None:
+        if isinstance(on, (Pipe, Socket)):
             on.unread = max(0, on.unread - int(event.reply))
 
     def did_write(self, table, operands, event):
@@ -238,7 +288,7 @@ class Streams:
         """So many bytes of a write have gone."""
         on = self.tables[event.pid].on(self.calls[event.number].said.operands[0])
         target = on.peer if isinstance(on, Socket) else on
-        if target is not None:
+        if isinstance(target, (Pipe, Socket)):
             target.unread += count
 
     def blocks(self, pid, call, number):
@@ -246,6 +296,8 @@ class Streams:
         operands, table = call.said.operands, self.tables[pid]
         if call.name == "open":
             return self.opening_blocks(self.opening.get(pid))
+        if call.name == "setlkw":
+            return bool(self.stopping(pid, call)) and not self.leads_back(pid, number)
         if call.name == "waitpid":
             return not any(it.ended <= number and (it.gone is None or it.gone > number) and operands[0] in (-1, it.pid)
                            for it in self.children.get(pid, []) if it.ended is not None)
@@ -253,7 +305,7 @@ class Streams:
             pairs = [(table.numbers[fd], events) for fd, events in zip(operands[1::2], operands[2::2]) if fd in table.numbers]
             return not any(self.is_told(it.on, it.writes, events) for it, events in pairs)
         on = table.on(operands[0])
-        if on is None:
+        if not isinstance(on, (Pipe, Socket)):
             return None
         if table.numbers[operands[0]].no_waiting:
             return False
@@ -266,6 +318,27 @@ class Streams:
             return None
         fifo, other, before = opening
         return fifo.opens[other] <= before
+
+    def stopping(self, pid, call):
+        """The processes that hold what is in the way of a call, if it is one that waits for that."""
+        waits = call is not None and call.name == "setlkw" and call.answer not in REFUSED and pid in self.tables
+        on = self.tables[pid].on(call.said.operands[0]) if waits else None
+        return on.in_way(pid, *asked_of(call.said.operands)) if isinstance(on, File) else set()
+
+    def next_call(self, pid, number):
+        """The call that a process is at or makes next after this event, if the report tells it."""
+        made = self.made[pid]
+        while made and (made[0].over or number + 1) <= number:
+            made.popleft()
+        return made[0] if made else None
+
+    def leads_back(self, pid, number):
+        """Whether a process waits for itself, through those that hold what is in its way, and those in theirs."""
+        seen, new = set(), {pid}
+        while new and pid not in seen:
+            new = {other for it in new for other in self.stopping(it, self.next_call(it, number))} - seen
+            seen |= new
+        return pid in seen
 
     def reading_blocks(self, on):
         if isinstance(on, Pipe):
@@ -285,7 +358,7 @@ class Streams:
             return on.ends[READS] == 0 or bool(events & POLLOUT and CAPACITY - on.unread >= WHOLE)
         if isinstance(on, Pipe):
             return on.ends[WRITES] == 0 or bool(events & POLLIN and on.unread)
-        if on is None or not (on.listens or on.peer):
+        if not isinstance(on, Socket) or not (on.listens or on.peer):
             return True
         if on.listens:
             return bool(events & POLLIN and on.queue)

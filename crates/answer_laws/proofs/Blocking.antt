@@ -1,4 +1,4 @@
--- Of all calls six may block.
+-- Of all calls seven may block.
 use Rattle.std.proofs.Common.{◌≡◌, ℕ, true, sym, ◌∙◌}
 use Rattle.kabi_types.specs.declared.calls.Call.{Call}
 use Rattle.kabi_types.specs.declared.replies.Reply.{Reply}

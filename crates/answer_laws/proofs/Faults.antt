@@ -1,14 +1,14 @@
 -- A wrong operand is never told as ENOMEM.
-use Rattle.std.proofs.Common.{◌≢◌, ℕ, ◌==◌, ◌&&◌, ◌||◌, not, ℤ, Bool, true, false, cond, List, length, Option, None, Some}
+use Rattle.std.proofs.Common.{◌≢◌, ℕ, ◌+◌, ◌-◌, nat_lt, ◌==◌, ◌&&◌, ◌||◌, not, ℤ, Bool, true, false, cond, List, length, Option, None, Some}
 use Rattle.std.specs.List.{list_any}
 use Rattle.std.specs.Option.{option_or}
-use Rattle.kabi_types.specs.Arguments.{argument_fault, count_of, invalid_unless, is_from, is_minus_one, is_number, is_page_range, is_sendable, is_within, lie_in_space, may_be_descriptor, may_be_ignored, moved_fault, path_fault, paths_fault, placed_fault, range_fault, truncates_unwritten}
+use Rattle.kabi_types.specs.Arguments.{argument_fault, count_of, greatest_place, invalid_unless, is_from, is_minus_one, is_number, is_page_range, is_sendable, is_within, lie_in_space, locked_fault, may_be_descriptor, may_be_ignored, moved_fault, path_fault, paths_fault, placed_fault, range_fault, truncates_unwritten}
 use Rattle.kabi_types.specs.OpenFlags.{are_open_flags}
 use Rattle.kabi_types.specs.PathParts.{components, ends_in_dots, is_long}
 use Rattle.kabi_types.specs.declared.calls.Call.{Call}
 use Rattle.kabi_types.specs.declared.calls.Call.TheVariants as call
 use Rattle.kabi_types.specs.declared.errnos.Errno.{Errno}
-use Rattle.kabi_types.specs.declared.errnos.Errno.TheVariants.{EFAULT, ENAMETOOLONG, ENOENT, ENOMEM}
+use Rattle.kabi_types.specs.declared.errnos.Errno.TheVariants.{EFAULT, ENAMETOOLONG, ENOENT, ENOMEM, EOVERFLOW}
 use Rattle.answer_laws.proofs.NoWant.{IsNoWantFault}
 
 invalid_no_want : (b : Bool) → IsNoWantFault (invalid_unless b)
@@ -47,6 +47,15 @@ placed_no_want : (addr n at : ℤ) → IsNoWantFault (placed_fault addr n at)
 placed_no_want addr n at =
     or_no_want (invalid_unless (is_within 0 32767 n && is_from 0 at)) (range_fault addr (count_of n)) (invalid_no_want (is_within 0 32767 n && is_from 0 at)) (range_no_want addr (count_of n))
 
+locked_no_want : (most : ℕ) (kind start size : ℤ) → IsNoWantFault (locked_fault most kind start size)
+locked_no_want most kind start size =
+    or_no_want (invalid_unless (is_within 0 most kind && (is_from 0 start && is_from 0 size))) _ (invalid_no_want (is_within 0 most kind && (is_from 0 start && is_from 0 size)))
+    (beyond (nat_lt greatest_place (count_of start + (count_of size - 1))))
+  where
+    beyond : (b : Bool) → IsNoWantFault (cond b (Some EOVERFLOW) None)
+    beyond true = λ e. cc
+    beyond false = tt
+
 pub fault_no : (which : Call) → IsNoWantFault (argument_fault which)
 fault_no (call.Exec path) = path_no_want path
 fault_no (call.Waitpid pid options) = invalid_no_want ((is_minus_one pid || is_from 1 pid) && is_within 0 1 options)
@@ -77,4 +86,7 @@ fault_no (call.Shutdown _ how) = invalid_no_want (is_within 0 2 how)
 fault_no (call.Poll timeout _) = invalid_no_want (is_number 0 timeout || is_minus_one timeout)
 fault_no (call.Signal signal disposition) = invalid_no_want (may_be_ignored signal && is_within 0 1 disposition)
 fault_no (call.Mkfifo path) = path_no_want path
+fault_no (call.Setlk _ kind start size) = locked_no_want 2 kind start size
+fault_no (call.Setlkw _ kind start size) = locked_no_want 2 kind start size
+fault_no (call.Getlk _ kind start size) = locked_no_want 1 kind start size
 fault_no _ = tt

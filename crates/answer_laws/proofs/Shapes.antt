@@ -16,6 +16,7 @@ use Rattle.posix_defs.specs.Ending.{die, exit_status}
 use Rattle.posix_defs.specs.Forking.{fork, is_full}
 use Rattle.posix_defs.specs.Killing.{is_asking, is_ended_by, kill, sent_to, struck}
 use Rattle.posix_defs.specs.Killing as killing
+use Rattle.posix_defs.specs.Locks.{Lock, Request, first_in_way}
 use Rattle.posix_defs.specs.Machine.{answer_to, machine, unless_wrong}
 use Rattle.posix_defs.specs.Memory.{Memory, is_mapped_range, lowest_run}
 use Rattle.posix_defs.specs.MemoryCalls.{in_range, mapped_from, mmap, remembered}
@@ -46,6 +47,8 @@ use Rattle.posix_defs.specs.Calls.Starting.{exec, starts}
 use Rattle.posix_defs.specs.Calls.OnPipes.{pipe, piped_under}
 use Rattle.posix_defs.specs.Calls.OnSockets.{accept, accept_at, accepted_under, bind, bind_at, bound_to, connect, connect_at, connected_by, connected_under, listen, listen_at, listener_under, on_socket, paired_under, resocketed, shutdown, shutdown_at, socket_target, socketed_under, socketpair, unless_fault}
 use Rattle.posix_defs.specs.Calls.OnSockets as on_sockets
+use Rattle.posix_defs.specs.Calls.OnLocks.{circles, claim_of, claimed, file_of, getlk, granted_or, is_clear, lock_told, may_hold, request_of, setlk, setlkw}
+use Rattle.posix_defs.specs.Calls.OnLocks as on_locks
 use Rattle.posix_defs.specs.Calls.Polling.{hits_of, poll, revents_of}
 use Rattle.posix_defs.proofs.SignalLemmas.{of_write}
 use Rattle.answer_laws.proofs.Exits.{exited_has_ended}
@@ -469,6 +472,46 @@ module _ (script : Script) (plain : Plain) (pid : ℕ) (asked : Call) where
   polls timeout entries may =
       either ((hits_of (revents_of plain.files pid entries) == 0) && is_minus_one timeout) answer.Blocked _ (shape.blocks may refl) (says _ refl)
 
+  -- ---- record locks
+
+  claimed_no : (opened : Opened) (wanted : Request) → IsNoWant (claimed plain.files opened wanted.kind)
+  claimed_no opened wanted = go (file_of plain.files.tree opened.is.target)
+    where
+      may : (number : ℕ) (b : Bool) → IsNoWant (cond b (Ok number) (Err errno.EBADF))
+      may number true = tt
+      may number false = λ e. cc
+
+      go : (o : Option ℕ) → IsNoWant (claim_of opened.is.access wanted.kind o)
+      go None = λ e. cc
+      go (Some number) = may number (may_hold opened.is.access wanted.kind)
+
+  claims : (wanted : Request) (stopped : Answer) (r : Result ℕ Errno) → IsNoWant r → Shaped script plain pid asked stopped → Shaped script plain pid asked (granted_or script plain pid wanted stopped r)
+  claims wanted stopped (Err e) fine rest = fails e fine
+  claims wanted stopped (Ok number) fine rest = either (is_clear plain.files.locks pid number wanted) _ stopped (tells _ (reply.Val (pos 0)) refl) rest
+
+  sets : (fd kind start size : ℤ) → Shaped script plain pid asked (setlk script plain pid fd kind start size)
+  unfolding setlk
+  sets fd kind start size = opens_shaped fd _ (λ opened.
+      claims (request_of kind start size) (failed script plain pid errno.EAGAIN) _ (claimed_no opened (request_of kind start size)) (fails errno.EAGAIN (λ e. cc)))
+
+  sets_in_time : (fd kind start size : ℤ) → may_block asked ≡ true → Shaped script plain pid asked (setlkw script plain pid fd kind start size)
+  unfolding setlkw
+  sets_in_time fd kind start size may = opens_shaped fd _ (λ opened.
+      claims (request_of kind start size) (cond (circles script plain pid) (failed script plain pid errno.EDEADLK) answer.Blocked) _ (claimed_no opened (request_of kind start size))
+      (either (circles script plain pid) (failed script plain pid errno.EDEADLK) answer.Blocked (fails errno.EDEADLK (λ e. cc)) (shape.blocks may refl)))
+
+  tells_lock : (fd kind start size : ℤ) → Shaped script plain pid asked (getlk script plain pid fd kind start size)
+  unfolding getlk
+  tells_lock fd kind start size = opens_shaped fd _ (λ opened. go (file_of plain.files.tree opened.is.target))
+    where
+      told : (o : Option Lock) → Shaped script plain pid asked (replied script plain pid (lock_told o))
+      told None = says _ refl
+      told (Some lock) = says _ refl
+
+      go : (o : Option ℕ) → Shaped script plain pid asked (on_locks.told_of script plain pid (request_of kind start size) o)
+      go None = fails errno.EINVAL (λ e. cc)
+      go (Some number) = told (first_in_way plain.files.locks pid number (request_of kind start size))
+
   -- ---- processes and memory
 
   forks_shaped : Shaped script plain pid asked (fork script plain pid)
@@ -575,6 +618,9 @@ module _ (script : Script) (plain : Plain) (pid : ℕ) (asked : Call) where
   right (call.Poll timeout entries) called = polls timeout entries (ap may_block called)
   right (call.Signal which disposition) called = shape.disposes which disposition _ _ called refl
   right (call.Mkfifo path) called = makes_fifo path
+  right (call.Setlk fd kind start size) called = sets fd kind start size
+  right (call.Setlkw fd kind start size) called = sets_in_time fd kind start size (ap may_block called)
+  right (call.Getlk fd kind start size) called = tells_lock fd kind start size
 
 -- a wrong operand is told
 pub wrong : (script : Script) (plain : Plain) (pid : ℕ) (which : Call) (e : Errno) → argument_fault which ≡ Some e → Shaped script plain pid which (failed script plain pid e)

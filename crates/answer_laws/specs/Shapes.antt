@@ -36,6 +36,7 @@ may_block (calls.Read fd addr n) = true
 may_block (calls.Write fd addr n done) = true
 may_block (calls.Accept fd) = true
 may_block (calls.Poll timeout entries) = true
+may_block (calls.Setlkw fd kind start size) = true
 may_block _ = false
 
 -- Bytes that a call reads are some of a pipe, of a socket, of a file, or of the entries of a directory.

@@ -1,4 +1,4 @@
-//! Laws of what all forty-three calls are answered. Each is the contract of a function that does nothing.
+//! Laws of what all forty-six calls are answered. Each is the contract of a function that does nothing.
 
 ghost use Rattle.std.specs.Prelude.{◌≡◌, ◌≢◌, ℕ, true};
 ghost use Rattle.kabi_types.specs.declared.calls.Call.{Call};
@@ -33,8 +33,9 @@ pub fn no_reply_of_any_call_wants_memory()
         → machine script plain pid call ≡ Done reply next → reply ≢ Fail ENOMEM }
 {}
 
-/// Of all calls `waitpid`, `read`, `write`, `accept`, `poll` and `open` alone may block. A `connect` never does: its peer waits for it.
-pub fn six_calls_alone_may_block()
+/// Of all calls `waitpid`, `read`, `write`, `accept`, `poll`, `open` and `setlkw` alone may block. A `connect` never does: its peer waits
+/// for it.
+pub fn seven_calls_alone_may_block()
     ensures { (script : Script) (plain : Plain) (pid : ℕ) (call : Call)
         → machine script plain pid call ≡ Blocked → may_block call ≡ true }
 {}

@@ -7,6 +7,6 @@ mod parts;
 
 pub use answers::{
     an_error_changes_the_control_alone_of_all_calls, every_answer_has_a_shape,
-    no_reply_of_any_call_wants_memory, six_calls_alone_may_block,
+    no_reply_of_any_call_wants_memory, seven_calls_alone_may_block,
 };
 pub use parts::a_write_goes_on_in_parts;

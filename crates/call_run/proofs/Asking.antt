@@ -2,6 +2,7 @@
 use Rattle.std.proofs.Common.{◌≡◌, ◌≢◌, ◌==◌, ℕ, zero, suc, ◌<◌, ◌≤◌, ℤ, Bool, true, false, if◌then◌else◌, None, Some, eqb-true, List, [], ◌∷◌, drop, length, slice_set, slice_index_or, remove, refl, ap, sym, ◌∙◌, subst, arith, length-set}
 use Rattle.std.specs.List.{AllByRecursion, refill}
 use Rattle.kabi_types.specs.declared.scripts.Script.{Script}
+use Rattle.machine_laws.specs.Reached.{IsReached}
 use Rattle.posix_defs.specs.Machine.{would_block}
 use Rattle.posix_defs.specs.World.{World}
 use Rattle.posix_defs.specs.Process.{is_alive}
@@ -16,13 +17,13 @@ use Rattle.call_run.proofs.Telling.{each_other, names_set, read_any, refilled, r
 -- one is looked at: it is told truly of him and of those behind
 pub looked_truly : (script : Script) (objects : Objects) (place : ℕ) (old new : List Sleeper) → place < length old → IsLookedAt script objects old place new
     → AreTrulyTold script objects (drop (suc place) old) → AreTrulyTold script objects (drop place new)
-looked_truly script objects place old new within (is_asked sleeper same truly) behind = λ world stands. set (IsTrulyTold script world.plain) place old within (truly world stands) (behind world stands)
+looked_truly script objects place old new within (is_asked sleeper same truly) behind = λ world stands reached. set (IsTrulyTold script world.plain) place old within (truly world stands reached) (behind world stands reached)
   where
     set : (P : Sleeper → Type 0) (at : ℕ) (ts : List Sleeper) → at < length ts → P sleeper → AllByRecursion P (drop (suc at) ts) → AllByRecursion P (drop at (slice_set ts at sleeper))
     set P at [] inside here all = absurd (omega arith)
     set P zero (t ∷ ts) inside here all = (here, all)
     set P (suc at) (t ∷ ts) inside here all = set P at ts (omega arith) here all
-looked_truly script objects place old new within is_gone behind = λ world stands. gone (IsTrulyTold script world.plain) place old (behind world stands)
+looked_truly script objects place old new within is_gone behind = λ world stands reached. gone (IsTrulyTold script world.plain) place old (behind world stands reached)
   where
     gone : (P : Sleeper → Type 0) (at : ℕ) (ts : List Sleeper) → AllByRecursion P (drop (suc at) ts) → AllByRecursion P (drop at (remove ts at))
     gone P zero [] all = tt
@@ -55,13 +56,13 @@ module _ (told read : List Sleeper) (place : ℕ) (new : Sleeper) (reads : read 
       same ∙ ap (λ (list : List Sleeper). (slice_index_or list place blank).pid) reads ∙ ap (λ (s : Sleeper). s.pid) (read_any told place blank any_sleeper within)
 
   pub asked_looked : (script : Script) (objects : Objects) → new.pid ≡ (slice_index_or read place blank).pid
-      → ((world : World) → StandsFor script objects world
+      → ((world : World) → StandsFor script objects world → IsReached script world.plain
       → (is_alive world.plain.table (slice_index_or read place blank).pid ≡ true) × (would_block script world.plain (slice_index_or read place blank).pid ≡ new.blocks))
       → IsLookedAt script objects told place (refill (length told) told (slice_set read place new))
   asked_looked script objects same truly =
       subst (IsLookedAt script objects told place) (sym (set_all told read place new reads))
-      (is_asked new (its_pid same) (λ world stands.
-      let it = truly world stands in
+      (is_asked new (its_pid same) (λ world stands reached.
+      let it = truly world stands reached in
       record { alive = ap (is_alive world.plain.table) same ∙ it.0; blocks = ap (would_block script world.plain) same ∙ it.1 }))
 
   pub asked_named : (named more : List ℕ) → AreRising 0 told → new.pid ≡ (slice_index_or read place blank).pid → NamesOne named (slice_index_or read place blank) new more

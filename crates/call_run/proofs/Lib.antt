@@ -19,6 +19,7 @@ pub mod Needing
 pub mod Telling
 pub mod Minding
 pub mod NoFifo
+pub mod NoLock
 pub mod Asking
 pub mod Channels
 pub mod Meeting

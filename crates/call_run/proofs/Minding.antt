@@ -24,7 +24,7 @@ use Rattle.posix_defs.specs.declared.turner.Turned.{Turned}
 use Rattle.posix_defs.specs.declared.turner.Turned.TheVariants as turned
 use Rattle.store_objects.specs.declared.objects.Objects.{Objects}
 use Rattle.store_objects.specs.Standing.{StandsFor}
-use Rattle.waking_laws.specs.Waking.{StaysAsItWas, StaysItself, awaited, gives_number, is_apart, meet, moves_through, no_fifo, passes_by, target_at, wakes_nobody}
+use Rattle.waking_laws.specs.Waking.{StaysAsItWas, StaysItself, awaited, gives_number, is_apart, meet, moves_through, no_fifo, no_lock, passes_by, target_at, wakes_nobody}
 use Rattle.waking_laws.proofs.Behind.{moved_apart, moved_lives, own_kept, own_passed, stays_itself}
 use Rattle.waking_laws.proofs.Passing.{came_further, passed_by}
 use Rattle.call_run.specs.declared.sleepers.Came.{Came}
@@ -157,7 +157,7 @@ carried script old new (sleeper ∷ rest) channels minded stay through = record 
 -- ---- what a turn came to
 
 -- whom it stirs says what it was
-pub nobody_passes : (empty : Bool) (which : Call) (told : Turned) → stirs_of empty which (came_of told) ≡ Nobody → passes_by empty which told ≡ true
+pub nobody_passes : (empty : Bool) (which : Call) (told : Turned) → stirs_of empty which (came_of told) ≡ Nobody → passes_by empty true which told ≡ true
 nobody_passes empty which turned.Sleep e = refl
 nobody_passes empty which turned.Gone e = refl
 nobody_passes empty which (turned.Done (reply.Fail errno)) e = refl
@@ -206,12 +206,12 @@ through_so empty which came.Done fd e = go (moves_through which) e
 through_so empty which came.End fd e = e
 
 -- a turn that passes by doesn't end its process
-pub passes_lasts : (empty : Bool) (which : Call) (told : Turned) → passes_by empty which told ≡ true → (status : ℕ) → told ≡ turned.Ended status → ⊥
-passes_lasts empty which turned.Sleep e status f = cc
-passes_lasts empty which turned.Gone e status f = cc
-passes_lasts empty which (turned.Done said) e status f = cc
-passes_lasts empty which (turned.Part moved) e status f = cc
-passes_lasts empty which (turned.Ended other) e status f = cc
+pub passes_lasts : (empty free : Bool) (which : Call) (told : Turned) → passes_by empty free which told ≡ true → (status : ℕ) → told ≡ turned.Ended status → ⊥
+passes_lasts empty free which turned.Sleep e status f = cc
+passes_lasts empty free which turned.Gone e status f = cc
+passes_lasts empty free which (turned.Done said) e status f = cc
+passes_lasts empty free which (turned.Part moved) e status f = cc
+passes_lasts empty free which (turned.Ended other) e status f = cc
 
 -- a process lives on behind its own turn, unless that ended it
 pub mover_lives : (script : Script) (old new : World) (pid : ℕ) (which : Call) (told : Turned) → IsReached script old.plain → TurnsTo script old pid which told new
@@ -230,7 +230,7 @@ mover_lives script old new pid which told reached turns lasts alive =
 -- ---- a turn that passes by
 
 module _ (script : Script) (old new : World) (pid : ℕ) (which : Call) (told : Turned) (reached : IsReached script old.plain) (turns : TurnsTo script old pid which told new)
-    (passes : passes_by (no_fifo new.plain.files) which told ≡ true) (sleepers : List Sleeper) (channels : List (Option Channel)) (minded : AreMinded script old.plain sleepers channels)
+    (passes : passes_by (no_fifo new.plain.files) (no_lock new.plain.files) which told ≡ true) (sleepers : List Sleeper) (channels : List (Option Channel)) (minded : AreMinded script old.plain sleepers channels)
     (up : told_of sleepers pid ≡ None) where
   stay_passed : AllByRecursion (λ sleeper. StaysAsItWas script sleeper.pid old.plain new.plain) sleepers
   stay_passed =
@@ -250,7 +250,7 @@ module _ (script : Script) (old new : World) (pid : ℕ) (which : Call) (told : 
     | inl same ↦ record {
       lives =
           ap (is_alive new.plain.table) same.1
-          ∙ mover_lives script old new pid which told reached turns (passes_lasts (no_fifo new.plain.files) which told passes) (ap (is_alive old.plain.table) (sym same.1) ∙ alive);
+          ∙ mover_lives script old new pid which told reached turns (passes_lasts (no_fifo new.plain.files) (no_lock new.plain.files) which told passes) (ap (is_alive old.plain.table) (sym same.1) ∙ alive);
       target =
           ap (λ n. target_at new.plain.files n channel.fd) same.1 ∙ own_passed script old new pid channel.fd which told reached turns passes keeps
           ∙ sym (ap (λ n. target_at old.plain.files n channel.fd) same.1);
@@ -267,7 +267,7 @@ module _ (script : Script) (old new : World) (pid : ℕ) (which : Call) (told : 
 
 module _ (script : Script) (old new : World) (pid : ℕ) (fd : ℤ) (which : Call) (told : Turned) (reached : IsReached script old.plain)
     (turns : TurnsTo script old pid which told new) (moves : moves_through which ≡ Some fd) (lasts : (status : ℕ) → told ≡ turned.Ended status → ⊥)
-    (mover : is_alive old.plain.table pid ≡ true) where
+    (free : no_lock new.plain.files ≡ true) (mover : is_alive old.plain.table pid ≡ true) where
   other_lives : (who : ℕ) → who ≢ pid → is_alive old.plain.table who ≡ true → is_alive new.plain.table who ≡ true
   other_lives who apart alive = moved_lives script old new pid who fd which told turns moves lasts apart alive
 
@@ -275,7 +275,7 @@ module _ (script : Script) (old new : World) (pid : ℕ) (fd : ℤ) (which : Cal
   other_itself who apart alive = stays_itself script old new pid who which told reached turns apart alive (other_lives who apart alive)
 
   other_apart : (who : ℕ) → who ≢ pid → is_alive old.plain.table who ≡ true → is_apart script old.plain who pid fd ≡ true → StaysAsItWas script who old.plain new.plain
-  other_apart who apart alive is = moved_apart script old new pid who fd which told reached turns moves lasts apart alive is
+  other_apart who apart alive is = moved_apart script old new pid who fd which told reached turns moves lasts free apart alive is
 
   own_target : (number : ℤ) → target_at new.plain.files pid number ≡ target_at old.plain.files pid number
   own_target number = own_kept script old new pid number fd which told reached turns moves lasts
@@ -397,7 +397,7 @@ module _ (script : Script) (old new : World) (pid : ℕ) (fd : ℤ) (which : Cal
           apart_same script sleeper.pid channel.pid channel.fd old.plain new.plain stays.target (other_itself sleeper.pid begun.other begun.truly.alive)
           ∙ subst (IsApartAt script old.plain sleeper at) is (begun.there at apart) told_apart
 
-      module _ (objects : Objects) (stands : StandsFor script objects new) where
+      module _ (objects : Objects) (stands : StandsFor script objects new) (reaches : IsReached script new.plain) where
         alive_behind : (sleeper : Sleeper) → Begun place sleeper → is_alive new.plain.table sleeper.pid ≡ true
         alive_behind sleeper begun = other_lives sleeper.pid begun.other begun.truly.alive
 
@@ -428,7 +428,7 @@ module _ (script : Script) (old new : World) (pid : ℕ) (fd : ℤ) (which : Cal
             }
         looked_by near sleeper one b begun (is_near of blocks apart blocked) more = record {
           same = refl;
-          truly = record { alive = alive_behind of begun; blocks = blocked new stands (alive_behind of begun) };
+          truly = record { alive = alive_behind of begun; blocks = blocked new stands reaches (alive_behind of begun) };
           here = λ told_apart. absurd (apart told_apart);
           there = from_there of begun;
           quiet = λ none. true_false (more refl) none;
@@ -618,16 +618,16 @@ module _ (script : Script) (plain : Plain) (told : List Sleeper) (channels chang
       fresh place None = tt
       fresh place (Some channel) = λ told_apart. absurd (none_true 32 place told_apart)
 
--- whose call was refused has come further, and sleeps no more
-pub refused_minded : (script : Script) (world : World) (pid : ℕ) (told : List Sleeper) (channels : List (Option Channel)) → IsReached script world.plain
+-- whose call was refused has come further, and sleeps no more; so it is where no lock is held
+pub refused_minded : (script : Script) (world : World) (pid : ℕ) (told : List Sleeper) (channels : List (Option Channel)) → IsReached script world.plain → no_lock world.plain.files ≡ true
     → AreMinded script world.plain told channels → AreMinded script (refused_in script world pid).plain (without told pid) channels
-refused_minded script world pid told channels reached minded =
+refused_minded script world pid told channels reached free minded =
     let others = without told pid in
     carried script world.plain (with_control world.plain pid (program.after script (control_of world.plain pid) (reply.Fail ENOMEM))) others channels
     (minded_without script world.plain told channels pid minded)
     (each_map (λ one. IsTrulyTold script world.plain one × (one.pid ≢ pid))
     (λ one. StaysAsItWas script one.pid world.plain (with_control world.plain pid (program.after script (control_of world.plain pid) (reply.Fail ENOMEM)))) others
-    (λ one it. came_further script world.plain pid one.pid (program.after script (control_of world.plain pid) (reply.Fail ENOMEM)) reached it.1)
+    (λ one it. came_further script world.plain pid one.pid (program.after script (control_of world.plain pid) (reply.Fail ENOMEM)) reached it.1 free)
     (each_and (IsTrulyTold script world.plain) (λ one. one.pid ≢ pid) others (each_without (IsTrulyTold script world.plain) told pid minded.each) (each_other others pid (none_without told pid))))
     (λ channel alive. record { lives = alive; target = refl })
 
@@ -732,15 +732,18 @@ module _ (script : Script) (objects : Objects) (old new : World) (pid : ℕ) (wh
   }
 
   module _ (up : told_of sleepers pid ≡ None) where
-    -- nobody is stirred
-    pub nobody_stirred : stirs_of (no_fifo new.plain.files) which (came_of told) ≡ Nobody → gives_number which ≡ false → AreMinded script new.plain sleepers channels
-    nobody_stirred stirs keeps =
-        passed_minded script old new pid which told behind.reached behind.turns (nobody_passes (no_fifo new.plain.files) which told stirs) sleepers channels behind.minded up keeps
+    by_none : no_lock new.plain.files ≡ true → stirs_of (no_fifo new.plain.files) which (came_of told) ≡ Nobody → passes_by (no_fifo new.plain.files) (no_lock new.plain.files) which told ≡ true
+    by_none free stirs = subst (λ b. passes_by (no_fifo new.plain.files) b which told ≡ true) (sym free) (nobody_passes (no_fifo new.plain.files) which told stirs)
 
-    pub nobody_forgotten : (none : List (Option Channel)) → ((place : ℕ) → channel_at none place ≡ None) → stirs_of (no_fifo new.plain.files) which (came_of told) ≡ Nobody → AreMinded script new.plain sleepers none
-    nobody_forgotten none are_none stirs =
+    -- nobody is stirred
+    pub nobody_stirred : no_lock new.plain.files ≡ true → stirs_of (no_fifo new.plain.files) which (came_of told) ≡ Nobody → gives_number which ≡ false → AreMinded script new.plain sleepers channels
+    nobody_stirred free stirs keeps =
+        passed_minded script old new pid which told behind.reached behind.turns (by_none free stirs) sleepers channels behind.minded up keeps
+
+    pub nobody_forgotten : (none : List (Option Channel)) → ((place : ℕ) → channel_at none place ≡ None) → no_lock new.plain.files ≡ true → stirs_of (no_fifo new.plain.files) which (came_of told) ≡ Nobody → AreMinded script new.plain sleepers none
+    nobody_forgotten none are_none free stirs =
         minded_alone script new.plain sleepers none are_none
-        (passed_truly script old new pid which told behind.reached behind.turns (nobody_passes (no_fifo new.plain.files) which told stirs) sleepers channels behind.minded up)
+        (passed_truly script old new pid which told behind.reached behind.turns (by_none free stirs) sleepers channels behind.minded up)
 
     module _ (fd : ℤ) (stirs : stirs_of false which (came_of told) ≡ Through fd) where
       mover : is_alive old.plain.table pid ≡ true
@@ -750,7 +753,7 @@ module _ (script : Script) (objects : Objects) (old new : World) (pid : ℕ) (wh
       pub touched_lives : is_alive new.plain.table pid ≡ true
       touched_lives =
           let so = moves_so which told fd stirs in
-          mover_still script old new pid fd which told behind.reached behind.turns so.0 so.1 mover
+          mover_lives script old new pid which told behind.reached behind.turns so.1 mover
 
       pub sleepers_live : AllByRecursion (λ sleeper. is_alive new.plain.table sleeper.pid ≡ true) sleepers
       sleepers_live =
@@ -759,15 +762,15 @@ module _ (script : Script) (objects : Objects) (old new : World) (pid : ℕ) (wh
           (λ sleeper it. moved_lives script old new pid sleeper.pid fd which told behind.turns so.0 so.1 it.1 it.0.alive)
           (each_and (IsTrulyTold script old.plain) (λ sleeper. sleeper.pid ≢ pid) sleepers behind.minded.each (each_other sleepers pid up))
 
-      pub touched_passed : (place : ℕ) → IsPassed (channel_at channels place) pid fd → AreMinded script new.plain sleepers channels
-      touched_passed place is =
+      pub touched_passed : no_lock new.plain.files ≡ true → (place : ℕ) → IsPassed (channel_at channels place) pid fd → AreMinded script new.plain sleepers channels
+      touched_passed free place is =
           let so = moves_so which told fd stirs in
-          all_passed script old new pid fd which told behind.reached behind.turns so.0 so.1 mover sleepers channels behind.minded up place is
+          all_passed script old new pid fd which told behind.reached behind.turns so.0 so.1 free mover sleepers channels behind.minded up place is
 
-      pub touched_near : (place : ℕ) (near : Bool) (first : Sleeper) (rest : List Sleeper) → sleepers ≡ first ∷ rest → (middle after : List Sleeper)
+      pub touched_near : no_lock new.plain.files ≡ true → (place : ℕ) (near : Bool) (first : Sleeper) (rest : List Sleeper) → sleepers ≡ first ∷ rest → (middle after : List Sleeper)
           → HasBegun (channel_at channels place) pid fd place sleepers middle → AreNear script objects pid fd place middle after near → place < length channels
           → AreMinded script new.plain after (slice_set channels place (Some (record { pid = pid; fd = fd; all_apart = not near })))
-      touched_near place near first rest some middle after began asked within =
+      touched_near free place near first rest some middle after began asked within =
           let so = moves_so which told fd stirs in
-          near_minded script old new pid fd which told behind.reached behind.turns so.0 so.1 mover sleepers channels behind.minded up place objects behind.stands near first rest some middle after
+          near_minded script old new pid fd which told behind.reached behind.turns so.0 so.1 free mover sleepers channels behind.minded up place objects behind.stands behind.reaches near first rest some middle after
           began asked within

@@ -32,7 +32,7 @@ marked h = record h { high = live_bytes h; marks = (h.marks + 1) % 2 ^ 64; last_
 
 -- objects with another heap
 abbrev pub with_heap : Objects → Heap → Objects
-with_heap objects h = record { heap = h; procs = objects.procs; tree = objects.tree; names = objects.names; fifos = objects.fifos }
+with_heap objects h = record { heap = h; procs = objects.procs; tree = objects.tree; names = objects.names; fifos = objects.fifos; locks = objects.locks }
 
 module _ (objects : Objects) (h : Heap) (is : h ≡ marked objects.heap) where
   pub mark_keeps : (script : Script) → AreKept script objects → AreKept script (with_heap objects h)

@@ -15,7 +15,7 @@ use Rattle.posix_defs.specs.Plain.{Plain}
 use Rattle.posix_defs.specs.Waiting.{waitpid}
 use Rattle.prog_ctl.specs.Waits.{wait_of}
 use Rattle.prog_ctl.specs.declared.waits.Awaited.{Awaited}
-use Rattle.prog_ctl.specs.declared.waits.Awaited.TheVariants.{Child, Bytes, Room, Peer, Events, OtherSide}
+use Rattle.prog_ctl.specs.declared.waits.Awaited.TheVariants.{Child, Bytes, Room, Peer, Events, OtherSide, Lock}
 
 -- whether a wait with right operands blocks
 pub blocks_as : (script : Script) (plain : Plain) (pid : ℕ) (which options : ℤ) → argument_fault (call.Waitpid which options) ≡ None
@@ -50,6 +50,7 @@ WaitsFor (Bytes fd addr n) which = call.Read fd addr n ≡ which
 WaitsFor (Room fd addr n done) which = call.Write fd addr n done ≡ which
 WaitsFor (Peer fd) which = call.Accept fd ≡ which
 WaitsFor (Events timeout entries) which = call.Poll timeout entries ≡ which
+WaitsFor (Lock fd kind start length) which = call.Setlkw fd kind start length ≡ which
 WaitsFor OtherSide which = (path : List ℕ) × (flags : ℤ) × (call.OpenFile path flags ≡ which) × (argument_fault (call.OpenFile path flags) ≡ None)
 
 same_wait : (wait other : Awaited) (which : Call) → Some wait ≡ Some other → WaitsFor other which → WaitsFor wait which
@@ -61,6 +62,7 @@ is_waiting (call.Read fd addr n) wait e = same_wait wait (Bytes fd addr n) (call
 is_waiting (call.Write fd addr n done) wait e = same_wait wait (Room fd addr n done) (call.Write fd addr n done) e refl
 is_waiting (call.Accept fd) wait e = same_wait wait (Peer fd) (call.Accept fd) e refl
 is_waiting (call.Poll timeout entries) wait e = same_wait wait (Events timeout entries) (call.Poll timeout entries) e refl
+is_waiting (call.Setlkw fd kind start length) wait e = same_wait wait (Lock fd kind start length) (call.Setlkw fd kind start length) e refl
 is_waiting (call.OpenFile path flags) wait e = go (argument_fault (call.OpenFile path flags)) refl e
   where
     go : (fault : Option Errno) → argument_fault (call.OpenFile path flags) ≡ fault → Some wait ≡ cond (is_none fault) (Some OtherSide) None → WaitsFor wait (call.OpenFile path flags)
@@ -79,6 +81,7 @@ waits_not (call.Read fd addr n) e = cc
 waits_not (call.Write fd addr n done) e = cc
 waits_not (call.Accept fd) e = cc
 waits_not (call.Poll timeout entries) e = cc
+waits_not (call.Setlkw fd kind start length) e = cc
 waits_not (call.OpenFile path flags) e = go (argument_fault (call.OpenFile path flags)) refl e
   where
     go : (fault : Option Errno) → argument_fault (call.OpenFile path flags) ≡ fault → None ≡ cond (is_none fault) (Some OtherSide) None
@@ -115,3 +118,8 @@ module _ (script : Script) (plain : Plain) (pid : ℕ) (which : Call) (told : Bo
       → told ≡ blocks (machine script plain pid which)
   told_three of x y z a b c e f g is said =
       said ∙ ap (λ w. blocks (machine script plain pid w)) (ap (λ v. of v y z) e ∙ ap (λ v. of a v z) f ∙ ap (of a b) g ∙ is)
+
+  pub told_four : (of : ℤ → ℤ → ℤ → ℤ → Call) (x y z w a b c d : ℤ) → x ≡ a → y ≡ b → z ≡ c → w ≡ d → of a b c d ≡ which → told ≡ blocks (machine script plain pid (of x y z w))
+      → told ≡ blocks (machine script plain pid which)
+  told_four of x y z w a b c d e f g h is said =
+      said ∙ ap (λ call. blocks (machine script plain pid call)) (ap (λ v. of v y z w) e ∙ ap (λ v. of a v z w) f ∙ ap (λ v. of a b v w) g ∙ ap (of a b c) h ∙ is)

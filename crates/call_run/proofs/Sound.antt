@@ -56,6 +56,7 @@ pub sound : (script : Script) (plain : Plain) → IsValid script → IsReached s
 sound script plain valid reached = record {
   nodes = λ place number description there on. by_target place number description there description.target refl on;
   names = record { bound = λ place number is free. whole.sockets.bound place number is; waiting = reached_unnamed script plain reached };
+  locks = whole.locks;
 }
   where
     texts : HasTexts script

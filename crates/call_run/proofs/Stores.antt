@@ -10,6 +10,7 @@ use Rattle.posix_defs.specs.Plain.{call_of, control_of}
 use Rattle.posix_defs.specs.Process.{is_alive}
 use Rattle.posix_defs.specs.Sizes.{reserve}
 use Rattle.posix_defs.specs.World.{World, live_of}
+use Rattle.store_objects.proofs.NextCalls.{next_is}
 use Rattle.store_objects.specs.declared.objects.Caller.{Caller}
 use Rattle.store_objects.specs.declared.objects.Objects.{Objects}
 use Rattle.store_objects.specs.Objects.{IsCaller}
@@ -21,7 +22,7 @@ use Rattle.call_run.specs.Families.{HasDone, HasHalf, HasPaths}
 use Rattle.call_run.specs.Stores.{IsStoreOf}
 use Rattle.call_run.proofs.SettledDone.{settled_done}
 use Rattle.call_run.proofs.Sound.{half, sound}
-use Rattle.call_run.proofs.Turning.{next_done, next_is, next_paths}
+use Rattle.call_run.proofs.Turning.{next_done, next_paths}
 
 -- where no more bytes are taken, what was kept back is
 pub store_on : (script : Script) (old new : Objects) (world after : World) → IsStoreOf script old world → IsWellFormed old.heap → StandsFor script new after → IsReached script after.plain → IsWellFormed new.heap

@@ -41,6 +41,9 @@ number_of (call.Listen fd) = Some fd
 number_of (call.Connect fd path) = Some fd
 number_of (call.Accept fd) = Some fd
 number_of (call.Shutdown fd how) = Some fd
+number_of (call.Setlk fd kind start length) = Some fd
+number_of (call.Setlkw fd kind start length) = Some fd
+number_of (call.Getlk fd kind start length) = Some fd
 number_of _ = None
 
 -- a call that moves bytes moves those of a file or a directory

@@ -178,7 +178,7 @@ pub record AreMinded (script : Script) (plain : Plain) (told : List Sleeper) (ch
 
 -- so it is in every world that the objects stand for
 abbrev pub AreTrulyTold : Script → Objects → List Sleeper → Type 0
-AreTrulyTold script objects told = (world : World) → StandsFor script objects world → AllByRecursion (IsTrulyTold script world.plain) told
+AreTrulyTold script objects told = (world : World) → StandsFor script objects world → IsReached script world.plain → AllByRecursion (IsTrulyTold script world.plain) told
 
 -- Sleepers stand by rising pid, and where none may be open there is no channel.
 pub record AreKeptAsleep (told : List Sleeper) (channels : List (Option Channel)) (is_open : Bool) : Type 0 where
@@ -194,7 +194,7 @@ any_sleeper = lain 0 false
 -- Who stands at a place was asked again, and lives; or he has ended, and is forgotten.
 pub data IsLookedAt (script : Script) (objects : Objects) (old : List Sleeper) (place : ℕ) : List Sleeper → Type 0 where
   is_asked : (sleeper : Sleeper) → sleeper.pid ≡ (slice_index_or old place any_sleeper).pid
-      → ((world : World) → StandsFor script objects world → IsTrulyTold script world.plain sleeper) → IsLookedAt script objects old place (slice_set old place sleeper)
+      → ((world : World) → StandsFor script objects world → IsReached script world.plain → IsTrulyTold script world.plain sleeper) → IsLookedAt script objects old place (slice_set old place sleeper)
   is_gone : IsLookedAt script objects old place (remove old place)
 
 -- A sleeper is told to be apart from the channel at this place, or learns it; or he was asked again.
@@ -204,7 +204,7 @@ pub data IsNear (script : Script) (objects : Objects) (pid : ℕ) (fd : ℤ) (ch
       → ((world : World) → StandsFor script objects world → is_alive world.plain.table sleeper.pid ≡ true → is_apart script world.plain sleeper.pid pid fd ≡ true)
       → IsNear script objects pid fd channel sleeper (record sleeper { apart = slice_set sleeper.apart channel true }) false
   is_near : (sleeper : Sleeper) (blocks : Bool) → (IsToldApart sleeper channel → ⊥)
-      → ((world : World) → StandsFor script objects world → is_alive world.plain.table sleeper.pid ≡ true → would_block script world.plain sleeper.pid ≡ blocks)
+      → ((world : World) → StandsFor script objects world → IsReached script world.plain → is_alive world.plain.table sleeper.pid ≡ true → would_block script world.plain sleeper.pid ≡ blocks)
       → IsNear script objects pid fd channel sleeper (record sleeper { blocks = blocks }) true
 
 -- so it is of all, and none was asked again, unless that is said

@@ -6,9 +6,9 @@ ghost use Rattle.file_calls.specs.Bytes.{ReadsCached};
 ghost use Rattle.kabi_types.specs.Arguments.{argument_fault};
 ghost use Rattle.kabi_types.specs.declared.calls.Call.{Call};
 ghost use Rattle.kabi_types.specs.declared.replies.Reply.TheVariants.{Val};
-ghost use Rattle.kabi_types.specs.declared.scripts.Script.{Script};
 ghost use Rattle.kheap_slabs.specs.Heap.{live_bytes};
 ghost use Rattle.kheap_slabs.specs.Paid.{TakesNothing};
+ghost use Rattle.lock_calls.specs.Waiting.{AreKnown};
 ghost use Rattle.posix_defs.specs.Machine.{answer_to, blocks, machine};
 ghost use Rattle.posix_defs.specs.Needs.{bound, need_of, slack};
 ghost use Rattle.posix_defs.specs.Process.{is_alive};
@@ -31,6 +31,7 @@ use file_calls::{
     read as read_file, readdir, write as write_file,
 };
 use kabi_types::{Call, Errno, Memory, Need, Reply, Script, may_wait};
+use lock_calls::{Waits, getlk, lock_would_block, setlk, setlkw};
 use path_calls::{chdir, link, mkdir, mkfifo, rename, rmdir, stat, unlink};
 use posix_defs::Turned;
 use proc_files::{FileBuffer, MOST_MOVED};
@@ -192,6 +193,24 @@ fn run_right(
             disposition,
         } => signal(script, objects, caller, *which, *disposition),
         Call::Mkfifo { path } => mkfifo(script, objects, purse, caller, path.items()),
+        Call::Setlk {
+            kind,
+            start,
+            length,
+            ..
+        } => setlk(script, objects, purse, caller, on, *kind, *start, *length),
+        Call::Setlkw {
+            kind,
+            start,
+            length,
+            ..
+        } => setlkw(script, objects, purse, caller, on, *kind, *start, *length),
+        Call::Getlk {
+            kind,
+            start,
+            length,
+            ..
+        } => getlk(script, objects, caller, on, *kind, *start, *length),
     }
 }
 
@@ -233,12 +252,20 @@ pub fn run(
     }
 }
 
-/// Whether a live process's call would block now. Of the call it asks only for what that waits for: a call that waits for nothing
-/// never blocks.
-pub fn would_block(objects: &Objects, pid: u32, wait: Option<Awaited>) -> bool
-    requires { (script : Script) × (world : World) × StandsFor script objects.now world × (is_alive world.plain.table pid ≡ true) }
-    ensures { (script : Script) (world : World) → StandsFor script objects.now world
-        → (call : Call) → wait ≡ wait_of call → result ≡ blocks (machine script world.plain pid call) }
+/// Whether a live process's next call would block now. Of the call it asks only for what that waits for: a call that waits for nothing
+/// never blocks. Who waits for whom is found where that is asked and isn't known yet, and kept.
+pub fn would_block(
+    script: &Script,
+    objects: &Objects,
+    waits: &mut Option<Waits>,
+    pid: u32,
+    wait: Option<Awaited>,
+) -> bool
+    requires stands { (world : World) × StandsFor script.now objects.now world × (is_alive world.plain.table pid ≡ true) }
+    requires known { AreKnown script.now objects.now waits.old }
+    ensures known { AreKnown script.now objects.now waits.new }
+    ensures blocks { (world : World) → StandsFor script.now objects.now world → IsSound world.plain
+        → (call : Call) → wait ≡ wait_of call → result ≡ blocks (machine script.now world.plain pid call) }
 {
     let Some(wait) = wait else {
         return false;
@@ -259,5 +286,11 @@ pub fn would_block(objects: &Objects, pid: u32, wait: Option<Awaited>) -> bool
             poll_would_block(objects, place, timeout, &entries)
         }
         Awaited::OtherSide => open_would_block(objects, place),
+        Awaited::Lock {
+            fd,
+            kind,
+            start,
+            length,
+        } => lock_would_block(script, objects, waits, place, fd, kind, start, length),
     }
 }

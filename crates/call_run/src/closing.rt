@@ -50,6 +50,7 @@ pub fn close(script: &Script, objects: &mut Objects, caller: &Caller, on: &Named
         &mut objects.tree,
         &mut objects.names,
         &mut objects.fifos,
+        &mut objects.locks,
         caller.place,
         on,
     );
@@ -93,6 +94,7 @@ pub fn dup2(
         &mut objects.tree,
         &mut objects.names,
         &mut objects.fifos,
+        &mut objects.locks,
         caller.place,
         on,
         to,

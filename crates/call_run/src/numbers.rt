@@ -45,6 +45,9 @@ fn number_of(call: &Call) -> Option<i64>
         Call::Connect { fd, .. } => Some(*fd),
         Call::Accept { fd } => Some(*fd),
         Call::Shutdown { fd, .. } => Some(*fd),
+        Call::Setlk { fd, .. } => Some(*fd),
+        Call::Setlkw { fd, .. } => Some(*fd),
+        Call::Getlk { fd, .. } => Some(*fd),
         _ => None,
     }
 }

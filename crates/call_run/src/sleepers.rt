@@ -6,6 +6,7 @@ ghost use Rattle.std.specs.List.{AllByRecursion};
 ghost use Rattle.arrayvec.specs.ArrayVec.{array_vec_len};
 ghost use Rattle.kabi_types.specs.declared.calls.Call.{Call as CallOf};
 ghost use Rattle.kabi_types.specs.declared.scripts.Script.{Script};
+ghost use Rattle.lock_calls.specs.Waiting.{AreKnown};
 ghost use Rattle.machine_laws.specs.Reached.{IsReached};
 ghost use Rattle.posix_defs.specs.Machine.{would_block};
 ghost use Rattle.posix_defs.specs.Minding.{HasNamed};
@@ -24,6 +25,7 @@ use crate::touching::is_apart;
 use crate::turns::waits_for;
 use arrayvec::ArrayVec;
 use kabi_types::{Call, Reply, Script};
+use lock_calls::Waits;
 use posix_defs::Turned;
 use std::marker::Model;
 use store_objects::Objects;
@@ -145,6 +147,7 @@ fn wakes_nobody(call: &Call, no_fifo: bool) -> bool
             | Call::Poll { .. }
             | Call::Signal { .. }
             | Call::Mkfifo { .. }
+            | Call::Getlk { .. }
     )
 }
 
@@ -183,8 +186,8 @@ fn came_of(turned: &Turned) -> Came
     }
 }
 
-/// Whom a turn of this call, which came to this, may have woken, or kept from going on. This is the one place that says so: what makes a
-/// sleeper depend on more than queues, children and descriptions has its line here.
+/// Whom a turn of this call, which came to this, may have woken, or kept from going on, where no lock is held. This is the one place that
+/// says so: what makes a sleeper depend on more than queues, children and descriptions has its line here, or is asked before.
 fn stirs_of(call: &Call, came: Came, no_fifo: bool) -> Stirs
     ensures { result ≡ stirs_of no_fifo call.now came }
 {
@@ -205,13 +208,15 @@ fn is_sleep(turned: &Turned) -> bool
 
 /// Whether a live process's next call wouldn't block now. It stands by itself, since it is large and asked at several places.
 #[inline(never)]
-pub fn goes_on(script: &Script, objects: &Objects, pid: u32) -> bool
-    requires { (world : World) × StandsFor script.now objects.now world × (is_alive world.plain.table pid ≡ true) }
-    ensures { (world : World) → StandsFor script.now objects.now world → is_alive world.plain.table pid ≡ true
+pub fn goes_on(script: &Script, objects: &Objects, waits: &mut Option<Waits>, pid: u32) -> bool
+    requires stands { (world : World) × StandsFor script.now objects.now world × (is_alive world.plain.table pid ≡ true) }
+    requires known { AreKnown script.now objects.now waits.old }
+    ensures known { AreKnown script.now objects.now waits.new }
+    ensures goes { (world : World) → StandsFor script.now objects.now world → IsReached script.now world.plain → is_alive world.plain.table pid ≡ true
         → result ≡ not (would_block script.now world.plain pid) }
 {
     let wait = waits_for(script, objects, pid);
-    !would_block(objects, pid, wait)
+    !would_block(script, objects, waits, pid, wait)
 }
 
 /// The place of a process among sleepers; else, where it would stand. They stand by rising pid, mostly near the place that the pid numbers.
@@ -269,16 +274,24 @@ fn is_passed(channel: Option<Channel>, pid: u32, fd: i64) -> bool
 }
 
 /// Asks again whether a sleeper that is alive would block.
-fn ask(script: &Script, objects: &Objects, sleeper: &mut Sleeper, stirred: &mut ArrayVec<u32, 128>)
+fn ask(
+    script: &Script,
+    objects: &Objects,
+    waits: &mut Option<Waits>,
+    sleeper: &mut Sleeper,
+    stirred: &mut ArrayVec<u32, 128>,
+)
     requires alive { (world : World) × StandsFor script.now objects.now world × (is_alive world.plain.table sleeper.old.pid ≡ true) }
     requires room { array_vec_len stirred.old < 128 }
+    requires known { AreKnown script.now objects.now waits.old }
+    ensures known { AreKnown script.now objects.now waits.new }
     ensures same { sleeper.new ≡ record sleeper.old { blocks = sleeper.new.blocks } }
-    ensures blocks { (world : World) → StandsFor script.now objects.now world → is_alive world.plain.table sleeper.old.pid ≡ true
+    ensures blocks { (world : World) → StandsFor script.now objects.now world → IsReached script.now world.plain → is_alive world.plain.table sleeper.old.pid ≡ true
         → would_block script.now world.plain sleeper.old.pid ≡ sleeper.new.blocks }
     ensures named { NamesOne stirred.old.items sleeper.old sleeper.new stirred.new.items }
     ensures room { array_vec_len stirred.new ≤ array_vec_len stirred.old + 1 }
 {
-    let blocks = !goes_on(script, objects, sleeper.pid);
+    let blocks = !goes_on(script, objects, waits, sleeper.pid);
     if blocks != sleeper.blocks {
         sleeper.blocks = blocks;
         stirred.push(sleeper.pid);
@@ -304,6 +317,7 @@ fn forget_at(told: &mut ArrayVec<Sleeper, 64>, stirred: &mut ArrayVec<u32, 128>,
 fn look_at(
     script: &Script,
     objects: &Objects,
+    waits: &mut Option<Waits>,
     told: &mut ArrayVec<Sleeper, 64>,
     stirred: &mut ArrayVec<u32, 128>,
     place: usize,
@@ -312,12 +326,14 @@ fn look_at(
     requires within { place < array_vec_len told.old }
     requires rising { AreRising 0 told.old.items }
     requires room { array_vec_len stirred.old < 128 }
+    requires known { AreKnown script.now objects.now waits.old }
+    ensures known { AreKnown script.now objects.now waits.new }
     ensures looked { IsLookedAt script.now objects.now told.old.items place told.new.items }
     ensures named { NamesMore told.old.items stirred.old.items told.new.items stirred.new.items }
     ensures room { array_vec_len stirred.new ≤ array_vec_len stirred.old + 1 }
 {
     if objects.runs(told[place].pid) {
-        ask(script, objects, &mut told[place], stirred);
+        ask(script, objects, waits, &mut told[place], stirred);
     } else {
         forget_at(told, stirred, place);
     }
@@ -340,10 +356,11 @@ fn ask_each(
     ensures named { NamesMore told.old.items stirred.old.items told.new.items stirred.new.items }
     ensures room { array_vec_len stirred.new ≤ array_vec_len stirred.old + 64 }
 {
+    let mut waits = None;
     let mut place = told.len();
     while place > 0 {
         place -= 1;
-        look_at(script, objects, told, stirred, place);
+        look_at(script, objects, &mut waits, told, stirred, place);
     }
 }
 
@@ -380,7 +397,7 @@ fn look_near(
         tell_apart(sleeper, channel, true);
         return false;
     }
-    ask(script, objects, sleeper, stirred);
+    ask(script, objects, &mut None, sleeper, stirred);
     true
 }
 
@@ -566,7 +583,7 @@ impl Sleepers {
     fn ask_all(&mut self, script: &Script, objects: &Objects)
         requires stands { (world : World) × StandsFor script.now objects.now world }
         requires room { length self.old.stirred ≤ 1 }
-        ensures minded { (world : World) → StandsFor script.now objects.now world → AreMinded script.now world.plain self.new.told self.new.channels }
+        ensures minded { (world : World) → StandsFor script.now objects.now world → IsReached script.now world.plain → AreMinded script.now world.plain self.new.told self.new.channels }
         ensures fewer { AreFewer self.old.told self.new.told }
         ensures named { NamesMore self.old.told self.old.stirred self.new.told self.new.stirred }
         ensures room { length self.new.stirred ≤ 65 }
@@ -613,6 +630,7 @@ impl Sleepers {
         requires behind { (old new : World) × (call : CallOf) × (told : TurnedOf) × IsBehind script.now objects.now old new pid call told self.old.told self.old.channels
             × (stirs_of false call (came_of told) ≡ Through fd) }
         requires up { told_of self.old.told pid ≡ None }
+        requires free { objects.now.locks ≡ None }
         requires room { length self.old.stirred ≤ 1 }
         ensures minded { (old new : World) (call : CallOf) (told : TurnedOf) → IsBehind script.now objects.now old new pid call told self.old.told self.old.channels
             → stirs_of false call (came_of told) ≡ Through fd → AreMinded script.now new.plain self.new.told self.new.channels }
@@ -643,6 +661,11 @@ impl Sleepers {
         ensures named { NamesMore self.old.told self.old.stirred self.new.told self.new.stirred }
         ensures room { length self.new.stirred ≤ 65 }
     {
+        if !objects.locks.is_empty() {
+            // Whoever goes on may stand at a call that closes a circle.
+            self.ask_all(script, objects);
+            return;
+        }
         match stirs_of(call, came, objects.fifos.is_empty()) {
             Stirs::Nobody => {
                 if gives_number(call) {
@@ -677,7 +700,7 @@ impl Sleepers {
         ensures named { HasNamed (is_settled self.old.told) (is_settled self.new.told) self.new.stirred }
     {
         self.go_on(script, objects, pid, call, Came::Part);
-        self.lie_down(pid, !goes_on(script, objects, pid));
+        self.lie_down(pid, !goes_on(script, objects, &mut None, pid));
     }
 
     /// Behind a turn of this call of a process, which came to this: those whom it may have woken are asked, and whose call sleeps is kept
@@ -718,20 +741,25 @@ impl Sleepers {
         }
     }
 
-    /// A process's call was refused: it sleeps no more.
-    pub fn refused(&mut self, pid: u32)
-        ensures minded { (script : Script) (world : World) → IsReached script world.plain → AreMinded script world.plain self.old.told self.old.channels
-            → AreMinded script (refused_in script world pid).plain self.new.told self.new.channels }
+    /// A process's call was refused: it sleeps no more. Where a lock is held it may close a circle with the call at which it stands now.
+    pub fn refused(&mut self, script: &Script, objects: &Objects, pid: u32)
+        requires { (world : World) × StandsFor script.now objects.now world }
+        ensures minded { (world : World) → IsReached script.now world.plain → AreMinded script.now world.plain self.old.told self.old.channels
+            → StandsFor script.now objects.now (refused_in script.now world pid) → IsReached script.now (refused_in script.now world pid).plain
+            → AreMinded script.now (refused_in script.now world pid).plain self.new.told self.new.channels }
         ensures named { HasNamed (is_settled self.old.told) (is_settled self.new.told) self.new.stirred }
     {
         self.stirred.clear();
         self.get_up(pid);
+        if !objects.locks.is_empty() {
+            self.ask_all(script, objects);
+        }
     }
 
     /// A process was killed.
     pub fn killed(&mut self, script: &Script, objects: &Objects)
         requires { (world : World) × StandsFor script.now objects.now world }
-        ensures minded { (world : World) → StandsFor script.now objects.now world → AreMinded script.now world.plain self.new.told self.new.channels }
+        ensures minded { (world : World) → StandsFor script.now objects.now world → IsReached script.now world.plain → AreMinded script.now world.plain self.new.told self.new.channels }
         ensures named { HasNamed (is_settled self.old.told) (is_settled self.new.told) self.new.stirred }
     {
         self.stirred.clear();

@@ -129,7 +129,7 @@ impl<F: Scorer, G: Scorer> Turner for Store<F, G> {
 
     fn refuse(&mut self, pid: u32) {
         turns::refuse(&self.script, &mut self.objects, pid);
-        self.sleepers.refused(pid);
+        self.sleepers.refused(&self.script, &self.objects, pid);
     }
 
     // It is asked at many places.
@@ -137,7 +137,7 @@ impl<F: Scorer, G: Scorer> Turner for Store<F, G> {
     fn ready(&self, pid: u32) -> bool {
         match self.sleepers.told(pid) {
             Some(blocks) => !blocks,
-            None => goes_on(&self.script, &self.objects, pid),
+            None => goes_on(&self.script, &self.objects, &mut None, pid),
         }
     }
 

@@ -95,6 +95,6 @@ pub fn is_apart(script: &Script, objects: &Objects, who: u32, pid: u32, fd: i64)
         Some(Awaited::Events { entries, .. }) => {
             !some_near(objects, target, at, entries.items())
         }
-        Some(Awaited::Child { .. } | Awaited::OtherSide) | None => true,
+        Some(Awaited::Child { .. } | Awaited::OtherSide | Awaited::Lock { .. }) | None => true,
     }
 }

@@ -1,6 +1,9 @@
 -- A call on files has changed the objects of a store, and its caller goes on.
 use Rattle.std.proofs.Common.{◌≡◌, ℕ, ℤ, List, [], Option, refl, ap, sym, ◌∙◌, subst}
 use Rattle.std.specs.Prelude.{IsSome}
+use Rattle.store_objects.proofs.LockedOn.{locked_on, locks_follow}
+use Rattle.store_objects.specs.OpenMoves.{LocksStay}
+use Rattle.answer_laws.specs.KeptLocks.{LeavesLocks}
 use Rattle.kabi_types.specs.declared.calls.Call.{Call}
 use Rattle.kabi_types.specs.declared.scripts.Control.{Control}
 use Rattle.kabi_types.specs.declared.scripts.Script.{Script}
@@ -89,25 +92,31 @@ pub record LeavesOthers (old new : Heap) : Type 0 where
   pub pipes : new.pipes ≡ old.pipes
   pub socks : new.socks ≡ old.socks
   pub size : new.heap ≡ old.heap
+  pub locks : new.locks ≡ old.locks
 
-pub leaves_others : (old new is : Heap) → new ≡ is → is.procs ≡ old.procs → is.pipes ≡ old.pipes → is.socks ≡ old.socks → is.heap ≡ old.heap → LeavesOthers old new
-leaves_others old new is same procs pipes socks size = record {
+pub leaves_others : (old new is : Heap) → new ≡ is → is.procs ≡ old.procs → is.pipes ≡ old.pipes → is.socks ≡ old.socks → is.heap ≡ old.heap → is.locks ≡ old.locks → LeavesOthers old new
+leaves_others old new is same procs pipes socks size locks = record {
   procs = ap (λ (h : Heap). h.procs) same ∙ procs;
   pipes = ap (λ (h : Heap). h.pipes) same ∙ pipes;
   socks = ap (λ (h : Heap). h.socks) same ∙ socks;
   size = ap (λ (h : Heap). h.heap) same ∙ size;
+  locks = ap (λ (h : Heap). h.locks) same ∙ locks;
 }
 
 -- The objects with that heap and that tree.
 abbrev pub mid_of : Objects → Heap → TreeView → Objects
-mid_of old heap fs = record { heap = heap; procs = old.procs; tree = fs; names = old.names; fifos = old.fifos }
+mid_of old heap fs = record { heap = heap; procs = old.procs; tree = fs; names = old.names; fifos = old.fifos; locks = old.locks }
+
+-- its locks are what they were
+locks_stay : (old : Objects) (heap : Heap) (fs : TreeView) → LeavesOthers old.heap heap → LocksStay old (mid_of old heap fs)
+locks_stay old heap fs others = record { shelf = others.locks; first = refl }
 
 -- The store goes on where processes, pipes, sockets and the table of names are what they were.
 moves_on : (script : Script) (old : Objects) (heap : Heap) (fs : TreeView) → LeavesOthers old.heap heap → AreKept script old → KeepsTree heap fs → IsKept heap old.procs → FileMoves old (mid_of old heap fs)
 moves_on script old heap fs others kept keeps is =
     moves_elsewhere old (mid_of old heap fs) refl others.procs is
     (subst (λ (socks : List (Option Sock)). AreBound (name_of socks) old.names) (sym others.socks) kept.bound) refl keeps others.size
-    (chain_kept old.heap heap old.fifos (links_same old.heap heap others.pipes) kept.chain)
+    (chain_kept old.heap heap old.fifos (links_same old.heap heap others.pipes) kept.chain) (locked_on old (mid_of old heap fs) (locks_stay old heap fs others) kept.locked)
 
 -- ---- a call that moves bytes
 
@@ -152,13 +161,14 @@ module _ (script : Script) (old : Objects) (heap : Heap) (fs : TreeView) (pid : 
 
   -- behind it its caller goes on
   pub serves_moved : (told : Turned) (new : Objects) → CachesWithin old mid which → told ≡ turned.Done said → GoesOn script mid pid said new
-      → ((plain : Plain) → LeavesKin plain (answer plain)) → Serves script old pid which answer told new
-  serves_moved told new within tells goes kin =
+      → ((plain : Plain) → LeavesKin plain (answer plain)) → ((plain : Plain) → LeavesLocks plain (answer plain)) → Serves script old pid which answer told new
+  serves_moved told new within tells goes kin leaves =
       serves script old mid new pid which said told within tells answer moves_moved goes
       (λ world stands sound alive.
       let it = led world stands sound in
       answered_leading script old mid world stands pid which said (answer world.plain) (kin world.plain) it
       (leaves_cached script old mid world pid which fd moved.names said it.next stands moved.stays))
+      (locks_follow script old mid pid answer said (locks_stay old heap fs moved.others) leaves)
 
 -- ---- a call that leaves memory
 
@@ -207,11 +217,12 @@ module _ (script : Script) (old : Objects) (heap : Heap) (fs : TreeView) (pid : 
   runs_changed control runs = runs_turned old after pid control moves_changed runs
 
   pub serves_changed : (is : Turned) (new : Objects) → CachesWithin old after which → is ≡ turned.Done said → GoesOn script after pid said new
-      → ((frames : Frames) → frames_after frames pid which said ≡ frames) → Serves script old pid which answer is new
-  serves_changed is new within tells goes none =
+      → ((frames : Frames) → frames_after frames pid which said ≡ frames) → ((plain : Plain) → LeavesLocks plain (answer plain)) → Serves script old pid which answer is new
+  serves_changed is new within tells goes none leaves =
       serves script old after new pid which said is within tells answer moves_changed goes
       (λ world stands sound alive.
       let it = told world stands sound in
       answered_holding script old after world stands pid which said (answer world.plain) stands.files.numbers (memory_elsewhere old after refl changed.others.procs changed.nodes changed.pages)
       (queues_same old.heap heap changed.others.pipes changed.others.socks) (λ key used. refl) (λ key used. refl) (none world.account.frames) it
       (leaves_cached script old after world pid which fd changed.names said (with_files world.plain it.files) stands changed.stays))
+      (locks_follow script old after pid answer said (locks_stay old heap fs changed.others) leaves)

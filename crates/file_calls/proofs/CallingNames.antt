@@ -2,6 +2,9 @@
 use Rattle.std.proofs.Common.{◌≡◌, ℕ, ◌<◌, ◌≤◌, ◌&&◌, ◌||◌, ℤ, true, false, List, [], length, Option, None, Result, Ok, Err, OnOk, cond, is_none, is_some, refl, ap, sym, ◌∙◌, subst, arith}
 use Rattle.std.specs.Option.{option_map}
 use Rattle.std.specs.Prelude.{IsOk, IsSome}
+use Rattle.store_objects.proofs.LockedOn.{locked_on, locks_follow}
+use Rattle.store_objects.specs.OpenMoves.{LocksStay}
+use Rattle.answer_laws.specs.KeptLocks.{LeavesLocks}
 use Rattle.fifo_nodes.proofs.ChainLemmas.{chain_kept}
 use Rattle.pipe_ends.proofs.LinkLemmas.{links_same}
 use Rattle.kabi_types.specs.Arguments.{argument_fault}
@@ -145,7 +148,7 @@ module _ (script : Script) (old mid : Objects) (pid : ℕ) (control : Control) (
 
 -- the objects with that heap, that tree, and these names
 abbrev pub mid_of : Objects → Heap → TreeView → List (Option ℕ) → Objects
-mid_of old heap fs names = record { heap = heap; procs = old.procs; tree = fs; names = names; fifos = old.fifos }
+mid_of old heap fs names = record { heap = heap; procs = old.procs; tree = fs; names = names; fifos = old.fifos; locks = old.locks }
 
 -- Whatever files they hold, the call is answered so, and they hold those that it leads to, where what is new has numbers.
 abbrev pub AnswersSo : Objects → Heap → TreeView → List (Option ℕ) → Script → ℕ → (Plain → Answer) → Reply → Type 0
@@ -183,6 +186,9 @@ module _ (script : Script) (old : Objects) (heap : Heap) (fs : TreeView) (names 
   same_procs : heap.procs ≡ old.heap.procs
   same_procs = ap (λ (h : Heap). h.procs) named.changes
 
+  locks_stay : LocksStay old mid
+  locks_stay = record { shelf = ap (λ (h : Heap). h.locks) named.changes; first = refl }
+
   moves : FileMoves old mid
   moves =
       let world = named.world.0 in
@@ -191,7 +197,7 @@ module _ (script : Script) (old : Objects) (heap : Heap) (fs : TreeView) (names 
       moves_elsewhere old mid refl same_procs
       (record { holds = holds_elsewhere old mid refl same_procs kept.holds named.listed named.owners; listed = named.listed; owners = named.owners })
       it.holds.bound named.places (it.files.tree, holders (others_in world.plain) it.files, it.holds.held.tree) (ap (λ (h : Heap). h.heap) named.changes)
-      (chain_kept old.heap heap old.fifos (links_same old.heap heap (ap (λ (h : Heap). h.pipes) named.changes)) kept.chain)
+      (chain_kept old.heap heap old.fifos (links_same old.heap heap (ap (λ (h : Heap). h.pipes) named.changes)) kept.chain) (locked_on old mid locks_stay kept.locked)
 
   pub kept_named : AreKept script mid
   kept_named = kept_turned script old mid named.world.1.kept moves
@@ -203,8 +209,8 @@ module _ (script : Script) (old : Objects) (heap : Heap) (fs : TreeView) (names 
   pub serves_named : (which : Call) (before after : Purse) (is : Turned) (new : Objects) → IsPaid old.heap before heap after → before.left ≡ need_of which → old.tree.disk.reads ≤ fs.disk.reads
       → is ≡ turned.Done said → GoesOn script mid pid said new → ((frames : Frames) → frames_after frames pid which said ≡ frames)
       → ((world : World) (stands : StandsFor script old world) (files : Files) → Stands heap fs files.tree (holders (others_in world.plain) files)
-      → LeavesCached old mid world pid which said (with_files world.plain files)) → Serves script old pid which answer is new
-  serves_named which before after is new paid needed reads tells goes none cached =
+      → LeavesCached old mid world pid which said (with_files world.plain files)) → ((plain : Plain) → LeavesLocks plain (answer plain)) → Serves script old pid which answer is new
+  serves_named which before after is new paid needed reads tells goes none cached leaves =
       serves script old mid new pid which said is
       (within_paid old mid before after which paid (ap (λ (need : Need). need.name) needed) (ap (λ (need : Need). need.block) needed) (ap (λ (need : Need). need.vnode) needed) reads) tells answer moves goes
       (λ world stands sound alive.
@@ -213,3 +219,4 @@ module _ (script : Script) (old : Objects) (heap : Heap) (fs : TreeView) (names 
       (memory_elsewhere old mid refl same_procs (ap (λ (h : Heap). h.nodes) named.changes) (ap (λ (h : Heap). h.pages) named.changes)) named.queues it.keeps.pipes it.keeps.socks (none world.account.frames)
       (record { files = it.answers.files; replies = it.answers.replies; holds = it.answers.holds.held })
       (cached world stands it.answers.files it.answers.holds.held.tree))
+      (locks_follow script old mid pid answer said locks_stay leaves)

@@ -1,6 +1,12 @@
 -- A call has changed what a process has open, with the tree of files and the names of sockets, and its caller goes on.
 use Rattle.std.proofs.Common.{◌≡◌, ℕ, pos, List, [], Option, Some, Result, Ok, Err, length, le_refl, refl, ap, subst, sym, ◌∙◌}
 use Rattle.std.specs.Prelude.{IsSome}
+use Rattle.store_objects.proofs.Leaving.{files_in}
+use Rattle.kheap_slabs.specs.declared.objects.Lock.{Lock as HeldLock}
+use Rattle.store_objects.proofs.LockedOn.{locks_follow}
+use Rattle.store_objects.specs.OpenMoves.{LocksStay}
+use Rattle.lock_table.specs.Chain.{HoldsLocks, IsLockTable}
+use Rattle.answer_laws.specs.KeptLocks.{LeavesLocks}
 use Rattle.fifo_nodes.specs.Chain.{IsChain}
 use Rattle.kabi_types.specs.declared.calls.Call.{Call}
 use Rattle.kabi_types.specs.declared.scripts.Control.{Control}
@@ -38,7 +44,7 @@ use Rattle.proc_numbers.specs.Queues.{QueuesStand, fronts_on}
 use Rattle.file_calls.specs.Opening.{LeavesOpening, came_in, told_of}
 use Rattle.proc_files.proofs.Changing.{holding_of}
 use Rattle.proc_numbers.proofs.Changes.{changes_nothing}
-use Rattle.proc_files.specs.NameAnswering.{AnswersNaming}
+use Rattle.proc_files.specs.NameAnswering.{AnswersClosing, AnswersNaming}
 use Rattle.proc_files.specs.Names.{AreBound, name_of}
 use Rattle.proc_files.specs.NameHolding.{HoldNames, HoldSomeNames}
 use Rattle.proc_table.specs.Procs.{IsAlive}
@@ -54,7 +60,7 @@ use Rattle.store_objects.proofs.Keeping.{listed_in}
 use Rattle.store_objects.proofs.Replies.{GoesOn}
 use Rattle.store_objects.proofs.RunningProcs.{has_key}
 use Rattle.store_objects.specs.FileMoves.{CachesWithin, FileMoves}
-use Rattle.store_objects.specs.FileWorlds.{HasTurned, LeavesCached, turned_in}
+use Rattle.store_objects.specs.FileWorlds.{HasTurned, LeavesCached, LocksFollow, turned_in}
 use Rattle.store_objects.proofs.Answered.{answered_holding, turned_files}
 use Rattle.store_objects.proofs.Forgetting.{forgotten}
 use Rattle.store_objects.proofs.FileMoving.{kept_turned, runs_turned}
@@ -95,6 +101,10 @@ keeps_some objects some = (some.files.tree, holders some.others some.files, some
 pub bound_still : (script : Script) (old : Objects) (heap : Heap) → AreKept script old → heap.socks ≡ old.heap.socks → AreBound (name_of heap.socks) old.names
 bound_still script old heap kept same = subst (λ (socks : List (Option Sock)). AreBound (name_of socks) old.names) (sym same) kept.bound
 
+-- where no lock of the heap is another, the chain is theirs still
+pub locked_still : (old : Objects) (heap : Heap) → heap.locks ≡ old.heap.locks → IsLockTable old.heap.locks old.locks → IsLockTable heap.locks old.locks
+locked_still old heap same locked = subst (λ (shelf : List (Option HeldLock)). IsLockTable shelf old.locks) (sym same) locked
+
 -- a call that leaves the heap leaves what is open, and takes nothing
 pub unchanged : (script : Script) (objects : Objects) (pid : ℕ) (control : Control) → AreKept script objects → Runs objects pid control → ChangesHolding objects.heap objects.heap objects.procs pid
 unchanged script objects pid control kept runs =
@@ -104,17 +114,26 @@ unchanged script objects pid control kept runs =
 pub takes_none : (h : Heap) → TakesNothing h h
 takes_none h = record { counts = λ class. le_refl _; high = refl; heap = refl; marks = refl }
 
+-- the chain of locks follows a call that closes, by what it says of its files
+pub closes_follow : (script : Script) (old : Objects) (heap : Heap) (fs : TreeView) (table : List (Option ℕ)) (fifos locks : Option ℕ) (pid : ℕ) (answer : Plain → Answer) (said : Reply) → IsWellFormed old.heap
+    → ((numbers : Numbers) (others : ℕ → ℕ) (plain : Plain) → HoldNames numbers others old.heap old.procs old.tree old.names plain.files
+    → AnswersClosing numbers others old.heap heap old.locks locks old.procs fs table script plain pid (answer plain) said)
+    → LocksFollow script old (record { heap = heap; procs = old.procs; tree = fs; names = table; fifos = fifos; locks = locks }) pid answer said
+closes_follow script old heap fs table fifos locks pid answer said well closes = λ world stands sound next is.
+    let it = closes stands.files.numbers (others_in world.plain) world.plain (holds_names script old world stands well sound) in
+    subst (λ (files : Files). HoldsLocks heap.locks locks files.locks) (sym (ap (files_in world.plain.files) (sym is ∙ it.answers.replies))) (it.locks stands.locks)
+
 -- ---- what they leave
 
-module _ (script : Script) (old : Objects) (heap : Heap) (fs : TreeView) (table : List (Option ℕ)) (fifos : Option ℕ) (pid : ℕ) (control : Control) (kept : AreKept script old) (runs : Runs old pid control)
-    (changes : ChangesHolding old.heap heap old.procs pid) (listed : AreListed heap old.procs) (owners : HasItsOwners heap []) (chain : IsChain heap fifos) (bound : AreBound (name_of heap.socks) table)
+module _ (script : Script) (old : Objects) (heap : Heap) (fs : TreeView) (table : List (Option ℕ)) (fifos locks : Option ℕ) (pid : ℕ) (control : Control) (kept : AreKept script old) (runs : Runs old pid control)
+    (changes : ChangesHolding old.heap heap old.procs pid) (listed : AreListed heap old.procs) (owners : HasItsOwners heap []) (chain : IsChain heap fifos) (locked : IsLockTable heap.locks locks) (bound : AreBound (name_of heap.socks) table)
     (places : length table ≡ length old.names) (some : HoldSome heap old.procs fs) where
   -- the objects mid
   abbrev pub mid : Objects
-  mid = record { heap = heap; procs = old.procs; tree = fs; names = table; fifos = fifos }
+  mid = record { heap = heap; procs = old.procs; tree = fs; names = table; fifos = fifos; locks = locks }
 
   pub moves : FileMoves old mid
-  moves = moves_holding old mid pid refl changes kept.holds (alive_who_runs old pid control runs) listed owners bound places (keeps_some mid some) chain
+  moves = moves_holding old mid pid refl changes kept.holds (alive_who_runs old pid control runs) listed owners bound places (keeps_some mid some) chain locked
 
   pub kept_mid : AreKept script mid
   kept_mid = kept_turned script old mid kept moves
@@ -128,31 +147,32 @@ module _ (script : Script) (old : Objects) (heap : Heap) (fs : TreeView) (table 
     pub serves_naming : ((numbers : Numbers) (others : ℕ → ℕ) (plain : Plain) → HoldNames numbers others old.heap old.procs old.tree old.names plain.files
         → AnswersNaming numbers others heap old.procs fs table script plain pid (answer plain) said)
         → ((world : World) (next : Plain) → StandsFor script old world → LeavesCached old mid world pid which said next)
-        → Serves script old pid which answer told new
-    serves_naming answers cached =
+        → LocksFollow script old mid pid answer said → Serves script old pid which answer told new
+    serves_naming answers cached follow =
         serves script old mid new pid which said told within tells answer moves goes
         (λ world stands sound alive.
         let it = answers stands.files.numbers (others_in world.plain) world.plain (holds_names script old world stands well sound) in
         answered_holding script old mid world stands pid which said (answer world.plain) stands.files.numbers (memory_holding old mid pid refl changes kept.holds)
         queues (λ key used. refl) (λ key used. refl) (none world.account.frames) (record { files = it.files; replies = it.replies; holds = it.holds.held })
-        (cached world (with_files world.plain it.files) stands))
+        (cached world (with_files world.plain it.files) stands)) follow
 
     -- and where names of sockets have no part in it
     pub serves_holding : ((numbers : Numbers) (others : ℕ → ℕ) (plain : Plain) → HoldFiles numbers others old.heap old.procs old.tree plain.files
         → AnswersHolding numbers others heap old.procs fs script plain pid (answer plain) said)
         → ((world : World) (next : Plain) → StandsFor script old world → LeavesCached old mid world pid which said next)
-        → Serves script old pid which answer told new
-    serves_holding answers cached =
+        → LocksFollow script old mid pid answer said → Serves script old pid which answer told new
+    serves_holding answers cached follow =
         serves script old mid new pid which said told within tells answer moves goes
         (λ world stands sound alive.
         let it = answers stands.files.numbers (others_in world.plain) world.plain (holds_files script old world stands well sound) in
         answered_holding script old mid world stands pid which said (answer world.plain) stands.files.numbers (memory_holding old mid pid refl changes kept.holds)
-        queues (λ key used. refl) (λ key used. refl) (none world.account.frames) it (cached world (with_files world.plain it.files) stands))
+        queues (λ key used. refl) (λ key used. refl) (none world.account.frames) it (cached world (with_files world.plain it.files) stands)) follow
 
   -- ---- an open
 
   module _ (which : Call) (told : Turned) (new : Objects) (answer : Plain → Answer) (well : IsWellFormed old.heap) (within : CachesWithin old mid which)
-      (queues : QueuesStand old.heap heap) (none : (frames : Frames) (said : Reply) → frames_after frames pid which said ≡ frames) where
+      (queues : QueuesStand old.heap heap) (none : (frames : Frames) (said : Reply) → frames_after frames pid which said ≡ frames)
+      (stay : LocksStay old mid) (leaves : (plain : Plain) → LeavesLocks plain (answer plain)) where
     -- what it came to, by the store's numbers
     abbrev Answers : Result Opened Errno → World → Numbers → Type 0
     Answers came world numbers = AnswersOpening numbers (others_in world.plain) old.heap heap old.procs fs script world.plain pid (answer world.plain) came
@@ -170,6 +190,7 @@ module _ (script : Script) (old : Objects) (heap : Heap) (fs : TreeView) (table 
         answered_holding script old mid world stands pid which said (answer world.plain) it.now (memory_holding old mid pid refl changes kept.holds)
         queues it.keeps.pipes it.keeps.socks (none world.account.frames said)
         (record { files = it.files; replies = replies world (stands.files.numbers, it); holds = it.holds }) (cached world stands it))
+        (locks_follow script old mid pid answer said stay leaves)
 
     -- its account goes on with its files, also where its caller sleeps in it then
     begun_account : (world : World) → StandsFor script old world → (files : Files) (opening : Option HalfOpen)
@@ -193,13 +214,14 @@ module _ (script : Script) (old : Objects) (heap : Heap) (fs : TreeView) (table 
         serves_begun script old mid new pid which (half_in opening) told within tells answer moves goes
         (λ world stands sound alive.
         let it = answers stands.files.numbers (others_in world.plain) world.plain stands.processes.table (holds_files script old world stands well sound) in
-        let leaves = cached world stands it in
+        let left = cached world stands it in
         record {
           next = with_files world.plain it.files;
           begins = it.answers;
           turned = subst (λ (account : Account). HasTurned mid world (turned_in mid (with_files world.plain it.files) account))
               (begun_account world stands it.files (Some (half_in opening)) ∙ ap (account_after world.account world.plain pid which) (sym it.answers))
               (turned_files script old mid world stands pid which (Val (pos 0)) it.files it.now (memory_holding old mid pid refl changes kept.holds) queues it.keeps.pipes it.keeps.socks it.holds);
-          untouched = leaves.0;
-          known = leaves.1;
+          untouched = left.0;
+          known = left.1;
         })
+        stay leaves

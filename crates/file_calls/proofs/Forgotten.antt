@@ -2,6 +2,7 @@
 use Rattle.std.proofs.Common.{◌≡◌, ℕ, ◌==◌, Bool, true, false, cond, List, [], ◌∷◌, map, length, None, Some, refl, ap, sym, ◌∙◌, subst}
 use Rattle.std.specs.List.{AllByRecursion}
 use Rattle.std.specs.Option.{option_map}
+use Rattle.store_objects.proofs.LockedOn.{holds_on, stay_moved}
 use Rattle.kabi_types.specs.declared.scripts.Control.{Control}
 use Rattle.kabi_types.specs.declared.scripts.Script.{Script}
 use Rattle.kheap_slabs.specs.declared.objects.Proc.{Proc}
@@ -82,10 +83,10 @@ but_nodes pid proc = by_pid (proc.pid == pid)
 -- ---- the store
 
 module _ (script : Script) (old new : Objects) (pid : ℕ) (same : new.procs ≡ old.procs) (tree : new.tree ≡ old.tree) (names : new.names ≡ old.names) (fifos : new.fifos ≡ old.fifos)
-    (are : procs_of new ≡ map (cleared pid) (procs_of old)) (moves : TableMoves old.heap old.procs new.heap new.procs) where
+    (locks : new.locks ≡ old.locks) (are : procs_of new ≡ map (cleared pid) (procs_of old)) (moves : TableMoves old.heap old.procs new.heap new.procs) where
   pub kept_forgotten : AreKept script old → AreKept script new
   kept_forgotten kept =
-      kept_on script old new kept tree names fifos moves
+      kept_on script old new kept tree names fifos locks moves
       (subst (HoldLeaves new.heap.leaves) (sym are) (subst (λ leaves. HoldLeaves leaves (map (cleared pid) (procs_of old))) (sym (ap (λ (h : Heap). h.leaves) moves.kept)) (hold_nodes old.heap pid no_nodes (procs_of old) kept.leaves)))
       (subst (AllByRecursion (λ proc. length proc.nodes ≡ 4)) (sym are) (all_cleared (λ proc. length proc.nodes ≡ 4) pid (procs_of old) (λ proc long. refl) kept.groups))
       (subst (AreAtCalls script) (sym are)
@@ -140,6 +141,7 @@ module _ (script : Script) (old new : Objects) (pid : ℕ) (same : new.procs ≡
       };
       memory = memory;
       files = files;
+      locks = holds_on old new (stay_moved old new moves locks) world.plain.files.locks stands.locks;
       tree = tree_goes_on script old new world (forgotten_in world pid) stands refl works
           (record { tree = tree; names = names; caches = moved_caches old.heap new.heap old.procs new.procs moves }) refl refl refl;
       family = remembers_family world.plain.table pid no_memory stands.family;

@@ -1,5 +1,6 @@
 -- A process has closed what an exec closes.
 use Rattle.std.proofs.Common.{◌≡◌, ℕ, ◌+◌, ◌≤◌, List, [], Option, length, pos, refl, ap, sym, subst, arith}
+use Rattle.lock_table.specs.Chain.{HoldsLocks, IsLockTable}
 use Rattle.fifo_nodes.specs.Chain.{IsChain}
 use Rattle.kabi_types.specs.declared.calls.Call.TheVariants as call
 use Rattle.kabi_types.specs.declared.scripts.Script.{Script}
@@ -33,26 +34,29 @@ use Rattle.store_objects.proofs.Staying.{memory_holding, moves_holding}
 use Rattle.file_calls.specs.Starting.{CachesShed, shed_in}
 use Rattle.file_calls.proofs.CallingOpens.{keeps_some}
 
-module _ (script : Script) (old : Objects) (heap : Heap) (fs : TreeView) (table : List (Option ℕ)) (fifos : Option ℕ) (pid : ℕ) (kept : AreKept script old) (alive : IsAlive (procs_of old) pid)
-    (changes : ChangesHolding old.heap heap old.procs pid) (listed : AreListed heap old.procs) (owners : HasItsOwners heap []) (chain : IsChain heap fifos) (places : length table ≡ length old.names)
+module _ (script : Script) (old : Objects) (heap : Heap) (fs : TreeView) (table : List (Option ℕ)) (fifos locks : Option ℕ) (pid : ℕ) (kept : AreKept script old) (alive : IsAlive (procs_of old) pid)
+    (changes : ChangesHolding old.heap heap old.procs pid) (listed : AreListed heap old.procs) (owners : HasItsOwners heap []) (chain : IsChain heap fifos) (locked : IsLockTable heap.locks locks) (places : length table ≡ length old.names)
     (some : HoldSomeNames heap old.procs fs table) where
   abbrev new : Objects
-  new = record { heap = heap; procs = old.procs; tree = fs; names = table; fifos = fifos }
+  new = record { heap = heap; procs = old.procs; tree = fs; names = table; fifos = fifos; locks = locks }
 
   pub moves_shed : FileMoves old new
   moves_shed = moves_holding old new pid refl changes kept.holds alive listed owners some.hold.bound places
-      (keeps_some new (record { numbers = some.numbers; others = some.others; files = some.files; hold = some.hold.held })) chain
+      (keeps_some new (record { numbers = some.numbers; others = some.others; files = some.files; hold = some.hold.held })) chain locked
 
   -- The store stands for the worlds in which it has closed them.
   pub stands_shed : QueuesStand old.heap heap → IsWellFormed old.heap
       → ((numbers : Numbers) (others : ℕ → ℕ) (files : Files) → HoldNames numbers others old.heap old.procs old.tree old.names files
       → HoldNames numbers others heap old.procs fs table (after_exec_of files pid))
+      → ((numbers : Numbers) (others : ℕ → ℕ) (files : Files) → HoldNames numbers others old.heap old.procs old.tree old.names files
+      → HoldsLocks old.heap.locks old.locks files.locks → HoldsLocks heap.locks locks (after_exec_of files pid).locks)
       → (world : World) → StandsFor script old world → IsSound world.plain → StandsFor script new (shed_in fs world pid)
-  stands_shed queues well closed world stands sound =
+  stands_shed queues well closed unlocks world stands sound =
       let holds : HoldNames stands.files.numbers (others_in world.plain) old.heap old.procs old.tree old.names world.plain.files = holds_names script old world stands well sound in
       stands_turned script old new world (shed_in fs world pid) stands moves_shed
       (turned_files script old new world stands pid call.Getpid (Val (pos 0)) (after_exec_of world.plain.files pid) stands.files.numbers (memory_holding old new pid refl changes kept.holds)
       queues (λ key used. refl) (λ key used. refl) (closed stands.files.numbers (others_in world.plain) world.plain.files holds).held)
+      (unlocks stands.files.numbers (others_in world.plain) world.plain.files holds stands.locks)
 
 -- ---- what is cached
 

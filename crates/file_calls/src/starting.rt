@@ -131,6 +131,7 @@ fn shed(script: &Script, objects: &mut Objects, place: Place)
         &mut objects.tree,
         &mut objects.names,
         &mut objects.fifos,
+        &mut objects.locks,
         place,
     );
 }

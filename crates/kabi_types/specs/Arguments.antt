@@ -1,12 +1,12 @@
 -- The argument check: what is wrong with the operands of a call, before anything else is looked at.
-use Rattle.std.specs.Prelude.{ℕ, ◌+◌, ◌%◌, ◌==◌, ℤ, pos, negsuc, Bool, false, not, ◌&&◌, ◌||◌, nat_le, nat_lt, if◌then◌else◌, List, length, Option, None, Some}
+use Rattle.std.specs.Prelude.{ℕ, ◌+◌, ◌-◌, ◌%◌, ◌==◌, ℤ, pos, negsuc, Bool, false, not, ◌&&◌, ◌||◌, nat_le, nat_lt, if◌then◌else◌, List, length, Option, None, Some}
 use Rattle.std.specs.List.{list_any}
 use Rattle.std.specs.Option.{option_or}
 use Rattle.std.specs.Int.RustNames.{bit_and}
 use Rattle.kabi_types.specs.declared.calls.Call.{Call}
 use Rattle.kabi_types.specs.declared.calls.Call.TheVariants as call
 use Rattle.kabi_types.specs.declared.errnos.Errno.{Errno}
-use Rattle.kabi_types.specs.declared.errnos.Errno.TheVariants.{EINVAL, EFAULT, ENOENT, ENAMETOOLONG}
+use Rattle.kabi_types.specs.declared.errnos.Errno.TheVariants.{EINVAL, EFAULT, ENOENT, ENAMETOOLONG, EOVERFLOW}
 use Rattle.kabi_types.specs.OpenFlags.{are_open_flags}
 use Rattle.kabi_types.specs.PathParts.{components, is_long, ends_in_dots}
 
@@ -102,6 +102,20 @@ loaded_fault addr n = option_or (invalid_unless (is_within 0 64 n)) (range_fault
 abbrev pub open_fault : List ℕ → ℤ → Option Errno
 open_fault path flags = option_or (invalid_unless (are_open_flags flags && not (truncates_unwritten flags))) (path_fault path)
 
+-- the greatest place of a file that a process may hold
+abbrev pub greatest_place : ℕ
+greatest_place = 9223372036854775807
+
+-- the last of so many places from a start on; of 0 places the greatest that there is
+abbrev pub last_place : ℕ → ℕ → ℕ
+last_place start length = if length == 0 then greatest_place else start + length - 1
+
+-- F_RDLCK 0 and F_WRLCK 1, and up to 2, where it may be asked for, F_UNLCK; then the places end at one that there is
+abbrev pub locked_fault : ℕ → ℤ → ℤ → ℤ → Option Errno
+locked_fault most kind start length =
+    option_or (invalid_unless (is_within 0 most kind && (is_from 0 start && is_from 0 length)))
+    (if nat_lt greatest_place (count_of start + (count_of length - 1)) then Some EOVERFLOW else None)
+
 -- neither path of `rename` ends in `.` or `..`
 abbrev pub renamed_fault : List ℕ → List ℕ → Option Errno
 renamed_fault old new = option_or (paths_fault old new) (invalid_unless (not (ends_in_dots old || ends_in_dots new)))
@@ -151,3 +165,6 @@ argument_fault (call.Shutdown _ how) = invalid_unless (is_within 0 2 how)
 argument_fault (call.Poll timeout _) = invalid_unless (is_number 0 timeout || is_minus_one timeout)
 argument_fault (call.Signal signal disposition) = invalid_unless (may_be_ignored signal && is_within 0 1 disposition)
 argument_fault (call.Mkfifo path) = path_fault path
+argument_fault (call.Setlk _ kind start length) = locked_fault 2 kind start length
+argument_fault (call.Setlkw _ kind start length) = locked_fault 2 kind start length
+argument_fault (call.Getlk _ kind start length) = locked_fault 1 kind start length

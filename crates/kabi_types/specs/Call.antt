@@ -50,6 +50,9 @@ kind_of (call.Shutdown _ _) = kind.Shutdown
 kind_of (call.Poll _ _) = kind.Poll
 kind_of (call.Signal _ _) = kind.Signal
 kind_of (call.Mkfifo _) = kind.Mkfifo
+kind_of (call.Setlk _ _ _ _) = kind.Setlk
+kind_of (call.Setlkw _ _ _ _) = kind.Setlkw
+kind_of (call.Getlk _ _ _ _) = kind.Getlk
 
 -- every call, in the order of `Call`
 abbrev pub all_kinds : List CallKind
@@ -59,4 +62,4 @@ all_kinds =
     ∷ kind.Fcntl ∷ kind.Read ∷ kind.Write ∷ kind.Pread ∷ kind.Pwrite ∷ kind.Lseek ∷ kind.Readdir ∷ kind.Ftruncate
     ∷ kind.Fstat ∷ kind.Stat ∷ kind.Chdir ∷ kind.Mkdir ∷ kind.Rmdir ∷ kind.Unlink ∷ kind.Link ∷ kind.Rename
     ∷ kind.Pipe ∷ kind.Socket ∷ kind.Socketpair ∷ kind.Bind ∷ kind.Listen ∷ kind.Connect ∷ kind.Accept ∷ kind.Shutdown
-    ∷ kind.Poll ∷ kind.Signal ∷ kind.Mkfifo ∷ []
+    ∷ kind.Poll ∷ kind.Signal ∷ kind.Mkfifo ∷ kind.Setlk ∷ kind.Setlkw ∷ kind.Getlk ∷ []

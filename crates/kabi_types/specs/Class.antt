@@ -7,7 +7,7 @@ use Rattle.kabi_types.specs.declared.classes.Class.TheVariants as class
 abbrev pub all_classes : List Class
 all_classes =
     class.Proc ∷ class.Node ∷ class.Page ∷ class.Desc ∷ class.Vnode ∷ class.Name ∷ class.Block ∷ class.Pipe ∷ class.Chunk ∷ class.Sock
-    ∷ class.Leaf ∷ []
+    ∷ class.Leaf ∷ class.Lock ∷ []
 
 -- how many bytes of kernel heap an object of a class takes
 abbrev pub size : Class → ℕ
@@ -22,3 +22,4 @@ size class.Pipe = 128
 size class.Chunk = 576
 size class.Sock = 128
 size class.Leaf = 256
+size class.Lock = 64

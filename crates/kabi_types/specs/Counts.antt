@@ -19,6 +19,7 @@ counted need class.Pipe = need.pipe
 counted need class.Chunk = need.chunk
 counted need class.Sock = need.sock
 counted need class.Leaf = need.leaf
+counted need class.Lock = need.lock
 
 -- the same counts, with another one for a class
 abbrev pub with_count : Need → Class → ℕ → Need
@@ -33,6 +34,7 @@ with_count need class.Pipe count = record need { pipe = count }
 with_count need class.Chunk count = record need { chunk = count }
 with_count need class.Sock count = record need { sock = count }
 with_count need class.Leaf count = record need { leaf = count }
+with_count need class.Lock count = record need { lock = count }
 
 -- the bytes that so many objects of a class take
 abbrev pub class_bytes : Need → Class → ℕ

@@ -1,6 +1,6 @@
 //! The argument check: what is wrong with the operands of a call, before anything else is looked at.
 
-ghost use Rattle.std.specs.Prelude.{◌≡◌, ◌&&◌, ◌||◌, not, is_none};
+ghost use Rattle.std.specs.Prelude.{◌≡◌, ◌<◌, ◌^◌, ◌&&◌, ◌||◌, not, is_none};
 ghost use Rattle.std.specs.Result.{result_err};
 ghost use Rattle.kabi_types.specs.Arguments.{
   argument_fault,
@@ -21,6 +21,8 @@ ghost use Rattle.kabi_types.specs.Arguments.{
   placed_fault,
   loaded_fault,
   open_fault,
+  last_place,
+  locked_fault,
   renamed_fault,
 };
 ghost use Rattle.kabi_types.specs.OpenFlags.{are_open_flags};
@@ -40,6 +42,9 @@ const SSIZE_MAX: u32 = 32767;
 
 /// How many descriptors a process has, OPEN_MAX: their numbers are those below it.
 pub const MOST_DESCRIPTORS: u32 = 128;
+
+/// The greatest place of a file that a process may hold.
+const GREATEST_PLACE: u64 = 9223372036854775807;
 
 /// The flag O_TRUNC of `open`, and the bits of its access mode, which is 0 where the file is only read.
 const TRUNC: u64 = 512;
@@ -66,7 +71,8 @@ fn may_be_descriptor(number: i64) -> bool
 
 /// The number of bytes that an operand gives, and 0 for one below 0.
 fn count_of(number: i64) -> u64
-    ensures { result ≡ count_of number }
+    ensures count { result ≡ count_of number }
+    ensures below { result < 2 ^ 63 }
 {
     u64::try_from(number).unwrap_or(0)
 }
@@ -169,6 +175,30 @@ fn truncates_unwritten(flags: i64) -> bool
     u64::try_from(flags).is_ok_and(|bits| bits & TRUNC == TRUNC && bits & ACCESS == 0)
 }
 
+/// The last of so many places of a file from a start on; of 0 places the greatest that there is.
+pub fn last_place(start: u64, length: u64) -> u64
+    requires start { start < 2 ^ 63 }
+    requires length { length < 2 ^ 63 }
+    ensures { result ≡ last_place start length }
+{
+    if length == 0 {
+        GREATEST_PLACE
+    } else {
+        start + length - 1
+    }
+}
+
+/// The check of a call on places of a file that a process holds: the greatest kind that it takes is F_WRLCK or F_UNLCK.
+fn check_locked(most: u32, kind: i64, start: i64, length: i64) -> Result<(), Errno>
+    ensures { result_err result ≡ locked_fault most kind start length }
+{
+    invalid_unless(is_within(0, most, kind) && is_from(0, start) && is_from(0, length))?;
+    if count_of(start) + count_of(length).saturating_sub(1) > GREATEST_PLACE {
+        return Err(Errno::EOVERFLOW);
+    }
+    Ok(())
+}
+
 /// The check of two paths, which `rename` doesn't take where the last component is `.` or `..`.
 fn check_renamed(old: &Path, new: &Path) -> Result<(), Errno>
     ensures { result_err result ≡ renamed_fault old.now new.now }
@@ -215,6 +245,24 @@ impl Call {
             Call::Shutdown { how, .. } => invalid_unless(is_within(0, 2, *how)),
             Call::Ftruncate { length, .. } => invalid_unless(is_from(0, *length)),
             Call::Poll { timeout, .. } => invalid_unless(matches!(*timeout, 0 | -1)),
+            Call::Setlk {
+                kind,
+                start,
+                length,
+                ..
+            }
+            | Call::Setlkw {
+                kind,
+                start,
+                length,
+                ..
+            } => check_locked(2, *kind, *start, *length),
+            Call::Getlk {
+                kind,
+                start,
+                length,
+                ..
+            } => check_locked(1, *kind, *start, *length),
             Call::Exec { path }
             | Call::Stat { path }
             | Call::Chdir { path }

@@ -154,6 +154,27 @@ pub enum Call {
     Mkfifo {
         path: Path,
     },
+    /// `fcntl` with F_SETLK, from the file's start.
+    Setlk {
+        fd: i64,
+        kind: i64,
+        start: i64,
+        length: i64,
+    },
+    /// `fcntl` with F_SETLKW, from the file's start.
+    Setlkw {
+        fd: i64,
+        kind: i64,
+        start: i64,
+        length: i64,
+    },
+    /// `fcntl` with F_GETLK, from the file's start.
+    Getlk {
+        fd: i64,
+        kind: i64,
+        start: i64,
+        length: i64,
+    },
 }
 
 /// Which call it is, without its operands.
@@ -202,11 +223,14 @@ pub enum CallKind {
     Poll,
     Signal,
     Mkfifo,
+    Setlk,
+    Setlkw,
+    Getlk,
 }
 
 impl CallKind {
     /// Every call, in the order of `Call`.
-    pub const ALL: [CallKind; 43] = [
+    pub const ALL: [CallKind; 46] = [
         CallKind::Getpid,
         CallKind::Getppid,
         CallKind::SchedYield,
@@ -250,6 +274,9 @@ impl CallKind {
         CallKind::Poll,
         CallKind::Signal,
         CallKind::Mkfifo,
+        CallKind::Setlk,
+        CallKind::Setlkw,
+        CallKind::Getlk,
     ];
 }
 
@@ -304,6 +331,9 @@ impl Call {
             Call::Poll { .. } => CallKind::Poll,
             Call::Signal { .. } => CallKind::Signal,
             Call::Mkfifo { .. } => CallKind::Mkfifo,
+            Call::Setlk { .. } => CallKind::Setlk,
+            Call::Setlkw { .. } => CallKind::Setlkw,
+            Call::Getlk { .. } => CallKind::Getlk,
         }
     }
 }

@@ -26,11 +26,13 @@ pub enum Class {
     Sock,
     /// 32 further descriptors of a process, of which one is open.
     Leaf,
+    /// A range of a file that a process has locked.
+    Lock,
 }
 
 impl Class {
     /// All classes, in the order in which the price list has them.
-    pub const ALL: [Class; 11] = [
+    pub const ALL: [Class; 12] = [
         Class::Proc,
         Class::Node,
         Class::Page,
@@ -42,6 +44,7 @@ impl Class {
         Class::Chunk,
         Class::Sock,
         Class::Leaf,
+        Class::Lock,
     ];
 
     /// How many bytes of kernel heap an object takes.
@@ -60,6 +63,7 @@ impl Class {
             Class::Chunk => 576,
             Class::Sock => 128,
             Class::Leaf => 256,
+            Class::Lock => 64,
         }
     }
 }
@@ -78,6 +82,7 @@ pub struct Need {
     pub chunk: u32,
     pub sock: u32,
     pub leaf: u32,
+    pub lock: u32,
 }
 
 impl Need {
@@ -97,6 +102,7 @@ impl Need {
             Class::Chunk => self.chunk,
             Class::Sock => self.sock,
             Class::Leaf => self.leaf,
+            Class::Lock => self.lock,
         }
     }
 
@@ -116,6 +122,7 @@ impl Need {
             Class::Chunk => self.chunk = count,
             Class::Sock => self.sock = count,
             Class::Leaf => self.leaf = count,
+            Class::Lock => self.lock = count,
         }
         self
     }

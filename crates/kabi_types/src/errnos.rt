@@ -50,6 +50,8 @@ pub enum Errno {
     EMLINK,
     #[error("broken pipe")]
     EPIPE,
+    #[error("resource deadlock avoided")]
+    EDEADLK,
     #[error("file name too long")]
     ENAMETOOLONG,
     #[error("directory not empty")]
@@ -100,6 +102,7 @@ impl Errno {
             Errno::ESPIPE => 29,
             Errno::EMLINK => 31,
             Errno::EPIPE => 32,
+            Errno::EDEADLK => 35,
             Errno::ENAMETOOLONG => 36,
             Errno::ENOTEMPTY => 39,
             Errno::EOVERFLOW => 75,
@@ -140,6 +143,7 @@ impl Errno {
             Errno::ESPIPE => "ESPIPE",
             Errno::EMLINK => "EMLINK",
             Errno::EPIPE => "EPIPE",
+            Errno::EDEADLK => "EDEADLK",
             Errno::ENAMETOOLONG => "ENAMETOOLONG",
             Errno::ENOTEMPTY => "ENOTEMPTY",
             Errno::EOVERFLOW => "EOVERFLOW",

@@ -21,7 +21,7 @@ mod scripts;
 mod short_lists;
 mod words;
 
-pub use arguments::{MOST_DESCRIPTORS, may_wait};
+pub use arguments::{MOST_DESCRIPTORS, last_place, may_wait};
 pub use calls::{Call, CallKind};
 pub use classes::{Class, Need, Weight};
 pub use entries::{Cached, End, Entry, Event, Noted};

@@ -52,6 +52,9 @@ impl CallKind {
             CallKind::Poll => "poll",
             CallKind::Signal => "signal",
             CallKind::Mkfifo => "mkfifo",
+            CallKind::Setlk => "setlk",
+            CallKind::Setlkw => "setlkw",
+            CallKind::Getlk => "getlk",
         }
     }
 }

@@ -42,6 +42,7 @@ end_bare files pid bare = subst IsBare (sym (end_unopened files pid (bare.descri
   tree = bare.tree;
   pipes = bare.pipes;
   sockets = bare.sockets;
+  locks = bare.locks;
 })
 
 ends_bare : (files : Files) (pids : List ℕ) → IsBare files → IsBare (after_ends_of files pids)
@@ -72,6 +73,7 @@ heir_bare files pid bare = record {
   tree = bare.tree;
   pipes = bare.pipes;
   sockets = bare.sockets;
+  locks = bare.locks;
 }
   where
     each : (other : ℕ) → descriptors_of (with_heir files pid) other ≡ none_open
@@ -79,7 +81,7 @@ heir_bare files pid bare = record {
     each (suc n) = one_more files.descriptors (descriptors_of files pid) n (bare.descriptors pid) (λ k. bare.descriptors (suc k))
 
 pub boot_bare : (blocks : ℕ) → IsBare (boot_files blocks)
-boot_bare blocks = record { descriptors = each; descriptions = refl; tree = refl; pipes = refl; sockets = refl }
+boot_bare blocks = record { descriptors = each; descriptions = refl; tree = refl; pipes = refl; sockets = refl; locks = refl }
   where
     each : (pid : ℕ) → descriptors_of (boot_files blocks) pid ≡ none_open
     each zero = refl

@@ -44,6 +44,7 @@ SameOutside-refl keys h = record {
   chunks = λ _ _. refl;
   socks = λ _ _. refl;
   leaves = λ _ _. refl;
+  locks = λ _ _. refl;
 }
 
 pub SameOutside-trans : (first second : Keys) (a b c : Heap) → SameOutside first a b → SameOutside second b c → SameOutside (both_keys first second) a c
@@ -59,4 +60,5 @@ SameOutside-trans first second a b c one two = record {
   chunks = KeepsOutside-trans first.chunks second.chunks a.chunks b.chunks c.chunks one.chunks two.chunks;
   socks = KeepsOutside-trans first.socks second.socks a.socks b.socks c.socks one.socks two.socks;
   leaves = KeepsOutside-trans first.leaves second.leaves a.leaves b.leaves c.leaves one.leaves two.leaves;
+  locks = KeepsOutside-trans first.locks second.locks a.locks b.locks c.locks one.locks two.locks;
 }

@@ -1,4 +1,4 @@
--- The heap: eleven finite maps from key to object, and the bytes that the objects take.
+-- The heap: twelve finite maps from key to object, and the bytes that the objects take.
 use Rattle.std.specs.Prelude.{◌≡◌, ℕ, ◌+◌, ◌/◌, ◌≤◌, List, Option, None, Some, length, max, replicate}
 use Rattle.kabi_types.specs.Class.{size}
 use Rattle.kabi_types.specs.declared.classes.Class.{Class}
@@ -17,6 +17,7 @@ use Rattle.kheap_slabs.specs.declared.objects.Pipe.{Pipe}
 use Rattle.kheap_slabs.specs.declared.objects.Chunk.{Chunk}
 use Rattle.kheap_slabs.specs.declared.objects.Sock.{Sock}
 use Rattle.kheap_slabs.specs.declared.objects.Leaf.{Leaf}
+use Rattle.kheap_slabs.specs.declared.objects.Lock.{Lock}
 
 -- the object of each key of each class, how many bytes there are, the most that were taken since the last mark, how many
 -- marks there were, modulo 2 ^ 64, and what the most since the mark before was when the last one was made
@@ -32,6 +33,7 @@ pub record Heap : Type 0 where
   pub chunks : List (Option Chunk)
   pub socks : List (Option Sock)
   pub leaves : List (Option Leaf)
+  pub locks : List (Option Lock)
   pub heap : ℕ
   pub high : ℕ
   pub marks : ℕ
@@ -51,6 +53,7 @@ counts_of h = record {
   chunk = count h.chunks;
   sock = count h.socks;
   leaf = count h.leaves;
+  lock = count h.locks;
 }
 
 -- the bytes that all objects take
@@ -85,6 +88,7 @@ empty_heap heap = record {
   chunks = replicate (heap / size class.Chunk) None;
   socks = replicate (heap / size class.Sock) None;
   leaves = replicate (heap / size class.Leaf) None;
+  locks = replicate (heap / size class.Lock) None;
   heap = heap;
   high = 0;
   marks = 0;

@@ -20,6 +20,7 @@ heap_of k = record {
   chunks = k.queues.chunks;
   socks = k.queues.socks;
   leaves = k.memory.leaves;
+  locks = k.locks;
   heap = k.meter.heap;
   high = k.meter.high;
   marks = k.meter.marks;
@@ -40,6 +41,7 @@ keys_of h = record {
   chunk = length h.chunks;
   sock = length h.socks;
   leaf = length h.leaves;
+  lock = length h.locks;
 }
 
 -- as many of each class as would fill the heap
@@ -56,6 +58,7 @@ fitting heap = record {
   chunk = heap / size class.Chunk;
   sock = heap / size class.Sock;
   leaf = heap / size class.Leaf;
+  lock = heap / size class.Lock;
 }
 
 -- the counter has the bytes that all objects take, and each class has keys for as many objects as would fill the heap

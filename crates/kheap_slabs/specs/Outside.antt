@@ -21,10 +21,24 @@ pub record Keys : Type 0 where
   pub chunks : List ℕ
   pub socks : List ℕ
   pub leaves : List ℕ
+  pub locks : List ℕ
 
 -- no keys
 abbrev pub no_keys : Keys
-no_keys = record { procs = []; nodes = []; pages = []; descs = []; vnodes = []; names = []; blocks = []; pipes = []; chunks = []; socks = []; leaves = [] }
+no_keys = record {
+  procs = [];
+  nodes = [];
+  pages = [];
+  descs = [];
+  vnodes = [];
+  names = [];
+  blocks = [];
+  pipes = [];
+  chunks = [];
+  socks = [];
+  leaves = [];
+  locks = [];
+}
 
 -- the keys of both
 abbrev pub both_keys : Keys → Keys → Keys
@@ -40,6 +54,7 @@ both_keys a b = record {
   chunks = a.chunks ++ b.chunks;
   socks = a.socks ++ b.socks;
   leaves = a.leaves ++ b.leaves;
+  locks = a.locks ++ b.locks;
 }
 
 -- every key of every class but these names the object that it named
@@ -55,3 +70,4 @@ pub record SameOutside (keys : Keys) (old new : Heap) : Type 0 where
   pub chunks : KeepsOutside keys.chunks old.chunks new.chunks
   pub socks : KeepsOutside keys.socks old.socks new.socks
   pub leaves : KeepsOutside keys.leaves old.leaves new.leaves
+  pub locks : KeepsOutside keys.locks old.locks new.locks

@@ -4,12 +4,13 @@ ghost use Rattle.kabi_types.specs.declared.classes.Class.TheVariants as class;
 ghost use Rattle.kheap_slabs.specs.Heap.{live_bytes, empty_heap, IsWellFormed};
 
 mod files;
+mod locks;
 mod memory;
 mod queues;
 
 use crate::meter::Meter;
 use crate::shelf::Shelf;
-use crate::{Block, Chunk, Desc, Leaf, Name, Node, Page, Pipe, Proc, Sock, Vnode};
+use crate::{Block, Chunk, Desc, Leaf, Lock, Name, Node, Page, Pipe, Proc, Sock, Vnode};
 use kabi_types::{Class, Memory};
 use std::alloc::Global;
 use std::marker::Model;
@@ -24,6 +25,7 @@ pub struct KHeap {
     memory: MemoryShelves,
     files: FileShelves,
     queues: QueueShelves,
+    locks: Shelf<Lock>,
     meter: Meter,
 }
 
@@ -136,6 +138,7 @@ impl KHeap {
         ensures empty { IfOk result (λ made. made ≡ empty_heap heap) }
         ensures live { IfOk result (λ made. live_bytes made ≡ 0) }
     {
+        let locks = shelf_of(alloc, heap, Class::Lock.bytes())?;
         let memory = MemoryShelves::boot(alloc, heap)?;
         let queues = QueueShelves::boot(alloc, heap)?;
         let files = FileShelves::boot(alloc, heap)?;
@@ -143,6 +146,7 @@ impl KHeap {
             memory,
             files,
             queues,
+            locks,
             meter: Meter {
                 heap,
                 live: 0,

@@ -1,4 +1,4 @@
-//! The kernel heap: eleven shelves of objects by class under keys of their own, the meter of the bytes that they take and of
+//! The kernel heap: twelve shelves of objects by class under keys of their own, the meter of the bytes that they take and of
 //! the most that they took since the heap was marked, and the purse of a call.
 #![tactic(auto)]
 
@@ -10,7 +10,7 @@ mod shelf;
 
 pub use kheap::KHeap;
 pub use objects::{
-    Access, Block, Chunk, Desc, DescFlags, Descriptor, HalfOpen, Leaf, Name, Node, Page, PageEntry,
-    Pipe, Proc, QueueParts, Sock, SockState, Target, Vnode,
+    Access, Block, Chunk, Desc, DescFlags, Descriptor, HalfOpen, Leaf, Lock, Name, Node, Page,
+    PageEntry, Pipe, Proc, QueueParts, Sock, SockState, Target, Vnode,
 };
 pub use purse::Purse;

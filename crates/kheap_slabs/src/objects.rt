@@ -1,4 +1,5 @@
 use kabi_types::{Control, Inode, Name27};
+use lock_ranges::Range;
 
 /// A process. It stays after its end until its parent has waited for it.
 #[derive(Clone, Copy)]
@@ -140,6 +141,18 @@ pub struct Block {
     /// Its number on the disk.
     pub number: u32,
     pub bytes: [u8; 1024],
+}
+
+/// A range of a file that a process has locked.
+#[derive(Clone, Copy)]
+pub struct Lock {
+    /// The process.
+    pub pid: u32,
+    /// The number of the file's node.
+    pub node: u32,
+    pub range: Range,
+    /// The key of the next Lock.
+    pub next: Option<u32>,
 }
 
 /// A pipe.

@@ -4,3 +4,4 @@ pub mod Meaning
 pub mod Shape
 pub mod Unique
 pub mod Conflicts
+pub mod Widening

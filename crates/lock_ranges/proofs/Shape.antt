@@ -11,11 +11,11 @@ use Rattle.lock_ranges.proofs.Meaning.{AreFull, before_cut, before_out, behind_c
 
 -- ---- facts of each range
 
-weaker : (P Q : Range → Type 0) → ((range : Range) → P range → Q range) → (ranges : List Range) → AllByRecursion P ranges → AllByRecursion Q ranges
+pub weaker : (P Q : Range → Type 0) → ((range : Range) → P range → Q range) → (ranges : List Range) → AllByRecursion P ranges → AllByRecursion Q ranges
 weaker P Q leads [] all = tt
 weaker P Q leads (range ∷ ranges) all = (leads range all.0, weaker P Q leads ranges all.1)
 
-all_append : (P : Range → Type 0) (ranges others : List Range) → AllByRecursion P ranges → AllByRecursion P others → AllByRecursion P (ranges ++ others)
+pub all_append : (P : Range → Type 0) (ranges others : List Range) → AllByRecursion P ranges → AllByRecursion P others → AllByRecursion P (ranges ++ others)
 all_append P [] others all more = more
 all_append P (range ∷ ranges) others all more = (all.0, all_append P ranges others all.1 more)
 
@@ -45,7 +45,7 @@ AreFull-rising (range ∷ ranges) rising = (rising.0, AreFull-rising ranges risi
 
 -- ---- a range that ends earlier, or begins later
 
-lies-earlier : (range part next : Range) → part.kind ≡ range.kind → part.last ≤ range.last → LiesBefore range next → LiesBefore part next
+pub lies-earlier : (range part next : Range) → part.kind ≡ range.kind → part.last ≤ range.last → LiesBefore range next → LiesBefore part next
 lies-earlier range part next same earlier lies =
     let first : range.last < next.start = lies.0 in (
       omega arith,
@@ -57,7 +57,7 @@ lies-earlier range part next same earlier lies =
       ],
     )
 
-lies-later : (range next part : Range) → part.kind ≡ next.kind → next.start ≤ part.start → LiesBefore range next → LiesBefore range part
+pub lies-later : (range next part : Range) → part.kind ≡ next.kind → next.start ≤ part.start → LiesBefore range next → LiesBefore range part
 lies-later range next part same later lies =
     let first : range.last < next.start = lies.0 in (
       omega arith,
@@ -70,7 +70,7 @@ lies-later range next part same later lies =
     )
 
 -- one that begins two places behind
-lies-apart : (range next : Range) → range.last + 1 < next.start → LiesBefore range next
+pub lies-apart : (range next : Range) → range.last + 1 < next.start → LiesBefore range next
 lies-apart range next gap =
     (omega arith, and_right (same_kind range.kind next.kind) (eqb (range.last + 1) next.start) (ne_eqb (range.last + 1) next.start (λ next_is. omega arith)))
 
@@ -83,7 +83,7 @@ all_before start range (next ∷ ranges) lie = elim (cases_lt next.start start) 
   | inr le ↦ subst (λ (l : List Range). AllByRecursion (LiesBefore range) l) (sym (before_out start next ranges le)) (all_before start range ranges lie.1)
 ]
 
-IsCanonical-before : (start : ℕ) (ranges : List Range) → IsCanonical ranges → IsCanonical (before start ranges)
+pub IsCanonical-before : (start : ℕ) (ranges : List Range) → IsCanonical ranges → IsCanonical (before start ranges)
 IsCanonical-before start [] canonical = tt
 IsCanonical-before start (range ∷ ranges) canonical =
     let order : range.start ≤ range.last = canonical.0 in
@@ -100,7 +100,7 @@ IsCanonical-before start (range ∷ ranges) canonical =
       | inr le ↦ subst (λ (l : List Range). IsCanonical l) (sym (before_out start range ranges le)) (IsCanonical-before start ranges canonical.3)
     ]
 
-EndBefore-before : (start : ℕ) (ranges : List Range) → EndBefore start (before start ranges)
+pub EndBefore-before : (start : ℕ) (ranges : List Range) → EndBefore start (before start ranges)
 EndBefore-before start [] = tt
 EndBefore-before start (range ∷ ranges) = elim (cases_lt range.start start) [
   | inl lt ↦ subst (λ (l : List Range). EndBefore start l) (sym (before_cut start range ranges lt)) (omega arith, EndBefore-before start ranges)
@@ -129,7 +129,7 @@ AreRising-behind last (range ∷ ranges) rising =
       | inr le ↦ subst (λ (l : List Range). AreRising l) (sym (behind_out last range ranges le)) (AreRising-behind last ranges rising.3)
     ]
 
-BeginBehind-behind : (last : ℕ) (ranges : List Range) → BeginBehind last (behind last ranges)
+pub BeginBehind-behind : (last : ℕ) (ranges : List Range) → BeginBehind last (behind last ranges)
 BeginBehind-behind last [] = tt
 BeginBehind-behind last (range ∷ ranges) = elim (cases_lt last range.last) [
   | inl lt ↦ subst (λ (l : List Range). BeginBehind last l) (sym (behind_cut last range ranges lt)) (omega arith, BeginBehind-behind last ranges)

@@ -1,7 +1,8 @@
 //! Laws of setting ranges, and of what they say of places. Each is the contract of a function that does nothing.
 
-ghost use Rattle.std.specs.Prelude.{◌≡◌, ℕ, ◌+◌, ◌≤◌, List, [], Option, None, Some, IsSome, IsTrue, ◌↔◌, if◌then◌else◌, length};
-ghost use Rattle.lock_ranges.specs.Ranges.{AreApart, IsCanonical, clashes, covers, first_conflict, greatest, kind_at, set};
+ghost use Rattle.std.specs.Prelude.{◌≡◌, ℕ, ◌+◌, ◌≤◌, List, [], ◌∷◌, ◌++◌, Option, None, Some, IsSome, IsTrue, ◌↔◌, if◌then◌else◌, length};
+ghost use Rattle.lock_ranges.specs.Ranges.{AreApart, IsCanonical, before, behind, clashes, covers, first_conflict, greatest, kind_at, set};
+ghost use Rattle.lock_ranges.specs.Widening.{IsWidened};
 ghost use Rattle.lock_ranges.specs.declared.range.Kind.{Kind};
 ghost use Rattle.lock_ranges.specs.declared.range.Range.{Range};
 
@@ -50,4 +51,13 @@ pub fn holders_stay_apart()
     ensures let_go { (ranges others : List Range) (start last : ℕ) → IsCanonical ranges → start ≤ last → last ≤ greatest
         → AreApart ranges others → AreApart (set ranges None start last) others }
     ensures both { (ranges others : List Range) → AreApart ranges others → AreApart others ranges }
+{}
+
+/// Where the range that is set takes in what it touches of its kind, it stands between what lies before it and what lies behind
+/// it, and nothing is joined. Where places are let go nothing is joined either.
+pub fn a_widened_range_stands_alone()
+    ensures held { (ranges : List Range) (asked wide : Range) → IsCanonical ranges → asked.start ≤ asked.last → asked.last ≤ greatest → IsWidened ranges asked wide
+        → set ranges (Some asked.kind) asked.start asked.last ≡ before wide.start ranges ++ wide ∷ behind wide.last ranges }
+    ensures let_go { (ranges : List Range) (start last : ℕ) → IsCanonical ranges → start ≤ last → last ≤ greatest
+        → set ranges None start last ≡ before start ranges ++ behind last ranges }
 {}

@@ -1,12 +1,15 @@
 -- What is kept of files where something is closed.
-use Rattle.std.proofs.Common.{◌≡◌, ℕ, Bool, true, false, cond, Option, None, Some, is_some, slice_index_or, refl, ap, sym, ◌∙◌, subst}
+use Rattle.std.proofs.Common.{◌≡◌, ℕ, Bool, true, false, cond, Option, None, Some, is_some, slice_index_or, ◌==◌, refl, ap, sym, ◌∙◌, subst, inl, inr}
+use Rattle.std.proofs.lemmas.Bool.Decides.{eqb_tells}
+use Rattle.posix_defs.proofs.TreeNodes.{seen_same}
 use Rattle.posix_defs.specs.Pipe.{after_close}
-use Rattle.posix_defs.specs.Tree.{Tree, is_directory}
+use Rattle.posix_defs.specs.Tree.{Tree, is_directory, is_directory_in, links_at, with_node}
 use Rattle.posix_defs.specs.TreeChanges.{closed}
 use Rattle.posix_defs.specs.Files.Descriptions.{Target, OnNode, OnPipe, OnSocket, Description, description_at, may_write, with_description}
 use Rattle.posix_defs.specs.Files.State.{Files, node_of, opens, pipe_at, with_descriptions, with_pipe, with_tree}
 use Rattle.posix_defs.specs.Files.Descriptors.{is_named}
 use Rattle.posix_defs.specs.Files.Closing.{left_fifo, target_closed}
+use Rattle.tree_laws.proofs.OtherNodes.{closed_nodes}
 use Rattle.machine_laws.proofs.Closings.{IsClosedUnder, anybody, without}
 use Rattle.machine_laws.proofs.Items.{true_false}
 use Rattle.machine_laws.proofs.Joining.{Joined, closes, gone_joined}
@@ -21,6 +24,17 @@ use Rattle.machine_laws.proofs.Places.{not_some, some_same}
 use Rattle.machine_laws.proofs.Rooting.{Rooted, closed_directories, closed_rooted, end_gone_rooted, fifo_closed_directories, fifo_closed_rooted, gone_rooted, sock_closed_rooted}
 use Rattle.machine_laws.proofs.PipeBytes.{HasPipeBytes, closed_bytes, pipe_bytes, piped_bytes}
 
+-- to close a node makes no directory
+closed_makes_none : (tree : Tree) (number n : ℕ) → is_directory tree n ≡ false → is_directory (closed tree number) n ≡ false
+closed_makes_none tree number n none = elim (eqb_tells n number) [
+  | inr apart ↦ ap is_directory_in (closed_nodes tree number n apart.1) ∙ none
+  | inl alike ↦ here (sym (sym (ap (is_directory tree) alike.1) ∙ none)) (links_at tree number == 0)
+]
+  where
+    here : false ≡ is_directory tree number → (b : Bool) → is_directory (cond b (with_node tree number None) tree) n ≡ false
+    here is true = seen_same is_directory_in tree number None is n ∙ none
+    here is false = none
+
 -- what is kept where something is closed; and no directory goes
 pub record Kept (tree : Tree) (files : Files) : Type 0 where
   pub rooted : Rooted files.descriptions files.tree files.sockets files.pipes
@@ -28,6 +42,8 @@ pub record Kept (tree : Tree) (files : Files) : Type 0 where
   pub joined : Joined files.descriptions files.sockets
   pub piped : ArePiped files.descriptions files.pipes
   pub directories : (n : ℕ) → is_directory tree n ≡ true → is_directory files.tree n ≡ true
+  -- and none is made
+  pub kinds : (n : ℕ) → is_directory tree n ≡ false → is_directory files.tree n ≡ false
 
 -- an end of a pipe is closed, which may be a FIFO's
 module _ (tree : Tree) (files : Files) (place : ℕ) (description : Description) (kept : Kept tree files) (is : description_at files.descriptions place ≡ Some description)
@@ -62,6 +78,7 @@ module _ (tree : Tree) (files : Files) (place : ℕ) (description : Description)
     joined = joins;
     piped = counts;
     directories = kept.directories;
+    kinds = kept.kinds;
   }
 
   end_kept : (o : Option ℕ) → node_of files (OnPipe p) ≡ o → Kept tree (left_fifo ended o)
@@ -78,13 +95,15 @@ module _ (tree : Tree) (files : Files) (place : ℕ) (description : Description)
         joined = joins;
         piped = counts;
         directories = λ n dir_is. fifo_closed_directories files.descriptions files.tree files.sockets files.pipes kept.rooted place description is p on ends number of n (kept.directories n dir_is);
+        kinds = λ n none. closed_makes_none files.tree number n (kept.kinds n none);
       }
 
 pub kept_closed : (tree : Tree) → IsClosedUnder anybody (Kept tree)
 unfolding ended
 kept_closed tree = record {
-  shut = λ files pid fd who kept. record { rooted = kept.rooted; pipes = kept.pipes; joined = kept.joined; piped = kept.piped; directories = kept.directories };
-  wakes = λ files pid who kept. record { rooted = kept.rooted; pipes = kept.pipes; joined = kept.joined; piped = kept.piped; directories = kept.directories };
+  shut = λ files pid fd who kept. record { rooted = kept.rooted; pipes = kept.pipes; joined = kept.joined; piped = kept.piped; directories = kept.directories; kinds = kept.kinds };
+  wakes = λ files pid who kept. record { rooted = kept.rooted; pipes = kept.pipes; joined = kept.joined; piped = kept.piped; directories = kept.directories; kinds = kept.kinds };
+  unlocks = λ files locks kept. record { rooted = kept.rooted; pipes = kept.pipes; joined = kept.joined; piped = kept.piped; directories = kept.directories; kinds = kept.kinds };
   gone = λ files place description kept is none. gone files place description kept is none description.target refl;
 }
   where
@@ -127,6 +146,7 @@ kept_closed tree = record {
           joined = joins;
           piped = counts;
           directories = kept.directories;
+          kinds = kept.kinds;
         }
         node number on_node false opened joins counts = record {
           rooted = closed_rooted files.descriptions files.tree files.sockets files.pipes kept.rooted place description number is on_node (λ opener. true_false (opens left number) (by_opener left number opener) opened);
@@ -134,6 +154,7 @@ kept_closed tree = record {
           joined = joins;
           piped = counts;
           directories = λ n dir_is. closed_directories files.descriptions files.tree files.sockets files.pipes kept.rooted place description number is on_node n (kept.directories n dir_is);
+          kinds = λ n none. closed_makes_none files.tree number n (kept.kinds n none);
         }
 
         go : (target : Target) → description.target ≡ target → Kept tree (target_closed left description.access target)
@@ -145,4 +166,5 @@ kept_closed tree = record {
           joined = by_target (OnSocket p) on_it;
           piped = piped_by (OnSocket p) on_it;
           directories = kept.directories;
+          kinds = kept.kinds;
         }

@@ -2,22 +2,24 @@
 use Rattle.std.proofs.Common.{◌≡◌, ◌≢◌, ℕ, zero, suc, Bool, true, false, cond, List, [], ◌∷◌, length, Option, None, Some, refl}
 use Rattle.std.specs.List.{range_with_len, filter}
 use Rattle.posix_defs.specs.Ending.{closed_by}
+use Rattle.posix_defs.specs.Locks.{Locks}
 use Rattle.posix_defs.specs.Files.Descriptors.{Descriptor, descriptor_at, is_named, is_cloexec}
 use Rattle.posix_defs.specs.Files.Descriptions.{Description, description_at, with_description}
-use Rattle.posix_defs.specs.Files.State.{Files, descriptors_of, with_descriptions, with_open, with_opening}
-use Rattle.posix_defs.specs.Files.Closing.{after_close, after_closes, after_end_of, after_ends_of, after_exec_of, all_numbers, close_in, description_gone, gone_in, released, target_closed}
+use Rattle.posix_defs.specs.Files.State.{Files, descriptors_of, with_descriptions, with_locks, with_open, with_opening}
+use Rattle.posix_defs.specs.Files.Closing.{after_close, after_closes, after_end_of, after_ends_of, after_exec_of, all_numbers, close_in, description_gone, gone_in, released, target_closed, unlocked_by}
 
 -- the files after a description has gone, which was open on something
 abbrev pub without : Files → ℕ → Description → Files
 without files place description = target_closed (with_descriptions files (with_description files.descriptions place None)) description.access description.target
 
--- It holds still when such a process closes a descriptor, when it waits for no other side of a FIFO any more, and when a description
--- goes that nobody names.
+-- It holds still when such a process closes a descriptor, when it waits for no other side of a FIFO any more, when a description goes
+-- that nobody names, and whatever locks are held.
 pub record IsClosedUnder (Who : ℕ → Type 0) (Holds : Files → Type 0) : Type 0 where
   pub shut : (files : Files) (pid fd : ℕ) → Who pid → Holds files → Holds (with_open files pid fd None)
   pub wakes : (files : Files) (pid : ℕ) → Who pid → Holds files → Holds (with_opening files pid None)
   pub gone : (files : Files) (place : ℕ) (description : Description) → Holds files → description_at files.descriptions place ≡ Some description
       → is_named files.descriptors place ≡ false → Holds (without files place description)
+  pub unlocks : (files : Files) (locks : Locks) → Holds files → Holds (with_locks files locks)
 
 -- whoever closes
 abbrev pub anybody : ℕ → Type 0
@@ -40,7 +42,8 @@ module _ (Who : ℕ → Type 0) (Holds : Files → Type 0) (closed : IsClosedUnd
     where
       go : (o : Option Descriptor) → Holds (close_in files pid fd o)
       go None = holds
-      go (Some descriptor) = released_holds (with_open files pid fd None) descriptor.description (closed.shut files pid fd who holds)
+      go (Some descriptor) = closed.unlocks (released (with_open files pid fd None) descriptor.description) (unlocked_by files pid (description_at files.descriptions descriptor.description))
+          (released_holds (with_open files pid fd None) descriptor.description (closed.shut files pid fd who holds))
 
   pub closes_hold : (files : Files) (pid : ℕ) (fds : List ℕ) → Who pid → Holds files → Holds (after_closes files pid fds)
   closes_hold files pid [] who holds = holds

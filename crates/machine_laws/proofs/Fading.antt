@@ -199,8 +199,10 @@ close_fades files pid fd = go (descriptor_at (descriptors_of files pid) fd)
   where
     go : (o : Option Descriptor) → Fades files (close_in files pid fd o)
     go None = fades_not files
-    go (Some descriptor) = fades_on files (with_open files pid fd None) (released (with_open files pid fd None) descriptor.description)
-        (record { each = λ place. inl refl; tree = inl refl; pipes = inl refl; nodes = λ place number is. is }) (released_fades (with_open files pid fd None) descriptor.description)
+    go (Some descriptor) = fades_on files (released (with_open files pid fd None) descriptor.description) (close_in files pid fd (Some descriptor))
+        (fades_on files (with_open files pid fd None) (released (with_open files pid fd None) descriptor.description)
+        (record { each = λ place. inl refl; tree = inl refl; pipes = inl refl; nodes = λ place number is. is }) (released_fades (with_open files pid fd None) descriptor.description))
+        (record { each = λ place. inl refl; tree = inl refl; pipes = inl refl; nodes = λ place number is. is })
 
 closes_fade : (files : Files) (pid : ℕ) (fds : List ℕ) → Fades files (after_closes files pid fds)
 closes_fade files pid [] = fades_not files

@@ -94,6 +94,7 @@ closes_free = record {
   shut = λ files pid fd who none. record { tree = none.tree; pipes = none.pipes; openings = none.openings };
   wakes = λ files pid who none. subst HasNoFifo (sym (stays_none files pid (none.openings pid))) none;
   gone = λ files place description none is unnamed. gone files place description none description.target;
+  unlocks = λ files locks none. record { tree = none.tree; pipes = none.pipes; openings = none.openings };
 }
   where
     gone : (files : Files) (place : ℕ) (description : Description) → HasNoFifo files → (target : Target)
@@ -177,6 +178,7 @@ module _ (plain : Plain) (pid : ℕ) (call : Call) (next : Files) (none : HasNoF
   step_free other (step.accepts fd opened place to taken named on free first is) = same _ is refl refl refl
   step_free other (step.receives fd addr n opened place k which named on moves is) = same _ is refl refl refl
   step_free other (step.sends fd addr n done opened place k which named on moves is) = same _ is refl refl refl
+  step_free other (step.locks fd opened number asked sets named_so target is_file places clear is) = same _ is refl refl refl
   step_free other (step.starts is) = by _ is (exec_holds anybody HasNoFifo closes_free plain.files pid tt none)
   step_free other (step.forks which is) = by _ is (record { tree = none.tree; pipes = none.pipes; openings = none_by (plain.files.openings ++ None ∷ []) (one_more plain.files.openings (λ i. none.openings (suc i))) })
   step_free other (step.ends_caller over ending is) = by _ is (closed_by_holds anybody HasNoFifo closes_free plain.files pid (λ who. tt) none)

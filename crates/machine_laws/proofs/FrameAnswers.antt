@@ -292,6 +292,9 @@ module _ (script : Script) (plain : Plain) (frames : Frames) (holds : Holds plai
   right (call.Poll timeout entries) = others (call.Poll timeout entries) refl
   right (call.Signal which disposition) = goes_disposed plain frames holds pid _ alive _ refl
   right (call.Mkfifo path) = others (call.Mkfifo path) refl
+  right (call.Setlk fd kind start size) = others (call.Setlk fd kind start size) refl
+  right (call.Setlkw fd kind start size) = others (call.Setlkw fd kind start size) refl
+  right (call.Getlk fd kind start size) = others (call.Getlk fd kind start size) refl
 
   pub answers_framed : (which : Call) → Framed which (machine script plain pid which)
   answers_framed which = go (argument_fault which)

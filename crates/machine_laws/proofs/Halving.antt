@@ -258,6 +258,7 @@ named_closed old who = record {
   shut = λ files pid fd apart stays. record { same = others_after files pid who fd None apart ∙ stays.same; stay = stays.stay };
   wakes = λ files pid apart stays. record { same = stays.same; stay = stays.stay };
   gone = gone;
+  unlocks = λ files locks stays. record { same = stays.same; stay = stays.stay };
 }
   where
     gone : (files : Files) (place : ℕ) (description : Description) → StaysNamed old who files → description_at files.descriptions place ≡ Some description
@@ -323,6 +324,7 @@ piped_closed : (old : Files) → IsClosedUnder anybody (PipedFrom old)
 piped_closed old = record {
   shut = λ files pid fd who holds. holds;
   wakes = λ files pid who holds. holds;
+  unlocks = λ files locks holds. holds;
   gone = λ files place description holds is none. (piped_closes.gone files place description holds.0 is none, gone files place description holds is description.target refl);
 }
   where
@@ -360,6 +362,7 @@ pub opening_closed : (old : Files) (who : ℕ) → IsClosedUnder (λ pid. who �
 opening_closed old who = record {
   shut = λ files pid fd apart same. same;
   wakes = λ files pid apart same. ap (λ o. unwrap_or o None) (at_other files.openings pid who None apart) ∙ same;
+  unlocks = λ files locks same. same;
   gone = λ files place description same is none. ap (λ list. unwrap_or (at_pid list who) None)
       (target_openings (with_descriptions files (with_description files.descriptions place None)) description.access description.target) ∙ same;
 }
@@ -459,6 +462,7 @@ module _ (plain : Plain) (pid : ℕ) (call : Call) (next : Files) (who : ℕ) (a
   step_waits (step.accepts fd opened place to taken named on free first is) = unwaited _ is refl refl
   step_waits (step.receives fd addr n opened place k which named on moves is) = unwaited _ is refl refl
   step_waits (step.sends fd addr n done opened place k which named on moves is) = unwaited _ is refl refl
+  step_waits (step.locks fd opened number asked sets named_so target is_file places clear is) = unwaited _ is refl refl
   step_waits (step.starts is) = waits_by _ is exec_waits
   step_waits (step.forks which is) = absurd (no_fork which)
   step_waits (step.ends_caller over ending is) = absurd (true_false true refl over)
@@ -529,6 +533,7 @@ module _ (plain : Plain) (pid : ℕ) (call : Call) (next : Files) (who : ℕ) (a
   step_keeps (step.accepts fd opened place to taken named on free first is) = by _ is (one _ to _ _ refl refl)
   step_keeps (step.receives fd addr n opened place k which named on moves is) = same _ is refl refl
   step_keeps (step.sends fd addr n done opened place k which named on moves is) = same _ is refl refl
+  step_keeps (step.locks fd opened number asked sets named_so target is_file places clear is) = same _ is refl refl
   step_keeps (step.starts is) = by _ is (keeps_named plain.files _ who
       (exec_holds (λ other. who ≢ other) (StaysNamed plain.files who) (named_closed plain.files who) plain.files pid apart (stays_now plain.files who)))
   step_keeps (step.forks which is) = absurd (no_fork which)

@@ -289,7 +289,12 @@ abbrev Holds : Files → Type 0
 Holds files = Joined files.descriptions files.sockets
 
 pub closes : IsClosedUnder anybody Holds
-closes = record { shut = λ files pid fd who joined. joined; wakes = λ files pid who joined. joined; gone = λ files place description joined is none. gone files place description joined is description.target refl }
+closes = record {
+  shut = λ files pid fd who joined. joined;
+  wakes = λ files pid who joined. joined;
+  gone = λ files place description joined is none. gone files place description joined is description.target refl;
+  unlocks = λ files locks joined. joined;
+}
   where
     no_node : (number socket : ℕ) → OnNode number ≡ OnSocket socket → ⊥
     no_node number socket e = cc
@@ -452,6 +457,7 @@ module _ (plain : Plain) (pid : ℕ) (call : Call) (next : Files) (joined : Hold
       (read_held plain.files.sockets (named_sockets plain.files.descriptions) place k (there fd opened place named_it on) joined.1)
   step_joined (step.sends fd addr n done opened place k which named_it on moves is) = resocketed _ is refl (sent place (count_of n) done k addr opened.is.nonblock moves)
       (write_held plain.files.sockets (named_sockets plain.files.descriptions) place (bytes_left plain pid addr (count_of n) done) k joined.0 joined.1)
+  step_joined (step.locks fd opened number asked sets named_so target is_file places clear is) = same _ is refl refl
   step_joined (step.starts is) = by _ is (exec_holds anybody Holds closes plain.files pid tt joined)
   step_joined (step.forks which is) = same _ is refl refl
   step_joined (step.ends_caller over ending is) = by _ is (closed_by_holds anybody Holds closes plain.files pid (λ other. tt) joined)

@@ -33,6 +33,11 @@ pub mod StepsKeep
 pub mod ProcessesKept
 pub mod Keeping
 pub mod Texting
+pub mod LockLists
+pub mod Locking
+pub mod LockLess
+pub mod Chains
+pub mod LockedFiles
 pub mod Wholeness
 pub mod Waiting
 pub mod Histories

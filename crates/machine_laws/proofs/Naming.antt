@@ -365,7 +365,8 @@ close_told files pid fd told = go (descriptor_at (descriptors_of files pid) fd) 
   where
     go : (o : Option Descriptor) → descriptor_at (descriptors_of files pid) fd ≡ o → Told (close_in files pid fd o)
     go None held = told
-    go (Some descriptor) held = released_told files told pid fd descriptor held
+    go (Some descriptor) held = told_same (released (with_open files pid fd None) descriptor.description) (close_in files pid fd (Some descriptor))
+        (released_told files told pid fd descriptor held) refl (λ place. refl)
 
 closes_told : (files : Files) (pid : ℕ) (fds : List ℕ) → Told files → Told (after_closes files pid fds)
 closes_told files pid [] told = told
@@ -419,11 +420,11 @@ heir_told files parent told = record { named = λ place names. told.named place 
 -- ---- steps
 
 -- two numbers that are free, one after another
-record AreFree (descriptors : Descriptors) (two : Two) : Type 0 where
-  first : lowest_free descriptors ≡ Some two.first
-  second : lowest_free_from descriptors (two.first + 1) ≡ Some two.second
+pub record AreFree (descriptors : Descriptors) (two : Two) : Type 0 where
+  pub first : lowest_free descriptors ≡ Some two.first
+  pub second : lowest_free_from descriptors (two.first + 1) ≡ Some two.second
 
-are_free : (descriptors : Descriptors) (two : Two) → two_lowest_free descriptors ≡ Some two → AreFree descriptors two
+pub are_free : (descriptors : Descriptors) (two : Two) → two_lowest_free descriptors ≡ Some two → AreFree descriptors two
 are_free descriptors two is = go (lowest_free descriptors) refl is
   where
     both : (first : ℕ) (o : Option ℕ) → lowest_free descriptors ≡ Some first → lowest_free_from descriptors (first + 1) ≡ o
@@ -533,6 +534,7 @@ module _ (plain : Plain) (pid : ℕ) (call : Call) (next : Files) (told : Told p
   step_told (step.accepts fd opened place to taken named on free first is) = by _ is (one _ to _ _ refl refl free)
   step_told (step.receives fd addr n opened place k which named on moves is) = same _ is refl refl
   step_told (step.sends fd addr n done opened place k which named on moves is) = same _ is refl refl
+  step_told (step.locks fd opened number asked sets named_so target is_file places clear is) = same _ is refl refl
   step_told (step.starts is) = by _ is (exec_told plain.files pid told)
   step_told (step.forks which is) = by _ is (heir_told plain.files pid told)
   step_told (step.ends_caller over ending is) = by _ is (closed_told plain.files pid told)

@@ -255,6 +255,7 @@ module _ (plain : Plain) (pid who : ℕ) (call : Call) (next : Files) (apart : w
   step_spares (step.accepts fd given place to taken named on free first is) = opened _ is (one _ to _ _ refl refl refl)
   step_spares (step.receives fd addr n given place k which named on moves is) = same _ is refl refl refl
   step_spares (step.sends fd addr n done given place k which named on moves is) = same _ is refl refl refl
+  step_spares (step.locks fd opened number asked sets named_so target is_file places clear is) = same _ is refl refl refl
   step_spares (step.starts is) = by _ is (execs who pid plain.files apart)
   step_spares (step.forks which is) = absurd (no_fork which)
   step_spares (step.ends_caller over ending is) = absurd (true_false refl over)

@@ -249,6 +249,7 @@ module _ (plain : Plain) (pid : ℕ) (call : Call) (place : ℕ) (pipe : Pipe) (
   kept (step.accepts fd opened at to taken named on free first is) = same _ is refl
   kept (step.receives fd addr n opened at k which named on moves is) = same _ is refl
   kept (step.sends fd addr n done opened at k which named on moves is) = same _ is refl
+  kept (step.locks fd opened number asked sets named_so target is_file places clear is) = same _ is refl
   kept (step.starts is) = faded _ is _ refl refl (exec_fades plain.files pid)
   kept (step.forks which is) = same _ is refl
   kept (step.ends_caller over ending is) = faded _ is _ refl refl (closed_by_fades plain.files pid)

@@ -523,7 +523,12 @@ abbrev Holds : Files → Type 0
 Holds files = ArePiped files.descriptions files.pipes
 
 pub closes : IsClosedUnder anybody Holds
-closes = record { shut = λ files pid fd who piped. piped; wakes = λ files pid who piped. piped; gone = λ files place description piped is none. gone files place description piped is description.target refl }
+closes = record {
+  shut = λ files pid fd who piped. piped;
+  wakes = λ files pid who piped. piped;
+  gone = λ files place description piped is none. gone files place description piped is description.target refl;
+  unlocks = λ files locks piped. piped;
+}
   where
     gone : (files : Files) (place : ℕ) (description : Description) → Holds files → description_at files.descriptions place ≡ Some description → (target : Target) → description.target ≡ target
         → Holds (target_closed (with_descriptions files (with_description files.descriptions place None)) description.access target)
@@ -626,6 +631,7 @@ module _ (plain : Plain) (pid : ℕ) (call : Call) (next : Files) (piped : Holds
   step_piped (step.accepts fd opened place to taken_one named on free first is) = by _ is (one _ (λ q. refl) tt)
   step_piped (step.receives fd addr n opened place k which named on moves is) = same _ is refl refl
   step_piped (step.sends fd addr n done opened place k which named on moves is) = same _ is refl refl
+  step_piped (step.locks fd opened number asked sets named_so target is_file places clear is) = same _ is refl refl
   step_piped (step.starts is) = by _ is (exec_holds anybody Holds closes plain.files pid tt piped)
   step_piped (step.forks which is) = same _ is refl refl
   step_piped (step.ends_caller over ending is) = by _ is (closed_by_holds anybody Holds closes plain.files pid (λ pid. tt) piped)

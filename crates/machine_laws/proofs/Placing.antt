@@ -109,6 +109,7 @@ module _ (plain : Plain) (pid : ℕ) (call : Call) (next : Files) (no_fork : cal
   step_shuts (step.accepts fd opened place to taken named on free first is) = by _ is (opens_one _ to _ _ refl refl)
   step_shuts (step.receives fd addr n opened place k which named on moves is) = same _ is refl refl
   step_shuts (step.sends fd addr n done opened place k which named on moves is) = same _ is refl refl
+  step_shuts (step.locks fd opened number asked sets named_so target is_file places clear is) = same _ is refl refl
   step_shuts (step.starts is) = by _ is (exec_shuts pid plain.files pid)
   step_shuts (step.forks which is) = absurd (no_fork which)
   step_shuts (step.ends_caller over ending is) = by _ is (closed_shuts pid plain.files pid)

@@ -11,6 +11,7 @@ use Rattle.kabi_types.specs.declared.replies.StatInfo.{StatInfo}
 use Rattle.kabi_types.specs.declared.scripts.Script.{Script}
 use Rattle.posix_defs.specs.Answer as answer
 use Rattle.posix_defs.specs.Answer.{Answer, failed, replied}
+use Rattle.posix_defs.specs.Locks.{Request}
 use Rattle.posix_defs.specs.Machine.{answer_to}
 use Rattle.posix_defs.specs.Memory.{is_mapped_range}
 use Rattle.posix_defs.specs.MemoryCalls.{in_range}
@@ -35,6 +36,8 @@ use Rattle.posix_defs.specs.Calls.OnNames.{freed_in, link, made_node, mkdir, mkf
 use Rattle.posix_defs.specs.Calls.OnPipes.{pipe, piped_under}
 use Rattle.posix_defs.specs.Calls.OnSockets.{accept, accepted_under, bind, bound_to, connect, connected_by, connected_under, listen, listener_under, on_socket, paired_under, shutdown, socket_target, socketed_under, socketpair, unless_fault}
 use Rattle.posix_defs.specs.Calls.OnSockets as on_sockets
+use Rattle.posix_defs.specs.Calls.OnLocks.{circles, file_of, getlk, granted_or, is_clear, request_of, setlk, setlkw}
+use Rattle.posix_defs.specs.Calls.OnLocks as on_locks
 use Rattle.posix_defs.specs.Calls.Polling.{hits_of, poll, revents_of}
 
 -- An answer leaves the table of processes.
@@ -363,6 +366,29 @@ module _ (script : Script) (plain : Plain) (pid : ℕ) where
   polls timeout entries =
       either ((hits_of (revents_of plain.files pid entries) == 0) && is_minus_one timeout) answer.Blocked _ blocks (says _)
 
+  -- ---- record locks
+
+  claims : (asked : Request) (stopped : Answer) (r : Result ℕ Errno) → Told script plain pid stopped → Told script plain pid (granted_or script plain pid asked stopped r)
+  claims asked stopped (Err e) rest = fails e
+  claims asked stopped (Ok number) rest = either (is_clear plain.files.locks pid number asked) _ stopped (tells _ _) rest
+
+  sets : (fd kind start size : ℤ) → Told script plain pid (setlk script plain pid fd kind start size)
+  unfolding setlk
+  sets fd kind start size = opens_told fd _ (λ opened. claims (request_of kind start size) _ _ (fails errno.EAGAIN))
+
+  sets_in_time : (fd kind start size : ℤ) → Told script plain pid (setlkw script plain pid fd kind start size)
+  unfolding setlkw
+  sets_in_time fd kind start size = opens_told fd _ (λ opened. claims (request_of kind start size) _ _
+      (either (circles script plain pid) (failed script plain pid errno.EDEADLK) answer.Blocked (fails errno.EDEADLK) blocks))
+
+  tells_lock : (fd kind start size : ℤ) → Told script plain pid (getlk script plain pid fd kind start size)
+  unfolding getlk
+  tells_lock fd kind start size = opens_told fd _ (λ opened. go (file_of plain.files.tree opened.is.target))
+    where
+      go : (o : Option ℕ) → Told script plain pid (on_locks.told_of script plain pid (request_of kind start size) o)
+      go None = fails errno.EINVAL
+      go (Some number) = says _
+
   -- ---- every call of them
 
   no : {X : Type 0} → false ≡ true → X
@@ -412,3 +438,6 @@ module _ (script : Script) (plain : Plain) (pid : ℕ) where
   quiet_told (call.Poll timeout entries) is = polls timeout entries
   quiet_told (call.Signal which disposition) is = no is
   quiet_told (call.Mkfifo path) is = makes_fifo path
+  quiet_told (call.Setlk fd kind start size) is = sets fd kind start size
+  quiet_told (call.Setlkw fd kind start size) is = sets_in_time fd kind start size
+  quiet_told (call.Getlk fd kind start size) is = tells_lock fd kind start size

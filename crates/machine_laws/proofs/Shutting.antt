@@ -145,7 +145,7 @@ close_shuts pid files who fd = go (descriptor_at (descriptors_of files who) fd) 
 
     go : (o : Option Descriptor) → descriptor_at (descriptors_of files who) fd ≡ o → Shuts pid files (close_in files who fd o)
     go None held = shuts_same pid files files refl refl
-    go (Some descriptor) held = some descriptor held
+    go (Some descriptor) held = shuts_on pid files (released (with_open files who fd None) descriptor.description) (close_in files who fd (Some descriptor)) (some descriptor held) (shuts_same pid _ _ refl refl)
 
 closes_shut : (pid : ℕ) (files : Files) (who : ℕ) (fds : List ℕ) → Shuts pid files (after_closes files who fds)
 closes_shut pid files who [] = shuts_same pid files files refl refl

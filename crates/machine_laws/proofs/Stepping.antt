@@ -1,9 +1,12 @@
 -- Each answer of each call leads to files that one step leads to.
-use Rattle.std.proofs.Common.{◌≡◌, ℕ, zero, suc, ◌-◌, ◌==◌, ◌&&◌, ◌||◌, nat_lt, not, ℤ, pos, negsuc, ◌+ℤ◌, Bool, true, false, cond, List, length, Option, None, Some, is_some, Result, Ok, Err, refl, ap, sym, ◌∙◌, subst}
-use Rattle.kabi_types.specs.Arguments.{argument_fault, count_of, is_minus_one, may_be_descriptor}
+use Rattle.std.proofs.Common.{◌≡◌, ◌≢◌, ℕ, zero, suc, ◌+◌, ◌-◌, ◌≤◌, arith, ◌==◌, ◌&&◌, ◌||◌, nat_lt, not, ℤ, pos, negsuc, ◌+ℤ◌, Bool, true, false, cond, List, length, Option, None, Some, is_some, Result, Ok, Err, refl, ap, sym, ◌∙◌, subst}
+use Rattle.std.specs.Option.{option_or}
+use Rattle.std.proofs.lemmas.Bool.{ltb-false}
+use Rattle.kabi_types.specs.Arguments.{argument_fault, count_of, greatest_place, invalid_unless, is_from, is_minus_one, is_within, locked_fault, may_be_descriptor}
 use Rattle.kabi_types.specs.declared.calls.Call.{Call}
 use Rattle.kabi_types.specs.declared.calls.Call.TheVariants as call
 use Rattle.kabi_types.specs.declared.errnos.Errno.{Errno}
+use Rattle.kabi_types.specs.declared.errnos.Errno.TheVariants.{EBADF, EOVERFLOW}
 use Rattle.kabi_types.specs.declared.replies.StatInfo.{StatInfo}
 use Rattle.kabi_types.specs.declared.scripts.Script.{Script}
 use Rattle.kabi_types.specs.declared.replies.Reply.TheVariants.{Val}
@@ -11,6 +14,7 @@ use Rattle.posix_defs.specs.Answer.{Answer, replied}
 use Rattle.posix_defs.specs.ByPid.{with_pid}
 use Rattle.posix_defs.specs.Forking.{fork, is_full}
 use Rattle.posix_defs.specs.Killing.{is_asking, is_ended_by, kill, sent_to, struck}
+use Rattle.posix_defs.specs.Locks.{Request}
 use Rattle.posix_defs.specs.Machine.{answer_to, machine, unless_wrong}
 use Rattle.posix_defs.specs.Memory.{is_mapped_range, lowest_run}
 use Rattle.posix_defs.specs.MemoryCalls.{in_range, mapped_from, mmap}
@@ -43,10 +47,12 @@ use Rattle.posix_defs.specs.Calls.Starting.{exec, starts}
 use Rattle.posix_defs.specs.Calls.OnPipes.{pipe, piped_under}
 use Rattle.posix_defs.specs.Calls.OnSockets.{accept, accepted_under, bind, bound_to, connect, connected_by, connected_under, listen, listener_under, on_socket, paired_under, resocketed, shutdown, socket_target, socketed_under, socketpair, unless_fault}
 use Rattle.posix_defs.specs.Calls.OnSockets as on_sockets
+use Rattle.posix_defs.specs.Calls.OnLocks.{circles, claim_of, claimed, file_of, getlk, granted_or, is_clear, may_hold, request_of, setlk, setlkw}
+use Rattle.posix_defs.specs.Calls.OnLocks as on_locks
 use Rattle.posix_defs.specs.Calls.Polling.{hits_of, poll, revents_of}
 use Rattle.machine_laws.proofs.Between.{listed_between, of_file, sought_between}
 use Rattle.machine_laws.specs.FileSteps as step
-use Rattle.machine_laws.specs.FileSteps.{IsStep, MayWait, OpensEnd, Steps, WritesNode, may_end_caller, may_end_other}
+use Rattle.machine_laws.specs.FileSteps.{ArePlaces, IsStep, MayWait, OpensEnd, Steps, WritesNode, is_setting, may_end_caller, may_end_other}
 
 -- what is asked of an answer
 abbrev Stepped : Plain → ℕ → Call → Answer → Type 0
@@ -70,6 +76,31 @@ end_openings files pid flags fd number = go (fifo_at files number)
     go : (at : Option ℕ) → (end_at files pid flags fd number at).openings ≡ files.openings
     go None = refl
     go (Some place) = refl
+
+-- what the operands of a call on record locks ask for are places of a file
+ends_there : (most start size : ℕ) → start + (size - 1) ≤ most → (start ≤ cond (size == 0) most (start + size - 1)) × (cond (size == 0) most (start + size - 1) ≤ most)
+ends_there most start size h = by (size == 0) refl
+  where
+    some : (size == 0) ≡ false → size ≢ 0
+    some is none = absurd (no (sym is ∙ ap (λ n. n == 0) none))
+      where
+        no : false ≡ true → ⊥
+        no e = cc
+
+    by : (b : Bool) → (size == 0) ≡ b → (start ≤ cond b most (start + size - 1)) × (cond b most (start + size - 1) ≤ most)
+    by true is = (let low : start ≤ most = omega (arith, h) in low, let high : most ≤ most = omega arith in high)
+    by false is = let more : size ≢ 0 = some is in
+        (let low : start ≤ start + size - 1 = omega (arith, more) in low, let high : start + size - 1 ≤ most = omega (arith, h, more) in high)
+
+ends_before : (right beyond : Bool) → option_or (invalid_unless right) (cond beyond (Some EOVERFLOW) None) ≡ None → beyond ≡ false
+ends_before right false e = refl
+ends_before true true e = absurd (let f = e in cc)
+ends_before false true e = absurd (let f = e in cc)
+
+pub places_of : (most : ℕ) (kind start size : ℤ) → locked_fault most kind start size ≡ None → ArePlaces (request_of kind start size)
+places_of most kind start size fine = ends_there greatest_place (count_of start) (count_of size)
+    (ltb-false greatest_place (count_of start + (count_of size - 1))
+    (ends_before (is_within 0 most kind && (is_from 0 start && is_from 0 size)) (nat_lt greatest_place (count_of start + (count_of size - 1))) fine))
 
 module _ (script : Script) (plain : Plain) (pid : ℕ) (which : Call) where
   either : (b : Bool) (one two : Answer) → (b ≡ true → Stepped plain pid which one) → (b ≡ false → Stepped plain pid which two) → Stepped plain pid which (cond b one two)
@@ -337,6 +368,42 @@ module _ (script : Script) (plain : Plain) (pid : ℕ) (which : Call) where
   unfolding poll
   polls timeout entries = either ((hits_of (revents_of plain.files pid entries) == 0) && is_minus_one timeout) _ _ (λ yes. tt) (λ no. step.stays refl)
 
+  -- ---- record locks
+
+  grants : (fd : ℤ) (opened : Opened) (asked : Request) (stopped : Answer) → is_setting which ≡ true → opened_at plain.files pid fd ≡ Some opened → ArePlaces asked
+      → Stepped plain pid which stopped → Stepped plain pid which (granted_or script plain pid asked stopped (claimed plain.files opened asked.kind))
+  grants fd opened asked stopped sets is places rest = on opened.is.target refl
+    where
+      may : (number : ℕ) → opened.is.target ≡ OnNode number → is_directory plain.files.tree number ≡ false → (b : Bool) → Stepped plain pid which (granted_or script plain pid asked stopped (cond b (Ok number) (Err EBADF)))
+      may number target is_file true = either (is_clear plain.files.locks pid number asked) _ stopped (λ clear. step.locks fd opened number asked sets is target is_file places clear refl) (λ no. rest)
+      may number target is_file false = step.stays refl
+
+      file : (number : ℕ) → opened.is.target ≡ OnNode number → (b : Bool) → is_directory plain.files.tree number ≡ b → Stepped plain pid which (granted_or script plain pid asked stopped (claim_of opened.is.access asked.kind (cond b None (Some number))))
+      file number target true is_directory_it = step.stays refl
+      file number target false is_file = may number target is_file (may_hold opened.is.access asked.kind)
+
+      on : (target : Target) → opened.is.target ≡ target → Stepped plain pid which (granted_or script plain pid asked stopped (claim_of opened.is.access asked.kind (file_of plain.files.tree target)))
+      on (OnNode number) target = file number target (is_directory plain.files.tree number) refl
+      on (OnPipe place) target = step.stays refl
+      on (OnSocket place) target = step.stays refl
+
+  sets_step : (fd kind start size : ℤ) → is_setting which ≡ true → ArePlaces (request_of kind start size) → Stepped plain pid which (setlk script plain pid fd kind start size)
+  unfolding setlk
+  sets_step fd kind start size sets places = opens_step fd _ (λ opened is. grants fd opened (request_of kind start size) _ sets is places (step.stays refl))
+
+  sets_in_time_step : (fd kind start size : ℤ) → is_setting which ≡ true → ArePlaces (request_of kind start size) → Stepped plain pid which (setlkw script plain pid fd kind start size)
+  unfolding setlkw
+  sets_in_time_step fd kind start size sets places = opens_step fd _ (λ opened is. grants fd opened (request_of kind start size) _ sets is places
+      (either (circles script plain pid) _ _ (λ yes. step.stays refl) (λ no. tt)))
+
+  tells_lock : (fd kind start size : ℤ) → Stepped plain pid which (getlk script plain pid fd kind start size)
+  unfolding getlk
+  tells_lock fd kind start size = opens_step fd _ (λ opened is. go (file_of plain.files.tree opened.is.target))
+    where
+      go : (o : Option ℕ) → Stepped plain pid which (on_locks.told_of script plain pid (request_of kind start size) o)
+      go None = step.stays refl
+      go (Some number) = step.stays refl
+
   -- ---- processes and memory
 
   forks_step : which ≡ call.Fork → Stepped plain pid which (fork script plain pid)
@@ -518,56 +585,58 @@ module _ (script : Script) (plain : Plain) (pid : ℕ) where
 
   -- ---- every call
 
-  pub right : (which : Call) → Stepped plain pid which (answer_to script plain pid which)
-  right call.Getpid = step.stays refl
-  right call.Getppid = step.stays refl
-  right call.SchedYield = step.stays refl
-  right call.Fork = forks_step script plain pid _ refl
-  right (call.Exec path) = execs script plain pid _ path
-  right (call.Exit status) = step.ends_caller refl refl refl
-  right (call.Waitpid wanted options) = waits script plain pid _ wanted options
-  right (call.Kill target signal) = kills script plain pid _ target signal refl refl
-  right (call.Mmap size) = maps script plain pid _ size
-  right (call.Munmap addr size) = step.stays refl
-  right (call.Store addr bytes) = ranged script plain pid _ addr (length bytes) _ (step.stays refl)
-  right (call.Load addr n) = ranged script plain pid _ addr (count_of n) _ (step.stays refl)
-  right (call.OpenFile path flags) = opens_file path flags
-  right (call.Close fd) = closes script plain pid _ fd
-  right (call.Dup fd) = dups script plain pid _ fd
-  right (call.Dup2 fd to) = dups_to script plain pid _ fd to
-  right (call.Fcntl fd cmd arg) = controls script plain pid _ fd cmd arg
-  right (call.Read fd addr n) = reads script plain pid _ fd addr n refl
-  right (call.Write fd addr n done) = writes fd addr n done
-  right (call.Pread fd addr n at) = preads script plain pid _ fd addr n at
-  right (call.Pwrite fd addr n at) = pwrites fd addr n at
-  right (call.Lseek fd offset whence) = seeks script plain pid _ fd offset whence
-  right (call.Readdir fd addr n) = lists script plain pid _ fd addr n
-  right (call.Ftruncate fd size) = truncates fd size
-  right (call.Fstat fd) = fstats script plain pid _ fd
-  right (call.Stat path) = stats script plain pid _ path
-  right (call.Chdir path) = enters script plain pid _ path
-  right (call.Mkdir path) = makes path
-  right (call.Rmdir path) = removes path
-  right (call.Unlink path) = unlinks path
-  right (call.Link old new) = links old new
-  right (call.Rename old new) = renames old new
-  right call.Pipe = pipes_step script plain pid _
-  right call.Socket = sockets_step script plain pid _
-  right call.Socketpair = pairs_step script plain pid _
-  right (call.Bind fd path) = binds fd path
-  right (call.Listen fd) = listens_step script plain pid _ fd
-  right (call.Connect fd path) = connects script plain pid _ fd path
-  right (call.Accept fd) = accepts script plain pid _ fd
-  right (call.Shutdown fd how) = shuts script plain pid _ fd how
-  right (call.Poll timeout entries) = polls script plain pid _ timeout entries
-  right (call.Signal of disposition) = step.stays refl
-  right (call.Mkfifo path) = makes_fifo path
+  pub right : (which : Call) → argument_fault which ≡ None → Stepped plain pid which (answer_to script plain pid which)
+  right call.Getpid fine = step.stays refl
+  right call.Getppid fine = step.stays refl
+  right call.SchedYield fine = step.stays refl
+  right call.Fork fine = forks_step script plain pid _ refl
+  right (call.Exec path) fine = execs script plain pid _ path
+  right (call.Exit status) fine = step.ends_caller refl refl refl
+  right (call.Waitpid wanted options) fine = waits script plain pid _ wanted options
+  right (call.Kill target signal) fine = kills script plain pid _ target signal refl refl
+  right (call.Mmap size) fine = maps script plain pid _ size
+  right (call.Munmap addr size) fine = step.stays refl
+  right (call.Store addr bytes) fine = ranged script plain pid _ addr (length bytes) _ (step.stays refl)
+  right (call.Load addr n) fine = ranged script plain pid _ addr (count_of n) _ (step.stays refl)
+  right (call.OpenFile path flags) fine = opens_file path flags
+  right (call.Close fd) fine = closes script plain pid _ fd
+  right (call.Dup fd) fine = dups script plain pid _ fd
+  right (call.Dup2 fd to) fine = dups_to script plain pid _ fd to
+  right (call.Fcntl fd cmd arg) fine = controls script plain pid _ fd cmd arg
+  right (call.Read fd addr n) fine = reads script plain pid _ fd addr n refl
+  right (call.Write fd addr n done) fine = writes fd addr n done
+  right (call.Pread fd addr n at) fine = preads script plain pid _ fd addr n at
+  right (call.Pwrite fd addr n at) fine = pwrites fd addr n at
+  right (call.Lseek fd offset whence) fine = seeks script plain pid _ fd offset whence
+  right (call.Readdir fd addr n) fine = lists script plain pid _ fd addr n
+  right (call.Ftruncate fd size) fine = truncates fd size
+  right (call.Fstat fd) fine = fstats script plain pid _ fd
+  right (call.Stat path) fine = stats script plain pid _ path
+  right (call.Chdir path) fine = enters script plain pid _ path
+  right (call.Mkdir path) fine = makes path
+  right (call.Rmdir path) fine = removes path
+  right (call.Unlink path) fine = unlinks path
+  right (call.Link old new) fine = links old new
+  right (call.Rename old new) fine = renames old new
+  right call.Pipe fine = pipes_step script plain pid _
+  right call.Socket fine = sockets_step script plain pid _
+  right call.Socketpair fine = pairs_step script plain pid _
+  right (call.Bind fd path) fine = binds fd path
+  right (call.Listen fd) fine = listens_step script plain pid _ fd
+  right (call.Connect fd path) fine = connects script plain pid _ fd path
+  right (call.Accept fd) fine = accepts script plain pid _ fd
+  right (call.Shutdown fd how) fine = shuts script plain pid _ fd how
+  right (call.Poll timeout entries) fine = polls script plain pid _ timeout entries
+  right (call.Signal of disposition) fine = step.stays refl
+  right (call.Mkfifo path) fine = makes_fifo path
+  right (call.Setlk fd kind start size) fine = sets_step script plain pid _ fd kind start size refl (places_of 2 kind start size fine)
+  right (call.Setlkw fd kind start size) fine = sets_in_time_step script plain pid _ fd kind start size refl (places_of 2 kind start size fine)
+  right (call.Getlk fd kind start size) fine = tells_lock script plain pid _ fd kind start size
 
 -- an answer whose operands aren't wrong is told where none is, and else only an errno
-told : (script : Script) (plain : Plain) (pid : ℕ) (which : Call) (fault : Option Errno) → Stepped plain pid which (answer_to script plain pid which)
-    → Stepped plain pid which (unless_wrong script plain pid fault (answer_to script plain pid which))
-told script plain pid which None rest = rest
-told script plain pid which (Some e) rest = step.stays refl
-
 pub step_of : (script : Script) (plain : Plain) (pid : ℕ) (which : Call) → Stepped plain pid which (machine script plain pid which)
-step_of script plain pid which = told script plain pid which (argument_fault which) (right script plain pid which)
+step_of script plain pid which = told (argument_fault which) refl
+  where
+    told : (fault : Option Errno) → argument_fault which ≡ fault → Stepped plain pid which (unless_wrong script plain pid fault (answer_to script plain pid which))
+    told None fine = right script plain pid which fine
+    told (Some e) wrong = step.stays refl

@@ -61,6 +61,8 @@ pub record After (plain : Plain) (next : Files) : Type 0 where
   pub rooted : Rooted next.descriptions next.tree next.sockets next.pipes
   pub pipes : HasPipeBytes next.pipes
   pub directories : (n : ℕ) → is_directory plain.files.tree n ≡ true → list_any (works_in n) plain.table ≡ true → is_directory next.tree n ≡ true
+  -- what is opened and is no directory isn't one afterwards
+  pub kinds : (n : ℕ) → opens plain.files n ≡ true → is_in_use plain.files.tree n ≡ true → is_socket plain.files.tree n ≡ false → is_directory plain.files.tree n ≡ false → is_directory next.tree n ≡ false
 
 -- the same, of files of which these are the parts
 rooted_of : (files : Files) (descriptions : Descriptions) (tree : Tree) (sockets : Sockets) (pipes : List (Option Pipe)) → files.descriptions ≡ descriptions → files.tree ≡ tree → files.sockets ≡ sockets
@@ -72,10 +74,10 @@ rooted_of files descriptions tree sockets pipes one two three four rooted =
 module _ (plain : Plain) (rooted : Rooted plain.files.descriptions plain.files.tree plain.files.sockets plain.files.pipes) (pipes : HasPipeBytes plain.files.pipes)
     (joined : Joined plain.files.descriptions plain.files.sockets) (piped : ArePiped plain.files.descriptions plain.files.pipes) where
   now_kept : Kept plain.files.tree plain.files
-  now_kept = record { rooted = rooted; pipes = pipes; joined = joined; piped = piped; directories = λ n dir. dir }
+  now_kept = record { rooted = rooted; pipes = pipes; joined = joined; piped = piped; directories = λ n dir. dir; kinds = λ n none. none }
 
   kept_after : (files : Files) → Kept plain.files.tree files → After plain files
-  kept_after files kept = record { rooted = kept.rooted; pipes = kept.pipes; directories = λ n dir lives. kept.directories n dir }
+  kept_after files kept = record { rooted = kept.rooted; pipes = kept.pipes; directories = λ n dir lives. kept.directories n dir; kinds = λ n opened used socket none. kept.kinds n none }
 
   pub exec_after : (pid : ℕ) → After plain (after_exec_of plain.files pid)
   exec_after pid = kept_after (after_exec_of plain.files pid) (exec_holds anybody (Kept plain.files.tree) (kept_closed plain.files.tree) plain.files pid tt now_kept)
@@ -98,6 +100,7 @@ module _ (plain : Plain) (pid : ℕ) (call : Call) (next : Files) (rooted : Root
     rooted = rooted_of after plain.files.descriptions plain.files.tree plain.files.sockets plain.files.pipes descriptions tree sockets pipes_same rooted;
     pipes = subst HasPipeBytes (sym pipes_same) pipes;
     directories = λ n dir lives. ap (λ t. is_directory t n) tree ∙ dir;
+    kinds = λ n opened used socket none. ap (λ t. is_directory t n) tree ∙ none;
   })
 
   -- descriptions, sockets and pipes have changed
@@ -106,6 +109,7 @@ module _ (plain : Plain) (pid : ℕ) (call : Call) (next : Files) (rooted : Root
     rooted = subst (λ t. Rooted after.descriptions t after.sockets after.pipes) (sym tree) left;
     pipes = left_pipes;
     directories = λ n dir lives. ap (λ t. is_directory t n) tree ∙ dir;
+    kinds = λ n opened used socket none. ap (λ t. is_directory t n) tree ∙ none;
   })
 
   -- a description that a descriptor names is open on a node
@@ -131,12 +135,20 @@ module _ (plain : Plain) (pid : ℕ) (call : Call) (next : Files) (rooted : Root
     | inr goes ↦ absurd (true_false (is_busy plain n) (works_busy plain n lives) (goes.directory dir))
   ]
 
+  turned_kinds : (after : Tree) (freed : Option ℕ) → Turns plain.files.tree after (opens plain.files) (is_busy plain) freed
+      → (n : ℕ) → opens plain.files n ≡ true → is_in_use plain.files.tree n ≡ true → is_socket plain.files.tree n ≡ false → is_directory plain.files.tree n ≡ false → is_directory after n ≡ false
+  turned_kinds after freed turns n opened used socket none = elim (turns.each n used) [
+    | inl stays ↦ stays.directory ∙ none
+    | inr goes ↦ absurd (true_false (opens plain.files n) opened (goes.file none socket))
+  ]
+
   retreed : (after : Tree) (files : Files) → next ≡ files → IsTree after → Turns plain.files.tree after (opens plain.files) (is_busy plain) None
       → files.descriptions ≡ plain.files.descriptions → files.tree ≡ after → files.sockets ≡ plain.files.sockets → files.pipes ≡ plain.files.pipes → After plain next
   retreed after files is tree_is turns descriptions tree sockets pipes_same = by files is (record {
     rooted = rooted_of files plain.files.descriptions after plain.files.sockets plain.files.pipes descriptions tree sockets pipes_same (turned after None tree_is turns);
     pipes = subst HasPipeBytes (sym pipes_same) pipes;
     directories = λ n dir lives. ap (λ t. is_directory t n) tree ∙ turned_directories after None turns n dir lives;
+    kinds = λ n opened used socket none. ap (λ t. is_directory t n) tree ∙ turned_kinds after None turns n opened used socket none;
   })
 
   freed_some : (left : Option ℕ × Tree) (files : Files) → next ≡ files → IsTree left.1 → Turns plain.files.tree left.1 (opens plain.files) (is_busy plain) left.0
@@ -145,6 +157,7 @@ module _ (plain : Plain) (pid : ℕ) (call : Call) (next : Files) (rooted : Root
     rooted = rooted_of files plain.files.descriptions left.1 (after_freeing plain.files.sockets left.0) plain.files.pipes descriptions tree sockets pipes_same (turned left.1 left.0 tree_is turns);
     pipes = subst HasPipeBytes (sym pipes_same) pipes;
     directories = λ n dir lives. ap (λ t. is_directory t n) tree ∙ turned_directories left.1 left.0 turns n dir lives;
+    kinds = λ n opened used socket none. ap (λ t. is_directory t n) tree ∙ turned_kinds left.1 left.0 turns n opened used socket none;
   })
 
   -- a path among the call's operands
@@ -167,6 +180,7 @@ module _ (plain : Plain) (pid : ℕ) (call : Call) (next : Files) (rooted : Root
             (pushed_rooted plain.files.descriptions there.1 plain.files.sockets plain.files.pipes (turned there.1 None tree_is done.turns) (description_for there.0 flags) is_opened);
         pipes = subst HasPipeBytes (sym pipes_same) pipes;
         directories = λ n dir lives. ap (λ t. is_directory t n) tree ∙ turned_directories there.1 None done.turns n dir lives;
+        kinds = λ n opened used socket none. ap (λ t. is_directory t n) tree ∙ turned_kinds there.1 None done.turns n opened used socket none;
       })
         where
           tree_is : IsTree there.1
@@ -329,6 +343,7 @@ module _ (plain : Plain) (pid : ℕ) (call : Call) (next : Files) (rooted : Root
             (ap (is_in_use plain.files.tree) (sym (some_same (Some named_as.0) named_as.0 number refl e)) ∙ binds.free)) left.alone);
         pipes = pipes;
         directories = turned_directories named_as.1 None binds.turns;
+        kinds = turned_kinds named_as.1 None binds.turns;
       })
         where
           left : Rooted plain.files.descriptions named_as.1 plain.files.sockets plain.files.pipes
@@ -412,7 +427,7 @@ module _ (plain : Plain) (pid : ℕ) (call : Call) (next : Files) (rooted : Root
   step_after (step.stays is) = same _ is refl refl refl refl
   step_after (step.shares fd opened from to named free is) = same _ is refl refl refl refl
   step_after (step.shares_over fd to opened named may apart is) = by _ is (let closed_it = close_after plain rooted pipes joined piped pid (count_of to) in
-      record { rooted = closed_it.rooted; pipes = closed_it.pipes; directories = closed_it.directories })
+      record { rooted = closed_it.rooted; pipes = closed_it.pipes; directories = closed_it.directories; kinds = closed_it.kinds })
   step_after (step.marks fd opened cloexec named is) = same _ is refl refl refl refl
   step_after (step.closes fd opened named is) = by _ is (close_after plain rooted pipes joined piped pid (count_of fd))
   step_after (step.describes fd opened description named target access between is) = untreed _ is (described plain.files.tree plain.files.sockets rooted fd opened description named target access
@@ -424,6 +439,7 @@ module _ (plain : Plain) (pid : ℕ) (call : Call) (next : Files) (rooted : Root
             absurd (true_false (may_write opened.is.access) reaches.writable (let it = left.nodes opened.place other opened.is naming_it.there on in ap may_write (it.directory dir))));
         pipes = pipes;
         directories = turned_directories written.1 None both.1;
+        kinds = turned_kinds written.1 None both.1;
       })
   step_after (step.writes_at fd addr n opened number at written reaches wrote_it is) = let both = written_tree fd addr n 0 opened number at written reaches wrote_it in
       retreed written.1 _ is both.0 both.1 refl refl refl refl
@@ -474,6 +490,7 @@ module _ (plain : Plain) (pid : ℕ) (call : Call) (next : Files) (rooted : Root
   step_after (step.sends fd addr n done opened place k which named on moves is) = resocketed _ is (sock_after_write plain.files.sockets place (bytes_left plain pid addr (count_of n) done) k)
       (sent_wells (peer_of (stage_at plain.files.sockets place)) place (take k (bytes_left plain pid addr (count_of n) done)) refl (All-take IsByte k (bytes_left plain pid addr (count_of n) done) (left_bytes addr (count_of n) done)))
       (write_once plain.files.sockets place (bytes_left plain pid addr (count_of n) done) k joined.0 rooted.alone) refl refl refl refl
+  step_after (step.locks fd opened number asked sets named_so target is_file places clear is) = same _ is refl refl refl refl
   step_after (step.starts is) = by _ is (exec_after plain rooted pipes joined piped pid)
   step_after (step.forks which is) = same _ is refl refl refl refl
   step_after (step.ends_caller over ending is) = by _ is (closed_after plain rooted pipes joined piped pid)

@@ -143,6 +143,7 @@ closes : IsClosedUnder anybody Holds
 closes = record {
   shut = λ files pid fd who holds. holds;
   wakes = λ files pid who holds. holds;
+  unlocks = λ files locks holds. holds;
   gone = λ files place description holds is none. (joined_closes.gone files place description holds.0 is none, gone files place description holds is description.target refl);
 }
   where
@@ -284,6 +285,7 @@ module _ (plain : Plain) (pid : ℕ) (call : Call) (next : Files) (holds : Holds
       (put plain.files.sockets place (record (socket_at plain.files.sockets place) { bytes = drop k (socket_at plain.files.sockets place).bytes }) (there fd opened place named_it on) (λ number has. has))
   step_names (step.sends fd addr n done opened place k which named_it on moves is) = kept _ is (λ socket here. here)
       (write_fewer plain.files.sockets place (bytes_left plain pid addr (count_of n) done) k holds.0.0)
+  step_names (step.locks fd opened number asked sets named_so target is_file places clear is) = same _ is refl refl
   step_names (step.starts is) = by_both _ is (exec_holds anybody Holds closes plain.files pid tt holds)
   step_names (step.forks which is) = same _ is refl refl
   step_names (step.ends_caller over ending is) = by_both _ is (closed_by_holds anybody Holds closes plain.files pid (λ other. tt) holds)

@@ -72,6 +72,7 @@ module _ (plain : Plain) (pid : ℕ) (call : Call) (next : Files) (unnamed : nam
   by_step (step.accepts fd opened place to taken named_by on free first is) = tree_of _ is refl
   by_step (step.receives fd addr n opened place k which named_by on moves is) = tree_of _ is refl
   by_step (step.sends fd addr n done opened place k which named_by on moves is) = tree_of _ is refl
+  by_step (step.locks fd opened number asked sets named_so target is_file places clear is) = tree_of _ is refl
   by_step (step.starts is) = kept _ is (λ none. tree_kept plain.files _ (exec_fades plain.files pid) none)
   by_step (step.forks which is) = tree_of _ is refl
   by_step (step.ends_caller over ending is) = kept _ is (λ none. tree_kept plain.files _ (closed_by_fades plain.files pid) none)
@@ -84,7 +85,7 @@ leaves_tree script plain pid call = go (argument_fault call) refl
     go : (fault : Option Errno) → argument_fault call ≡ fault
         → LeadsTo (λ next. reaches_node plain pid call next ≡ false → next.files.tree ≡ plain.files.tree) (unless_wrong script plain pid fault (answer_to script plain pid call))
     go (Some e) is = λ none. refl
-    go None is = steps_lead plain pid call _ follows (answer_to script plain pid call) (right script plain pid call)
+    go None is = steps_lead plain pid call _ follows (answer_to script plain pid call) (right script plain pid call is)
       where
         follows : (goes_on : Bool) (next : Plain) → IsStep plain pid call goes_on next.files → reaches_node plain pid call next ≡ false → next.files.tree ≡ plain.files.tree
         follows goes_on next stepped none =

@@ -20,6 +20,7 @@ use Rattle.machine_laws.proofs.FifoPlaces.{fifo_in, fifo_node}
 use Rattle.machine_laws.proofs.Halving.{reached_half, stands_half, stands_open}
 use Rattle.machine_laws.proofs.Joining.{reached_joined}
 use Rattle.machine_laws.proofs.Keeping.{Whole, reached_whole}
+use Rattle.machine_laws.proofs.LockedFiles.{are_locks}
 use Rattle.machine_laws.proofs.Named.{on_named}
 use Rattle.machine_laws.proofs.Openers.{by_opener}
 use Rattle.machine_laws.proofs.Piping.{reached_piped}
@@ -91,6 +92,7 @@ module _ (script : Script) (plain : Plain) (texts : HasTexts script) (reached : 
     unlinked = λ number used none. by_opener plain.files number (rooted.unlinked number used none);
     directories = whole.directories;
     fifos = fifos;
+    locks = are_locks script texts plain reached;
     openings = λ pid opening alive some opens waits. stands_open script plain pid opening opens waits (reached_half script plain reached pid alive some);
     half_done = λ pid alive some. stands_half plain.files pid (call_of script plain pid) (reached_half script plain reached pid alive some);
   }

@@ -1,11 +1,13 @@
 -- How files change in one call: by one step, whatever the machine answers.
-use Rattle.std.specs.Prelude.{ℕ, ◌≡◌, ◌-◌, ◌%◌, ◌==◌, ◌||◌, not, ℤ, Bool, true, false, List, [], ◌∷◌, ◌++◌, length, Option, None, Some, Ok}
+use Rattle.std.specs.Prelude.{ℕ, ◌≡◌, ◌≤◌, ◌-◌, ◌%◌, ◌==◌, ◌||◌, not, ℤ, Bool, true, false, List, [], ◌∷◌, ◌++◌, length, Option, None, Some, Ok}
 use Rattle.kabi_types.specs.Arguments.{count_of, may_be_descriptor}
 use Rattle.kabi_types.specs.declared.calls.Call.{Call}
 use Rattle.kabi_types.specs.declared.calls.Call.TheVariants as calls
+use Rattle.lock_ranges.specs.Ranges.{greatest}
 use Rattle.posix_defs.specs.Answer.{Answer, Blocked, Done, Part, Ended}
 use Rattle.posix_defs.specs.Ending.{closed_by}
 use Rattle.posix_defs.specs.ByPid.{with_pid}
+use Rattle.posix_defs.specs.Locks.{Request, after_set}
 use Rattle.posix_defs.specs.Pipe.{Moves, after_read, opens_of, pipe_read, pipe_write, unopened, with_end}
 use Rattle.posix_defs.specs.Plain.{Plain}
 use Rattle.posix_defs.specs.Process.{directory_of}
@@ -20,10 +22,11 @@ use Rattle.posix_defs.specs.Files.Closing.{after_close, after_exec_of}
 use Rattle.posix_defs.specs.Files.Descriptors.{Two, descriptor_at, lowest_free, lowest_free_from, two_lowest_free}
 use Rattle.posix_defs.specs.Files.Descriptions.{OnNode, OnPipe, OnSocket, Description, access_of, at_offset, has_flag, may_read, may_write, o_cloexec}
 use Rattle.posix_defs.specs.Files.SocketNames.{listener_at}
-use Rattle.posix_defs.specs.Files.State.{Files, HalfOpen, described_as, descriptors_of, opened_as, opening_at, opens as is_opened, pipe_at, with_heir, with_open, with_opening, with_openings, with_pipe, with_pipes, with_sockets, with_tree}
+use Rattle.posix_defs.specs.Files.State.{Files, HalfOpen, described_as, descriptors_of, opened_as, opening_at, opens as is_opened, pipe_at, with_heir, with_locks, with_open, with_opening, with_openings, with_pipe, with_pipes, with_sockets, with_tree}
 use Rattle.posix_defs.specs.Calls.Opened.{Opened, opened_at}
 use Rattle.posix_defs.specs.Calls.OnDescriptors.{cloexec_set, shared_at}
 use Rattle.posix_defs.specs.Calls.OnFiles.{description_for, description_on, fifo_at, fifo_fault, fifo_pipe, fifo_waits, opening_of}
+use Rattle.posix_defs.specs.Calls.OnLocks.{is_clear}
 use Rattle.posix_defs.specs.Calls.OnNames.{is_busy, renamed}
 use Rattle.posix_defs.specs.Calls.OnPipes.{piped}
 use Rattle.posix_defs.specs.Calls.OnSockets.{accepted, paired, socketed}
@@ -51,6 +54,16 @@ may_end_other _ = false
 -- the calls that may end a process
 abbrev pub is_ending : Call → Bool
 is_ending call = may_end_caller call || may_end_other call
+
+-- the calls that may hold places of a file, or let them go
+abbrev pub is_setting : Call → Bool
+is_setting (calls.Setlk fd kind start size) = true
+is_setting (calls.Setlkw fd kind start size) = true
+is_setting _ = false
+
+-- the places that are asked for are some of a file
+abbrev pub ArePlaces : Request → Type 0
+ArePlaces asked = (asked.start ≤ asked.last) × (asked.last ≤ greatest)
 
 -- a call's descriptor is open on a node, for writing
 pub record WritesNode (plain : Plain) (pid : ℕ) (call : Call) (fd : ℤ) (opened : Opened) (number : ℕ) : Type 0 where
@@ -200,6 +213,12 @@ pub data IsStep (plain : Plain) (pid : ℕ) (call : Call) (goes_on : Bool) (next
   sends : (fd addr n : ℤ) (done : ℕ) (opened : Opened) (place k : ℕ) → call ≡ calls.Write fd addr n done → opened_at plain.files pid fd ≡ Some opened
       → opened.is.target ≡ OnSocket place → sock_write plain.files.sockets place opened.is.nonblock (count_of n - done) ≡ Moves k
       → next ≡ put_in_socket plain.files place (bytes_left plain pid addr (count_of n) done) k → IsStep plain pid call goes_on next
+  -- ---- record locks
+
+  -- a process holds places of a file as it asks to, or lets them go, where nothing of another is in the way
+  locks : (fd : ℤ) (opened : Opened) (number : ℕ) (asked : Request) → is_setting call ≡ true → opened_at plain.files pid fd ≡ Some opened → opened.is.target ≡ OnNode number
+      → is_directory plain.files.tree number ≡ false → ArePlaces asked → is_clear plain.files.locks pid number asked ≡ true
+      → next ≡ with_locks plain.files (after_set plain.files.locks pid number asked) → IsStep plain pid call goes_on next
   -- ---- processes
 
   -- a program starts, and its descriptors with FD_CLOEXEC are closed

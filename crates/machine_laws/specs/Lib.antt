@@ -13,3 +13,5 @@ pub mod Followed
 pub mod Framed
 pub mod Signals
 pub mod WithoutFifos
+pub mod Chains
+pub mod WithoutLocks

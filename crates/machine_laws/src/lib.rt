@@ -6,6 +6,7 @@ mod ended;
 mod fifos;
 mod frames;
 mod halves;
+mod locks;
 mod offsets;
 mod own;
 mod pipes;
@@ -29,6 +30,11 @@ pub use fifos::{
 };
 pub use frames::{a_shared_frame_is_written_by_nobody, pages_of_a_frame_have_its_bytes};
 pub use halves::who_is_half_done_stands_at_a_write_or_an_open;
+pub use locks::{
+    a_circle_is_a_chain, a_circle_is_refused_and_never_slept_in,
+    no_two_processes_hold_a_place_that_they_cant_share, who_has_ended_holds_no_lock,
+    without_locks_all_is_as_before,
+};
 pub use offsets::offsets_in_directories_stand_between_entries;
 pub use own::{
     a_child_begins_with_what_its_parent_has, another_call_leaves_alone,

@@ -9,3 +9,4 @@ pub mod Sockets
 pub mod Lives
 pub mod Signals
 pub mod Fifos
+pub mod Locks

@@ -5,6 +5,7 @@
 
 mod fifos;
 mod lives;
+mod locks;
 mod opens;
 mod pairs;
 mod paths;
@@ -18,6 +19,7 @@ pub use fifos::{
     faults_on_fifos_are_told, other_sides_that_went_are_told, sleeping_opens_are_told,
 };
 pub use lives::{breaks_are_told, faults_of_processes_are_told, orphans_are_told};
+pub use locks::{clerks_in_a_circle_are_told, locks_that_go_are_told, three_in_a_circle_are_told};
 pub use opens::{
     cut_and_grown_are_told, faults_on_files_are_told, files_without_names_are_told,
     flags_of_open_are_told, full_disks_are_told, open_directories_are_told,

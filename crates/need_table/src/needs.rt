@@ -1,7 +1,7 @@
 ghost use Rattle.std.specs.Prelude.{◌≡◌, ◌-◌, ◌<◌, ◌≤◌, ◌^◌, length, None};
 ghost use Rattle.kabi_types.specs.Arguments.{argument_fault, range_fault, count_of};
 ghost use Rattle.posix_defs.specs.Sizes.{no_need};
-ghost use Rattle.posix_defs.specs.Needs.{need_of, objects_of, leaf_need, walk_need, two_walks_need, read_need, write_need, stored_bytes, pages_touched, pages_in, nodes_for, chunks_for};
+ghost use Rattle.posix_defs.specs.Needs.{need_of, objects_of, leaf_need, lock_need, walk_need, two_walks_need, read_need, write_need, stored_bytes, pages_touched, pages_in, nodes_for, chunks_for};
 
 use kabi_types::{Call, Need};
 
@@ -113,6 +113,16 @@ fn leaf() -> Need
     }
 }
 
+/// The Locks that a range may take beside those that it goes over.
+fn locks() -> Need
+    ensures { result ≡ lock_need }
+{
+    Need {
+        lock: 2,
+        ..Need::default()
+    }
+}
+
 /// So many descriptions, pipes and sockets, and what the descriptors take that name them.
 fn ends(desc: u32, pipe: u32, sock: u32) -> Need
     ensures { result ≡ record leaf_need { desc = desc; pipe = pipe; sock = sock } }
@@ -158,7 +168,7 @@ fn store(addr: i64, n: u64) -> Need
     }
 }
 
-/// The objects of a call whose operands are right; most calls make none.
+/// The objects of a call whose operands are right; many calls make none.
 fn objects(call: &Call) -> Need
     requires { argument_fault call.now ≡ None }
     ensures objects { result ≡ objects_of call.now }
@@ -192,8 +202,24 @@ fn objects(call: &Call) -> Need
         Call::Socket => ends(1, 0, 1),
         Call::Socketpair => ends(2, 0, 2),
         Call::Accept { .. } => ends(1, 0, 0),
-        // The definition has a case for each call, so the proof finds one that is forgotten here.
-        _ => Need::default(),
+        Call::Setlk { .. } | Call::Setlkw { .. } => locks(),
+        Call::Getpid
+        | Call::Getppid
+        | Call::SchedYield
+        | Call::Exit { .. }
+        | Call::Waitpid { .. }
+        | Call::Kill { .. }
+        | Call::Munmap { .. }
+        | Call::Load { .. }
+        | Call::Close { .. }
+        | Call::Fcntl { .. }
+        | Call::Lseek { .. }
+        | Call::Fstat { .. }
+        | Call::Listen { .. }
+        | Call::Shutdown { .. }
+        | Call::Poll { .. }
+        | Call::Signal { .. }
+        | Call::Getlk { .. } => Need::default(),
     }
 }
 

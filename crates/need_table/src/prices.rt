@@ -28,6 +28,7 @@ pub fn price(kind: CallKind) -> Price
         CallKind::Socket => Price::Always(448),
         CallKind::Socketpair => Price::Always(640),
         CallKind::Accept => Price::Always(320),
+        CallKind::Setlk | CallKind::Setlkw => Price::Always(128),
         CallKind::Mmap => Price::Mapped(512),
         CallKind::Store => Price::Touched(4096, 0),
         CallKind::Read | CallKind::Pread | CallKind::Readdir => Price::Touched(4096, 2176),

@@ -26,6 +26,7 @@ fn class_name(class: Class) -> &'static str
         Class::Chunk => "Chunk",
         Class::Sock => "Sock",
         Class::Leaf => "Leaf",
+        Class::Lock => "Lock",
     }
 }
 

@@ -1,13 +1,14 @@
-//! Objects of all eleven classes in the heap.
+//! Objects of all twelve classes in the heap.
 
 ghost use Rattle.std.specs.Prelude.{◌≡◌, ◌+◌, ◌≤◌};
 ghost use Rattle.kheap_slabs.specs.Heap.{live_bytes};
 
 use kabi_types::{Control, Inode, Name27};
 use kheap_slabs::{
-    Access, Block, Chunk, Desc, DescFlags, Descriptor, KHeap, Leaf, Name, Node, Page, PageEntry,
-    Pipe, Proc, QueueParts, Sock, SockState, Target, Vnode,
+    Access, Block, Chunk, Desc, DescFlags, Descriptor, KHeap, Leaf, Lock, Name, Node, Page,
+    PageEntry, Pipe, Proc, QueueParts, Sock, SockState, Target, Vnode,
 };
+use lock_ranges::{Kind, Range};
 use std::test::Fail;
 
 fn proc_of(pid: u32) -> Proc {
@@ -46,6 +47,19 @@ fn last_desc(leaf: &Leaf) -> Option<u32> {
     match leaf.descriptors[31] {
         Some(descriptor) => Some(descriptor.desc),
         None => None,
+    }
+}
+
+fn lock_of(pid: u32) -> Lock {
+    Lock {
+        pid,
+        node: 2,
+        range: Range {
+            kind: Kind::Shared,
+            start: 0,
+            last: 9,
+        },
+        next: None,
     }
 }
 
@@ -274,11 +288,23 @@ fn renew_leaf(heap: &mut KHeap) -> bool
     last_desc(&freed) == Some(3) && last_desc(found) == Some(5)
 }
 
-// 512 + 512 + 4096 + 64 + 128 + 64 + 1088 + 128 + 576 + 128 + 256 bytes.
-fn renew_each(heap: &mut KHeap) -> bool
-    requires { live_bytes heap.old + 7552 ≤ heap.old.heap }
+fn renew_lock(heap: &mut KHeap) -> bool
+    requires { live_bytes heap.old + 64 ≤ heap.old.heap }
     ensures heap { heap.new.heap ≡ heap.old.heap }
-    ensures live { live_bytes heap.new ≡ live_bytes heap.old + 7552 }
+    ensures live { live_bytes heap.new ≡ live_bytes heap.old + 64 }
+{
+    let first = heap.insert_lock(lock_of(3));
+    let freed = heap.free_lock(first);
+    let second = heap.insert_lock(lock_of(5));
+    let found = heap.get_lock(second);
+    freed.pid == 3 && found.pid == 5
+}
+
+// 512 + 512 + 4096 + 64 + 128 + 64 + 1088 + 128 + 576 + 128 + 256 + 64 bytes.
+fn renew_each(heap: &mut KHeap) -> bool
+    requires { live_bytes heap.old + 7616 ≤ heap.old.heap }
+    ensures heap { heap.new.heap ≡ heap.old.heap }
+    ensures live { live_bytes heap.new ≡ live_bytes heap.old + 7616 }
 {
     let procs = renew_proc(heap);
     let nodes = renew_node(heap);
@@ -291,34 +317,24 @@ fn renew_each(heap: &mut KHeap) -> bool
     let chunks = renew_chunk(heap);
     let socks = renew_sock(heap);
     let leaves = renew_leaf(heap);
+    let locks = renew_lock(heap);
     let memory = procs && nodes && pages;
     let files = descs && vnodes && names && blocks;
-    memory && files && pipes && chunks && socks && leaves
+    memory && files && pipes && chunks && socks && leaves && locks
 }
 
-// 576 + 64 bytes.
-fn renew_two(heap: &mut KHeap) -> bool
-    requires { live_bytes heap.old + 640 ≤ heap.old.heap }
-    ensures heap { heap.new.heap ≡ heap.old.heap }
-    ensures live { live_bytes heap.new ≡ live_bytes heap.old + 640 }
-{
-    let chunks = renew_chunk(heap);
-    let descs = renew_desc(heap);
-    chunks && descs
-}
-
-/// Objects of all eleven classes, each made, freed and made again, fill a heap of 8192 bytes to
-/// its last byte.
+/// Objects of all twelve classes, each made, freed and made again, and a chunk fill a heap of 8192
+/// bytes to its last byte.
 #[test]
-fn eleven_classes_fill_the_least_heap(rt: HostRuntime) -> Result<(), Fail> {
+fn twelve_classes_fill_the_least_heap(rt: HostRuntime) -> Result<(), Fail> {
     let mut heap = KHeap::boot(rt.alloc(), 8192)?;
     let empty = heap.live();
-    let eleven = renew_each(&mut heap);
+    let twelve = renew_each(&mut heap);
     let between = heap.live();
-    let two = renew_two(&mut heap);
-    assert!(rt; empty == 0 && between == 7552 && heap.live() == 8192);
+    let chunk = renew_chunk(&mut heap);
+    assert!(rt; empty == 0 && between == 7616 && heap.live() == 8192);
     assert!(rt; heap.high() == 8192 && heap.heap() == 8192);
-    assert!(rt; eleven && two);
+    assert!(rt; twelve && chunk);
     drop(heap);
     Ok(())
 }

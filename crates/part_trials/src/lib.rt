@@ -18,6 +18,8 @@ mod lines;
 #[cfg(test)]
 mod lists;
 #[cfg(test)]
+mod locks;
+#[cfg(test)]
 mod places;
 #[cfg(test)]
 mod prices;

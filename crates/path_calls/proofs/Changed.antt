@@ -112,7 +112,7 @@ reached fault paths more ends right named = ap (λ f. (is_none f && (paths || mo
 
 module _ (script : Script) (old : Objects) (heap : Heap) (fs : TreeView) (before after : Purse) (pays : Pays old.heap heap before after old.tree fs) where
   abbrev pub mid : Objects
-  mid = record { heap = heap; procs = old.procs; tree = fs; names = old.names; fifos = old.fifos }
+  mid = record { heap = heap; procs = old.procs; tree = fs; names = old.names; fifos = old.fifos; locks = old.locks }
 
   pub kept_mid : KeepsTree heap fs → AreKept script old → AreKept script mid
   kept_mid keeps kept = kept_looked script old heap fs pays.only keeps kept
@@ -129,9 +129,9 @@ module _ (script : Script) (old : Objects) (heap : Heap) (fs : TreeView) (before
   stands_mid world tree was stands works =
       let has : HasTree mid (changed world tree) =
       record { stands = stands_still heap fs world.plain tree stands; kept = refl; reads = refl } in
-      subst (λ (h : Heap). StandsFor script (record { heap = h; procs = old.procs; tree = fs; names = old.names; fifos = old.fifos }) (changed world tree)) (sym pays.only)
+      subst (λ (h : Heap). StandsFor script (record { heap = h; procs = old.procs; tree = fs; names = old.names; fifos = old.fifos; locks = old.locks }) (changed world tree)) (sym pays.only)
       (stands_beside script old heap.vnodes heap.names heap.blocks heap.high old.heap.marks old.heap.last_high fs world tree (kept_by fs) fs.disk.reads was works
-      (subst (λ (h : Heap). HasTree (record { heap = h; procs = old.procs; tree = fs; names = old.names; fifos = old.fifos }) (changed world tree)) pays.only has))
+      (subst (λ (h : Heap). HasTree (record { heap = h; procs = old.procs; tree = fs; names = old.names; fifos = old.fifos; locks = old.locks }) (changed world tree)) pays.only has))
 
   -- it is paid for, and the step behind the call takes nothing more
   pub paid_on : (new : Heap) → TakesNothing heap new → IsPaid old.heap before new after

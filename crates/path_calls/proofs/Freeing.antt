@@ -29,6 +29,7 @@ use Rattle.posix_defs.specs.Sockets.{Sockets}
 use Rattle.posix_defs.specs.World.{World, directories_of}
 use Rattle.posix_defs.specs.declared.turner.Turned.{Turned}
 use Rattle.posix_defs.specs.declared.turner.Turned.TheVariants as turned
+use Rattle.lock_table.specs.Chain.{HoldsLocks}
 use Rattle.pipe_ends.proofs.LinkLemmas.{links_same}
 use Rattle.proc_numbers.specs.Queues.{QueuesStand, fronts_on}
 use Rattle.proc_numbers.proofs.Fronts.{fronts_follow}
@@ -110,7 +111,7 @@ socks_in h chunks socks high = record h { chunks = chunks; socks = socks; high =
 
 -- the objects with that heap, and another table of names
 abbrev pub freed_as : Objects → Heap → List (Option ℕ) → Objects
-freed_as objects heap names = record { heap = heap; procs = objects.procs; tree = objects.tree; names = names; fifos = objects.fifos }
+freed_as objects heap names = record { heap = heap; procs = objects.procs; tree = objects.tree; names = names; fifos = objects.fifos; locks = objects.locks }
 
 kept_so : (script : Script) (old : Objects) (chunks : List (Option Chunk)) (socks : List (Option Sock)) (high : ℕ) (names : List (Option ℕ)) → AreKept script old
     → HasItsOwners (socks_in old.heap chunks socks high) [] → AreBound (name_of socks) names → length names ≡ length old.names
@@ -141,6 +142,7 @@ kept_so script old chunks socks high names kept owners bound long keeps = record
   caches = keeps;
   size = kept.size;
   chain = chain_kept old.heap (socks_in old.heap chunks socks high) old.fifos (links_same old.heap (socks_in old.heap chunks socks high) refl) kept.chain;
+  locked = kept.locked;
 }
 
 -- A socket's name is taken from these objects, if one was freed.
@@ -209,6 +211,7 @@ module _ (script : Script) (old : Objects) (heap : Heap) (names : List (Option �
             stands.files.opened.opened held.held.opened.opened queues (λ key used. refl) (λ key used. refl) stands.files.fronts);
         settled = settled_still world.plain.files freed world.account stands.files.settled;
       };
+      locks = subst (λ (h : Heap). HoldsLocks h.locks old.locks world.plain.files.locks) (sym beside) stands.locks;
       tree = record {
         stands = same_pins heap old.tree world.plain.files.tree (pins_in world.plain) (pins_in (unnamed_in world).plain) still tree_stands;
         kept = stands.tree.kept;

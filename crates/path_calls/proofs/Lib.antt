@@ -13,3 +13,4 @@ pub mod WorkedOn
 pub mod OpenAfter
 pub mod Led
 pub mod Freeing
+pub mod NoFifo

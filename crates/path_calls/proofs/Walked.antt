@@ -79,16 +79,16 @@ holds_directory script objects world pid proc stands found up =
 -- The caches and their part of the heap are others.
 module _ (script : Script) (old : Objects) (heap : Heap) (fs : TreeView) (beside : heap ≡ record old.heap { vnodes = heap.vnodes; names = heap.names; blocks = heap.blocks; high = heap.high }) where
   abbrev pub mid : Objects
-  mid = record { heap = heap; procs = old.procs; tree = fs; names = old.names; fifos = old.fifos }
+  mid = record { heap = heap; procs = old.procs; tree = fs; names = old.names; fifos = old.fifos; locks = old.locks }
 
   pub kept_mid : KeepsTree heap fs → AreKept script old → AreKept script mid
   kept_mid keeps kept =
-      subst (λ (h : Heap). AreKept script (record { heap = h; procs = old.procs; tree = fs; names = old.names; fifos = old.fifos })) (sym beside)
+      subst (λ (h : Heap). AreKept script (record { heap = h; procs = old.procs; tree = fs; names = old.names; fifos = old.fifos; locks = old.locks })) (sym beside)
       (kept_beside script old heap.vnodes heap.names heap.blocks heap.high old.heap.marks old.heap.last_high fs kept (subst (λ (h : Heap). KeepsTree h fs) beside keeps))
 
   pub runs_mid : (pid : ℕ) (control : Control) → Runs old pid control → Runs mid pid control
   runs_mid pid control runs =
-      subst (λ (h : Heap). Runs (record { heap = h; procs = old.procs; tree = fs; names = old.names; fifos = old.fifos }) pid control) (sym beside)
+      subst (λ (h : Heap). Runs (record { heap = h; procs = old.procs; tree = fs; names = old.names; fifos = old.fifos; locks = old.locks }) pid control) (sym beside)
       (record { proc = runs.proc; found = runs.found; up = runs.up; at_call = runs.at_call })
 
   -- the world with what is kept now, and the reads
@@ -98,15 +98,15 @@ module _ (script : Script) (old : Objects) (heap : Heap) (fs : TreeView) (beside
   pub stands_mid : (world : World) → StandsFor script old world → TreeStands heap fs world.plain.files.tree (pins_in world.plain) → StandsFor script mid (looked world)
   stands_mid world stands now =
       let has : HasTree mid (looked world) = record { stands = now; kept = refl; reads = refl } in
-      subst (λ (h : Heap). StandsFor script (record { heap = h; procs = old.procs; tree = fs; names = old.names; fifos = old.fifos }) (looked world)) (sym beside)
+      subst (λ (h : Heap). StandsFor script (record { heap = h; procs = old.procs; tree = fs; names = old.names; fifos = old.fifos; locks = old.locks }) (looked world)) (sym beside)
       (stands_beside script old heap.vnodes heap.names heap.blocks heap.high old.heap.marks old.heap.last_high fs world world.plain.files.tree (kept_by fs) fs.disk.reads stands stands.works
-      (subst (λ (h : Heap). HasTree (record { heap = h; procs = old.procs; tree = fs; names = old.names; fifos = old.fifos }) (looked world)) beside has))
+      (subst (λ (h : Heap). HasTree (record { heap = h; procs = old.procs; tree = fs; names = old.names; fifos = old.fifos; locks = old.locks }) (looked world)) beside has))
 
   -- where it has entered a directory
   pub entered_mid : (world : World) (directory : ℕ) → StandsFor script old world → TreeStands heap fs world.plain.files.tree (one_more (pins_in world.plain) directory)
       → is_directory world.plain.files.tree directory ≡ true → HasEntered script mid (looked world) directory
   entered_mid world directory stands now is =
-      subst (λ (h : Heap). HasEntered script (record { heap = h; procs = old.procs; tree = fs; names = old.names; fifos = old.fifos }) (looked world) directory) (sym beside)
+      subst (λ (h : Heap). HasEntered script (record { heap = h; procs = old.procs; tree = fs; names = old.names; fifos = old.fifos; locks = old.locks }) (looked world) directory) (sym beside)
       (entered_beside script old heap.vnodes heap.names heap.blocks heap.high old.heap.marks old.heap.last_high fs world directory stands
       (subst (λ (h : Heap). TreeStands h fs world.plain.files.tree (one_more (pins_in world.plain) directory)) beside now) is)
 

@@ -1,11 +1,12 @@
 -- Sets of nodes, and which nodes processes hold.
-use Rattle.std.specs.Prelude.{ℕ, ◌==◌, ◌≡◌, ◌&&◌, ◌||◌, Bool, false, List, Option, None, Some, nat_lt, is_none}
+use Rattle.std.specs.Prelude.{ℕ, ◌==◌, ◌≡◌, ◌&&◌, ◌||◌, Bool, false, true, List, Option, None, Some, nat_lt, is_none}
 use Rattle.std.specs.List.{list_any}
 use Rattle.kheap_slabs.specs.Objects.{object}
 use Rattle.kheap_slabs.specs.declared.objects.Desc.{Desc}
 use Rattle.kheap_slabs.specs.declared.objects.Descriptor.{Descriptor}
 use Rattle.kheap_slabs.specs.declared.objects.Pipe.{Pipe}
 use Rattle.kheap_slabs.specs.declared.objects.Proc.{Proc}
+use Rattle.kheap_slabs.specs.declared.objects.Target.TheVariants as target
 use Rattle.open_laws.specs.Described.{node_in}
 use Rattle.posix_defs.specs.Files.State.{is_number}
 use Rattle.posix_defs.specs.SoundDisk.{bit_of}
@@ -30,6 +31,10 @@ Adds old new test = (number : ℕ) → has_node new number ≡ (has_node old num
 -- a process runs, and works in this node
 abbrev pub works_at : ℕ → Proc → Bool
 works_at number proc = is_none proc.status && proc.cwd == number
+
+-- no pipe is a FIFO's, where that is said
+abbrev pub HasNoFifo : Heap → Bool → Type 0
+HasNoFifo h no_fifo = no_fifo ≡ true → (key : ℕ) → node_in h.pipes (target.Pipe key) ≡ None
 
 -- the node that a description opens; one of an end of a FIFO's pipe opens the FIFO
 abbrev pub node_of : List (Option Pipe) → Option Desc → Option ℕ

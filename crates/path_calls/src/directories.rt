@@ -103,7 +103,8 @@ pub fn rmdir(
     objects.heap_is_well_formed();
     let cwd = directory_of(objects, caller.place);
     let mut held = NodeSet::new();
-    add_all_held(&objects.heap, &objects.procs, &mut held);
+    let no_fifo = objects.fifos.is_empty();
+    add_all_held(&objects.heap, &objects.procs, no_fifo, &mut held);
     let busy = |node: u32| held.has(node);
     let gone = objects
         .tree

@@ -1,6 +1,6 @@
 //! Who holds which nodes, told while the heap is lent to the tree.
 
-ghost use Rattle.std.specs.Prelude.{◌≡◌, ◌&&◌, ℕ, [], Some, false, nat_lt};
+ghost use Rattle.std.specs.Prelude.{◌≡◌, ◌&&◌, ℕ, [], Some, false, nat_lt, true};
 ghost use Rattle.kheap_slabs.specs.Objects.{InUse, object};
 ghost use Rattle.kheap_slabs.specs.declared.objects.Descriptor.{Descriptor as HeldDescriptor};
 ghost use Rattle.kheap_slabs.specs.declared.objects.Proc.{Proc};
@@ -12,7 +12,7 @@ ghost use Rattle.open_laws.specs.Polled.{IsTargetIn};
 ghost use Rattle.posix_defs.specs.Files.State.{is_number};
 ghost use Rattle.proc_numbers.specs.Having.{AreListed};
 ghost use Rattle.proc_table.specs.Table.{AreStored, processes};
-ghost use Rattle.path_calls.specs.Nodes.{Adds, has_node, holds_node, most_nodes, some_holds, some_opens};
+ghost use Rattle.path_calls.specs.Nodes.{Adds, HasNoFifo, has_node, holds_node, most_nodes, some_holds, some_opens};
 
 use crate::node_set::NodeSet;
 use kheap_slabs::{Desc, Descriptor, KHeap, Target};
@@ -20,25 +20,27 @@ use pipe_ends::pipe_fifo;
 use proc_table::ProcTable;
 
 /// Puts the nodes that live processes work in, and those that are open, into a set that has none.
-pub(crate) fn add_all_held(heap: &KHeap, procs: &ProcTable, nodes: &mut NodeSet)
+pub(crate) fn add_all_held(heap: &KHeap, procs: &ProcTable, no_fifo: bool, nodes: &mut NodeSet)
     requires whole { IsWellFormed heap.now }
     requires stored { AreStored heap.now.procs procs.now.listed }
     requires listed { AreListed heap.now procs.now }
     requires owners { HasItsOwners heap.now [] }
+    requires fifos { HasNoFifo heap.now no_fifo }
     requires none { (number : ℕ) → has_node nodes.old number ≡ false }
     ensures { (number : ℕ) → has_node nodes.new number
         ≡ (nat_lt number most_nodes && some_holds heap.now (processes heap.now procs.now) number) }
 {
     for place in procs.listed() {
-        add_held(heap, place.key, nodes);
+        add_held(heap, place.key, no_fifo, nodes);
     }
 }
 
 // The node that a process works in, as long as it runs, and those that it has open.
-fn add_held(heap: &KHeap, key: u32, nodes: &mut NodeSet)
+fn add_held(heap: &KHeap, key: u32, no_fifo: bool, nodes: &mut NodeSet)
     requires whole { IsWellFormed heap.now }
     requires there { InUse heap.now.procs key }
     requires owners { HasItsOwners heap.now [] }
+    requires fifos { HasNoFifo heap.now no_fifo }
     requires owns { (proc : Proc) → object heap.now.procs key ≡ Some proc → OwnsLeaves heap.now.leaves proc.leaves }
     ensures { (proc : Proc) → object heap.now.procs key ≡ Some proc
         → Adds nodes.old nodes.new (λ number. holds_node heap.now number proc) }
@@ -47,28 +49,66 @@ fn add_held(heap: &KHeap, key: u32, nodes: &mut NodeSet)
     if proc.status.is_none() {
         nodes.add(proc.cwd);
     }
-    add_row(heap, &proc.descriptors, nodes);
-    add_leaf(heap, proc.leaves[0], nodes);
-    add_leaf(heap, proc.leaves[1], nodes);
-    add_leaf(heap, proc.leaves[2], nodes);
+    add_row(heap, &proc.descriptors, no_fifo, nodes);
+    add_leaf(heap, proc.leaves[0], no_fifo, nodes);
+    add_leaf(heap, proc.leaves[1], no_fifo, nodes);
+    add_leaf(heap, proc.leaves[2], no_fifo, nodes);
 }
 
 // The nodes that the numbers of a Leaf are open on, where it is there.
-fn add_leaf(heap: &KHeap, leaf: Option<u32>, nodes: &mut NodeSet)
+fn add_leaf(heap: &KHeap, leaf: Option<u32>, no_fifo: bool, nodes: &mut NodeSet)
     requires there { (key : ℕ) → leaf ≡ Some key → InUse heap.now.leaves key }
     requires whole { IsWellFormed heap.now }
     requires owners { HasItsOwners heap.now [] }
+    requires fifos { HasNoFifo heap.now no_fifo }
     requires named { (fd : ℕ) (held : HeldDescriptor) → object (row_at heap.now.leaves leaf) fd ≡ Some held → InUse heap.now.descs held.desc }
     ensures { Adds nodes.old nodes.new (some_opens heap.now (row_at heap.now.leaves leaf)) }
 {
     let Some(key) = leaf else {
         return;
     };
-    add_row(heap, &heap.get_leaf(key).descriptors, nodes);
+    add_row(heap, &heap.get_leaf(key).descriptors, no_fifo, nodes);
 }
 
-// The nodes that these descriptors are open on.
-fn add_row(heap: &KHeap, row: &[Option<Descriptor>; 32], nodes: &mut NodeSet)
+// The nodes that these descriptors are open on. Where no FIFO is open no pipe is asked for its own.
+fn add_row(heap: &KHeap, row: &[Option<Descriptor>; 32], no_fifo: bool, nodes: &mut NodeSet)
+    requires owners { HasItsOwners heap.now [] }
+    requires fifos { HasNoFifo heap.now no_fifo }
+    requires named { (fd : ℕ) (held : HeldDescriptor) → object row.now fd ≡ Some held → InUse heap.now.descs held.desc }
+    ensures { Adds nodes.old nodes.new (some_opens heap.now row.now) }
+{
+    if no_fifo {
+        add_files(heap, row, nodes);
+    } else {
+        add_nodes(heap, row, nodes);
+    }
+}
+
+// The same where no FIFO is open.
+fn add_files(heap: &KHeap, row: &[Option<Descriptor>; 32], nodes: &mut NodeSet)
+    requires fifos { HasNoFifo heap.now true }
+    requires named { (fd : ℕ) (held : HeldDescriptor) → object row.now fd ≡ Some held → InUse heap.now.descs held.desc }
+    ensures { Adds nodes.old nodes.new (some_opens heap.now row.now) }
+{
+    for descriptor in row {
+        if let Some(held) = descriptor {
+            add_file(heap, heap.get_desc(held.desc), nodes);
+        }
+    }
+}
+
+// The file or the directory that a description is open on, if it is open on one.
+fn add_file(_heap: &KHeap, desc: &Desc, nodes: &mut NodeSet)
+    requires { HasNoFifo _heap.now true }
+    ensures { Adds nodes.old nodes.new (λ number. is_number number (node_in _heap.now.pipes desc.now.target)) }
+{
+    if let Target::Inode(node) = desc.target {
+        nodes.add(node);
+    }
+}
+
+// The same where a pipe may be a FIFO's.
+fn add_nodes(heap: &KHeap, row: &[Option<Descriptor>; 32], nodes: &mut NodeSet)
     requires owners { HasItsOwners heap.now [] }
     requires named { (fd : ℕ) (held : HeldDescriptor) → object row.now fd ≡ Some held → InUse heap.now.descs held.desc }
     ensures { Adds nodes.old nodes.new (some_opens heap.now row.now) }

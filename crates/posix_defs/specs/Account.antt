@@ -95,10 +95,10 @@ leaves_of descriptors = count_by (has_leaf descriptors) (32 ∷ 64 ∷ 96 ∷ []
 abbrev pub leaves_open : Files → ℕ
 leaves_open files = sum_by leaves_of files.descriptors
 
--- by descriptors, descriptions, pipes, sockets and their queues
+-- by descriptors, locks, descriptions, pipes, sockets and their queues
 abbrev pub files_base : Files → Account → ℕ
 files_base files account =
-    leaves_open files * size class.Leaf + count_by is_some files.descriptions * size class.Desc + count_by is_some files.pipes * size class.Pipe
+    leaves_open files * size class.Leaf + length files.locks * size class.Lock + count_by is_some files.descriptions * size class.Desc + count_by is_some files.pipes * size class.Pipe
     + count_by is_some files.sockets * size class.Sock
     + (chunks_taken (pipe_lengths files) account.pipes + chunks_taken (socket_lengths files) account.sockets) * size class.Chunk
 

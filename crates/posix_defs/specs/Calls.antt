@@ -8,4 +8,5 @@ pub mod OnNames
 pub mod Starting
 pub mod OnPipes
 pub mod OnSockets
+pub mod OnLocks
 pub mod Polling

@@ -26,6 +26,7 @@ pub mod Waiting
 pub mod Signals
 pub mod Killing
 pub mod MemoryCalls
+pub mod Locks
 pub mod Files
 pub mod Calls
 pub mod Machine

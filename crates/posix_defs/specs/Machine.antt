@@ -24,6 +24,7 @@ use Rattle.posix_defs.specs.Calls.OnNames.{stat, chdir, mkdir, mkfifo, rmdir, un
 use Rattle.posix_defs.specs.Calls.Starting.{exec}
 use Rattle.posix_defs.specs.Calls.OnPipes.{pipe}
 use Rattle.posix_defs.specs.Calls.OnSockets.{socket, socketpair, bind, listen, connect, accept, shutdown}
+use Rattle.posix_defs.specs.Calls.OnLocks.{setlk, setlkw, getlk}
 use Rattle.posix_defs.specs.Calls.Polling.{poll}
 
 -- what each call is answered where no operand is wrong
@@ -71,6 +72,9 @@ answer_to script plain pid (call.Shutdown fd how) = shutdown script plain pid fd
 answer_to script plain pid (call.Poll timeout entries) = poll script plain pid timeout entries
 answer_to script plain pid (call.Signal which disposition) = signal script plain pid which disposition
 answer_to script plain pid (call.Mkfifo path) = mkfifo script plain pid path
+answer_to script plain pid (call.Setlk fd kind start length) = setlk script plain pid fd kind start length
+answer_to script plain pid (call.Setlkw fd kind start length) = setlkw script plain pid fd kind start length
+answer_to script plain pid (call.Getlk fd kind start length) = getlk script plain pid fd kind start length
 
 -- a wrong operand is told before anything else is looked at
 abbrev pub unless_wrong : Script → Plain → ℕ → Option Errno → Answer → Answer

@@ -65,6 +65,9 @@ made kind.Shutdown numbers texts done = call.Shutdown (number_at numbers 0) (num
 made kind.Poll numbers texts done = call.Poll (number_at numbers 0) (pairs_of (drop 1 numbers))
 made kind.Signal numbers texts done = call.Signal (number_at numbers 0) (number_at numbers 1)
 made kind.Mkfifo numbers texts done = call.Mkfifo (text_at texts 0)
+made kind.Setlk numbers texts done = call.Setlk (number_at numbers 0) (number_at numbers 1) (number_at numbers 2) (number_at numbers 3)
+made kind.Setlkw numbers texts done = call.Setlkw (number_at numbers 0) (number_at numbers 1) (number_at numbers 2) (number_at numbers 3)
+made kind.Getlk numbers texts done = call.Getlk (number_at numbers 0) (number_at numbers 1) (number_at numbers 2) (number_at numbers 3)
 
 -- the same call with so much more done of it; a write alone is done in parts
 abbrev pub further : ℕ → Call → Call

@@ -107,6 +107,10 @@ write_need left = record no_need { block = 2; chunk = chunks_for left }
 abbrev pub leaf_need : Need
 leaf_need = record no_need { leaf = 1 }
 
+-- two Locks: a range that is cut in the middle is two, and between them is a third
+abbrev pub lock_need : Need
+lock_need = record no_need { lock = 2 }
+
 -- the objects that a call whose operands are right may make; an open may find a FIFO, which it makes a pipe for
 abbrev pub objects_of : Call → Need
 objects_of call.Getpid = no_need
@@ -152,6 +156,9 @@ objects_of (call.Shutdown _ _) = no_need
 objects_of (call.Poll _ _) = no_need
 objects_of (call.Signal _ _) = no_need
 objects_of (call.Mkfifo _) = walk_need
+objects_of (call.Setlk _ _ _ _) = lock_need
+objects_of (call.Setlkw _ _ _ _) = lock_need
+objects_of (call.Getlk _ _ _ _) = no_need
 
 -- the objects that a call may make: none where an operand is wrong
 unfoldable pub need_of : Call → Need

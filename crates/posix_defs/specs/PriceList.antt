@@ -49,3 +49,6 @@ price_of kind.Shutdown = Always 0
 price_of kind.Poll = Always 0
 price_of kind.Signal = Always 0
 price_of kind.Mkfifo = Always 2560
+price_of kind.Setlk = Always 128
+price_of kind.Setlkw = Always 128
+price_of kind.Getlk = Always 0

@@ -26,6 +26,7 @@ class_name class.Pipe = codes "Pipe"
 class_name class.Chunk = codes "Chunk"
 class_name class.Sock = codes "Sock"
 class_name class.Leaf = codes "Leaf"
+class_name class.Lock = codes "Lock"
 
 -- a class and the size of its objects
 abbrev pub class_line : Class → List ℕ

@@ -61,6 +61,9 @@ descriptors_in (call.Listen fd) = fd ∷ []
 descriptors_in (call.Connect fd path) = fd ∷ []
 descriptors_in (call.Accept fd) = fd ∷ []
 descriptors_in (call.Shutdown fd how) = fd ∷ []
+descriptors_in (call.Setlk fd kind start length) = fd ∷ []
+descriptors_in (call.Setlkw fd kind start length) = fd ∷ []
+descriptors_in (call.Getlk fd kind start length) = fd ∷ []
 descriptors_in (call.Poll timeout entries) = map (λ entry. entry.fd) entries
 descriptors_in _ = []
 

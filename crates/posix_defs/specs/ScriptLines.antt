@@ -79,6 +79,9 @@ shape_of kind.Shutdown = shape.Values 2
 shape_of kind.Poll = shape.Pairs
 shape_of kind.Signal = shape.Values 2
 shape_of kind.Mkfifo = shape.OnePath
+shape_of kind.Setlk = shape.Values 4
+shape_of kind.Setlkw = shape.Values 4
+shape_of kind.Getlk = shape.Values 4
 
 -- what a call gets: its values, and its texts
 abbrev pub CallOperands : Type 0

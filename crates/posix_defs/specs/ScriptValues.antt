@@ -143,11 +143,12 @@ open_constants =
     (codes "O_RDONLY", 0) ∷ (codes "O_WRONLY", 1) ∷ (codes "O_RDWR", 2) ∷ (codes "O_CREAT", 64) ∷ (codes "O_EXCL", 128)
     ∷ (codes "O_TRUNC", 512) ∷ (codes "O_APPEND", 1024) ∷ (codes "O_NONBLOCK", 2048) ∷ (codes "O_CLOEXEC", 524288) ∷ []
 
--- the constants of `lseek` and `fcntl`
+-- the constants of `lseek` and `fcntl`, and of the calls on record locks
 abbrev pub descriptor_constants : List (List ℕ × ℕ)
 descriptor_constants =
     (codes "SEEK_SET", 0) ∷ (codes "SEEK_CUR", 1) ∷ (codes "SEEK_END", 2) ∷ (codes "F_DUPFD", 0) ∷ (codes "F_GETFD", 1)
-    ∷ (codes "F_SETFD", 2) ∷ (codes "F_GETFL", 3) ∷ (codes "F_SETFL", 4) ∷ (codes "FD_CLOEXEC", 1) ∷ []
+    ∷ (codes "F_SETFD", 2) ∷ (codes "F_GETFL", 3) ∷ (codes "F_SETFL", 4) ∷ (codes "FD_CLOEXEC", 1)
+    ∷ (codes "F_RDLCK", 0) ∷ (codes "F_WRLCK", 1) ∷ (codes "F_UNLCK", 2) ∷ []
 
 -- the constants of `waitpid`, `kill`, `signal`, `shutdown` and `poll`
 abbrev pub other_constants : List (List ℕ × ℕ)

@@ -18,4 +18,4 @@ room heap = heap - fixed
 
 -- no objects
 abbrev pub no_need : Need
-no_need = record { proc = 0; node = 0; page = 0; desc = 0; vnode = 0; name = 0; block = 0; pipe = 0; chunk = 0; sock = 0; leaf = 0 }
+no_need = record { proc = 0; node = 0; page = 0; desc = 0; vnode = 0; name = 0; block = 0; pipe = 0; chunk = 0; sock = 0; leaf = 0; lock = 0 }

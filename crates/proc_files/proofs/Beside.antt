@@ -56,6 +56,9 @@ module _ (old new : Heap) (e : CachesChange old new) where
   pub same_socks : new.socks ≡ old.socks
   same_socks = ap (λ (h : Heap). h.socks) e
 
+  pub same_locks : new.locks ≡ old.locks
+  same_locks = ap (λ (h : Heap). h.locks) e
+
   owned_beside : (owners : Owners) → IsOwned old owners → IsOwned new owners
   owned_beside owners owned = IsOwned-same old new owners same_nodes same_pages same_chunks owned
 

@@ -8,9 +8,9 @@ use Rattle.proc_table.specs.Table.{TableView, key_of}
 use Rattle.proc_table.proofs.PlaceLemmas.{some_same}
 use Rattle.proc_numbers.specs.Naming.{ChangesNumbers}
 use Rattle.proc_numbers.proofs.Listing.{put_same}
-use Rattle.proc_files.specs.Closing.{CachesChange, ChangesHolding, ClosesHolding}
+use Rattle.proc_files.specs.Closing.{CachesChange, ChangesHolding, ClosesHolding, with_locks_of}
 
--- the heap with what is open and what is cached in another
+-- the heap with what is open, what is cached and what is locked in another
 abbrev pub holding : Heap → Heap → Heap
 holding old new = record old {
   procs = new.procs;
@@ -22,6 +22,7 @@ holding old new = record old {
   vnodes = new.vnodes;
   names = new.names;
   blocks = new.blocks;
+  locks = new.locks;
   high = new.high;
 }
 
@@ -109,7 +110,7 @@ holding_then old mid new kept pid first second =
     }
 
 -- a number is closed
-unfoldable pub holding_closed : (old new : Heap) (kept : TableView) (pid fd : ℕ) → ClosesHolding old new kept pid fd → ChangesHolding old new kept pid
+unfoldable pub holding_closed : (old new : Heap) (kept : TableView) (pid fd : ℕ) → ClosesHolding (with_locks_of old new) new kept pid fd → ChangesHolding old new kept pid
 holding_closed old new kept pid fd closes =
     let one = closes.closes in
     record {

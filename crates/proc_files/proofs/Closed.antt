@@ -13,12 +13,12 @@ use Rattle.memfs_ops.specs.Closing.{HeldToClose, left_tree, one_less}
 use Rattle.memfs_ops.specs.FileTree.{Pays, Stands, TreeView}
 use Rattle.open_laws.specs.Placed.{Numbers}
 use Rattle.posix_defs.specs.Files.Descriptions.{Description}
-use Rattle.posix_defs.specs.Files.Closing.{after_close}
 use Rattle.posix_defs.specs.Files.State.{Files, opens}
 use Rattle.posix_defs.specs.IsTree.{IsTree}
 use Rattle.posix_defs.specs.PathCalls.{is_fifo_kind, is_socket_kind, kind_in}
 use Rattle.posix_defs.specs.Tree.{Node, Tree, is_directory, is_directory_in, links_at, links_in, node_at, root, with_node}
 use Rattle.posix_defs.specs.TreeChanges.{closed}
+use Rattle.proc_numbers.specs.Closed.{without_number}
 use Rattle.proc_numbers.specs.Having.{ClosesNumber, HaveOpen}
 use Rattle.proc_table.specs.Table.{TableView}
 use Rattle.tree_laws.proofs.OtherNodes.{closed_nodes}
@@ -197,32 +197,32 @@ close_again mid new purse after fs now pays same may = record {
 }
 
 module _ (numbers : Numbers) (others : ℕ → ℕ) (old mid : Heap) (kept : TableView) (fs : TreeView) (pid fd : ℕ) (purse : Purse) (files : Files) (hold : HoldFiles numbers others old kept fs files)
-    (closes : ClosesNumber old mid kept pid fd) (takes : TakesNothing old mid) (may : MayClose old purse) (then : HaveOpen numbers mid kept (after_close files pid fd)) where
+    (closes : ClosesNumber old mid kept pid fd) (takes : TakesNothing old mid) (may : MayClose old purse) (then : HaveOpen numbers mid kept (without_number files pid fd)) where
   pub stands_mid : Stands mid fs files.tree (holders others files)
   stands_mid = stands_on old mid fs files.tree (holders others files) (number_caches old mid kept pid fd closes) hold.tree
 
   -- the node may be let go
-  pub held_to_close : (node : ℕ) → Goes files (after_close files pid fd) (Some node) → HeldToClose mid purse fs node
+  pub held_to_close : (node : ℕ) → Goes files (without_number files pid fd) (Some node) → HeldToClose mid purse fs node
   held_to_close node goes =
       let stay = number_caches old mid kept pid fd closes in
       record {
         tree = files.tree;
         pins = holders others files;
         stands = stands_mid;
-        held = (let before = held_before numbers others mid kept fs files (after_close files pid fd) hold.tree.is_tree hold.nodes hold.beside then node goes in omega (arith, before));
+        held = (let before = held_before numbers others mid kept fs files (without_number files pid fd) hold.tree.is_tree hold.nodes hold.beside then node goes in omega (arith, before));
         root_stays =
-            subst (λ n. 0 < n) (sym (pins_now numbers others mid kept fs files (after_close files pid fd) hold.tree.is_tree hold.nodes hold.beside then node goes root))
+            subst (λ n. 0 < n) (sym (pins_now numbers others mid kept fs files (without_number files pid fd) hold.tree.is_tree hold.nodes hold.beside then node goes root))
             (let some = hold.beside.root in omega (arith, some));
         may = λ goes_then. (close_on old mid purse stay takes may).free;
       }
 
   -- what they stand for where no node is let go
-  pub closed_none : Goes files (after_close files pid fd) None → HoldFiles numbers others mid kept fs (after_close files pid fd)
-  closed_none goes = hold_none numbers others mid kept fs files (after_close files pid fd) hold.tree.is_tree hold.nodes hold.beside then goes stands_mid
+  pub closed_none : Goes files (without_number files pid fd) None → HoldFiles numbers others mid kept fs (without_number files pid fd)
+  closed_none goes = hold_none numbers others mid kept fs files (without_number files pid fd) hold.tree.is_tree hold.nodes hold.beside then goes stands_mid
 
   -- and where one is
-  pub closed_gone : (node : ℕ) → Goes files (after_close files pid fd) (Some node) → (new : Heap) (now : TreeView) → CachesChange mid new
-      → Stands new now (left_tree files.tree (holders others files) node) (one_less (holders others files) node) → HoldFiles numbers others new kept now (after_close files pid fd)
+  pub closed_gone : (node : ℕ) → Goes files (without_number files pid fd) (Some node) → (new : Heap) (now : TreeView) → CachesChange mid new
+      → Stands new now (left_tree files.tree (holders others files) node) (one_less (holders others files) node) → HoldFiles numbers others new kept now (without_number files pid fd)
   closed_gone node goes new now caches stands =
-      hold_gone numbers others new kept now files (after_close files pid fd) hold.tree.is_tree hold.nodes hold.beside
-      (have_beside mid new caches numbers kept (after_close files pid fd) (after_close files pid fd) refl refl refl refl refl then) node goes stands
+      hold_gone numbers others new kept now files (without_number files pid fd) hold.tree.is_tree hold.nodes hold.beside
+      (have_beside mid new caches numbers kept (without_number files pid fd) (without_number files pid fd) refl refl refl refl refl then) node goes stands

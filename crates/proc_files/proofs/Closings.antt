@@ -17,7 +17,7 @@ use Rattle.open_laws.specs.Open.{descriptor_by}
 use Rattle.open_laws.specs.Owned.{HasItsOwners, all_namings, desc_count}
 use Rattle.open_laws.specs.Placed.{Numbers}
 use Rattle.desc_table.specs.Numbered.{names_one}
-use Rattle.posix_defs.specs.Files.Closing.{after_close, close_in, description_gone, gone_in, left_fifo, left_node, released, target_closed}
+use Rattle.posix_defs.specs.Files.Closing.{description_gone, gone_in, left_fifo, left_node, released, target_closed}
 use Rattle.posix_defs.specs.Files.Descriptions.{Access, Description, Descriptions, OnNode, OnPipe, OnSocket, Target, description_at, may_write, with_description}
 use Rattle.posix_defs.specs.Files.Descriptors.{Descriptors, is_named}
 use Rattle.posix_defs.specs.Files.State.{Files, beside, is_number, node_of, nodes_among, opened_node, opens, pipe_at, pipe_there, with_descriptions, with_open, with_pipe, with_tree}
@@ -27,6 +27,7 @@ use Rattle.posix_defs.specs.TreeChanges.{closed}
 use Rattle.proc_table.specs.Procs.{numbers_in, proc_of}
 use Rattle.proc_table.specs.Table.{TableView, processes}
 use Rattle.proc_table.proofs.PlaceLemmas.{eqb_same}
+use Rattle.proc_numbers.specs.Closed.{without_in, without_number}
 use Rattle.proc_numbers.specs.Having.{AreListed, ClosesNumber, HaveOpen, node_closed, node_dropped, places_in}
 use Rattle.proc_numbers.specs.Naming.{named_at}
 use Rattle.proc_numbers.proofs.Listing.{found_before}
@@ -298,7 +299,7 @@ gone_descriptions files place was is = ap (λ o. (gone_in files place o).descrip
 -- ---- by the heap
 
 module _ (old mid : Heap) (kept : TableView) (pid fd : ℕ) (listed : AreListed old kept) (owners : HasItsOwners old []) (closes : ClosesNumber old mid kept pid fd) (listed_then : AreListed mid kept) (owners_then : HasItsOwners mid [])
-    (numbers : Numbers) (files : Files) (have : HaveOpen numbers old kept files) (then : HaveOpen numbers mid kept (after_close files pid fd)) where
+    (numbers : Numbers) (files : Files) (have : HaveOpen numbers old kept files) (then : HaveOpen numbers mid kept (without_number files pid fd)) where
   abbrev its : Proc
   its = closes.proc
 
@@ -309,8 +310,8 @@ module _ (old mid : Heap) (kept : TableView) (pid fd : ℕ) (listed : AreListed 
   named_is = ap (λ o. slice_index_or (places_in (numbers_in old) o) fd None) proc_is
 
   -- a number that isn't open
-  pub closes_nothing : named_at old kept pid fd ≡ None → after_close files pid fd ≡ files
-  closes_nothing none = ap (close_in files pid fd) (descriptor_at_is numbers old kept files pid have fd ∙ ap (option_map (descriptor_by numbers.descs)) none)
+  pub closes_nothing : named_at old kept pid fd ≡ None → without_number files pid fd ≡ files
+  closes_nothing none = ap (without_in files pid fd) (descriptor_at_is numbers old kept files pid have fd ∙ ap (option_map (descriptor_by numbers.descs)) none)
 
   module _ (held : HeldDescriptor) (desc : Desc) (is : named_at old kept pid fd ≡ Some held) (found : object old.descs held.desc ≡ Some desc) where
     abbrev place : ℕ
@@ -319,8 +320,8 @@ module _ (old mid : Heap) (kept : TableView) (pid fd : ℕ) (listed : AreListed 
     abbrev without_it : Files
     without_it = with_open files pid fd None
 
-    pub closes_so : after_close files pid fd ≡ released without_it place
-    closes_so = ap (close_in files pid fd) (descriptor_at_is numbers old kept files pid have fd ∙ ap (option_map (descriptor_by numbers.descs)) is)
+    pub closes_so : without_number files pid fd ≡ released without_it place
+    closes_so = ap (without_in files pid fd) (descriptor_at_is numbers old kept files pid have fd ∙ ap (option_map (descriptor_by numbers.descs)) is)
 
     described : description_at files.descriptions place ≡ Some (counted_in numbers desc).is
     described = described_so numbers old have.list files held.desc desc have.opened found
@@ -346,40 +347,40 @@ module _ (old mid : Heap) (kept : TableView) (pid fd : ℕ) (listed : AreListed 
         used None none = absurd (
             let before = owners.named.counts other in let less = namings_less other in let zero = ap desc_count none in omega (arith, before, less, zero, some))
 
-    same_descriptors : (after_close files pid fd).descriptors ≡ without_it.descriptors
+    same_descriptors : (without_number files pid fd).descriptors ≡ without_it.descriptors
     same_descriptors = ap (λ (f : Files). f.descriptors) closes_so ∙ by_named (is_named without_it.descriptors place)
       where
         by_named : (b : Bool) → (cond b without_it (description_gone without_it place)).descriptors ≡ without_it.descriptors
         by_named true = refl
         by_named false = gone_leaves without_it place
 
-    named_same : (b : Bool) → is_named (after_close files pid fd).descriptors place ≡ b → is_named without_it.descriptors place ≡ b
+    named_same : (b : Bool) → is_named (without_number files pid fd).descriptors place ≡ b → is_named without_it.descriptors place ≡ b
     named_same b named = ap (λ (d : List Descriptors). is_named d place) (sym same_descriptors) ∙ named
 
     -- another descriptor names the description
     pub still_named : desc.count ≢ 1 → is_named without_it.descriptors place ≡ true
     still_named more =
         named_same true
-        (named_by_some numbers.descs mid kept (after_close files pid fd) held.desc then.descriptors listed_then
+        (named_by_some numbers.descs mid kept (without_number files pid fd) held.desc then.descriptors listed_then
         (positive (all_namings mid held.desc) (λ none. more (let left = counts_left in omega (arith, left, none)))))
       where
         positive : (n : ℕ) → (n ≡ 0 → ⊥) → 0 < n
         positive zero some = absurd (some refl)
         positive (suc n) some = omega arith
 
-    pub closes_one : desc.count ≢ 1 → Goes files (after_close files pid fd) None
+    pub closes_one : desc.count ≢ 1 → Goes files (without_number files pid fd) None
     closes_one more =
-        let so : after_close files pid fd ≡ without_it = closes_so ∙ ap (λ b. cond b without_it (description_gone without_it place)) (still_named more) in
-        goes_none files (after_close files pid fd) (ap (λ (f : Files). f.tree) so) (ap (λ (f : Files). f.descriptions) so) (ap (λ (f : Files). f.pipes) so)
+        let so : without_number files pid fd ≡ without_it = closes_so ∙ ap (λ b. cond b without_it (description_gone without_it place)) (still_named more) in
+        goes_none files (without_number files pid fd) (ap (λ (f : Files). f.tree) so) (ap (λ (f : Files). f.descriptions) so) (ap (λ (f : Files). f.pipes) so)
 
     -- or it was the last
     pub none_names : desc.count ≡ 1 → is_named without_it.descriptors place ≡ false
     none_names last =
-        named_same false (named_by_none numbers.descs mid kept (after_close files pid fd) held.desc then.descriptors listed_then apart (let left = counts_left in omega (arith, left, last)))
+        named_same false (named_by_none numbers.descs mid kept (without_number files pid fd) held.desc then.descriptors listed_then apart (let left = counts_left in omega (arith, left, last)))
 
-    pub closes_last : desc.count ≡ 1 → Goes files (after_close files pid fd) (node_of files (counted_in numbers desc).is.target)
+    pub closes_last : desc.count ≡ 1 → Goes files (without_number files pid fd) (node_of files (counted_in numbers desc).is.target)
     closes_last last =
-        let so : after_close files pid fd ≡ description_gone without_it place = closes_so ∙ ap (λ b. cond b without_it (description_gone without_it place)) (none_names last) in
+        let so : without_number files pid fd ≡ description_gone without_it place = closes_so ∙ ap (λ b. cond b without_it (description_gone without_it place)) (none_names last) in
         subst (λ next. Goes files next (node_of files (counted_in numbers desc).is.target)) (sym so)
         (goes_at files without_it.descriptors place (counted_in numbers desc).is described
         (stays_open files without_it.descriptors place (counted_in numbers desc).is described
@@ -389,27 +390,27 @@ module _ (old mid : Heap) (kept : TableView) (pid fd : ℕ) (listed : AreListed 
 -- ---- whatever the number names
 
 module _ (old mid : Heap) (kept : TableView) (pid fd : ℕ) (listed : AreListed old kept) (owners : HasItsOwners old []) (closes : ClosesNumber old mid kept pid fd) (listed_then : AreListed mid kept) (owners_then : HasItsOwners mid [])
-    (numbers : Numbers) (files : Files) (have : HaveOpen numbers old kept files) (then : HaveOpen numbers mid kept (after_close files pid fd)) where
+    (numbers : Numbers) (files : Files) (have : HaveOpen numbers old kept files) (then : HaveOpen numbers mid kept (without_number files pid fd)) where
   -- The node that is to be let go is that of the description that went.
-  pub goes_with : (gone : Option ℕ) → gone ≡ node_closed old (named_at old kept pid fd) → Goes files (after_close files pid fd) gone
+  pub goes_with : (gone : Option ℕ) → gone ≡ node_closed old (named_at old kept pid fd) → Goes files (without_number files pid fd) gone
   goes_with gone is = by_name (named_at old kept pid fd) refl
     where
       by_count : (held : HeldDescriptor) (desc : Desc) → named_at old kept pid fd ≡ Some held → object old.descs held.desc ≡ Some desc
           → (((desc.count == 1) ≡ true) × (desc.count ≡ 1)) ⊎ (((desc.count == 1) ≡ false) × (desc.count ≢ 1))
-          → gone ≡ cond (desc.count == 1) (node_in old.pipes desc.target) None → Goes files (after_close files pid fd) gone
+          → gone ≡ cond (desc.count == 1) (node_in old.pipes desc.target) None → Goes files (without_number files pid fd) gone
       by_count held desc name found (inl last) so =
-          subst (Goes files (after_close files pid fd))
+          subst (Goes files (without_number files pid fd))
           (node_same numbers old files have.opened.piped desc.access desc.target (owners.held.targets held.desc desc found) ∙ sym (so ∙ ap (λ b. cond b (node_in old.pipes desc.target) None) last.0))
           (closes_last old mid kept pid fd listed owners closes listed_then owners_then numbers files have then held desc name found last.1)
       by_count held desc name found (inr more) so =
-          subst (Goes files (after_close files pid fd)) (sym (so ∙ ap (λ b. cond b (node_in old.pipes desc.target) None) more.0))
+          subst (Goes files (without_number files pid fd)) (sym (so ∙ ap (λ b. cond b (node_in old.pipes desc.target) None) more.0))
           (closes_one old mid kept pid fd listed owners closes listed_then owners_then numbers files have then held desc name found more.1)
 
-      by_name : (o : Option HeldDescriptor) → named_at old kept pid fd ≡ o → Goes files (after_close files pid fd) gone
+      by_name : (o : Option HeldDescriptor) → named_at old kept pid fd ≡ o → Goes files (without_number files pid fd) gone
       by_name None none =
           let so = closes_nothing old mid kept pid fd listed owners closes listed_then owners_then numbers files have then none in
-          subst (Goes files (after_close files pid fd)) (sym (is ∙ ap (node_closed old) none))
-          (goes_none files (after_close files pid fd) (ap (λ (f : Files). f.tree) so) (ap (λ (f : Files). f.descriptions) so) (ap (λ (f : Files). f.pipes) so))
+          subst (Goes files (without_number files pid fd)) (sym (is ∙ ap (node_closed old) none))
+          (goes_none files (without_number files pid fd) (ap (λ (f : Files). f.tree) so) (ap (λ (f : Files). f.descriptions) so) (ap (λ (f : Files). f.pipes) so))
       by_name (Some held) name =
           let it = desc_named old kept [] listed owners pid fd held name in
           by_count held it.0 name it.1 (eqb_tells it.0.count 1) (is ∙ ap (node_closed old) name ∙ ap (node_dropped old.pipes) it.1)

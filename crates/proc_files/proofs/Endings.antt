@@ -29,7 +29,7 @@ use Rattle.proc_numbers.proofs.Listing.{found_before, put_same}
 use Rattle.proc_numbers.proofs.NumberCloses.{unopened}
 use Rattle.proc_numbers.proofs.NumberNames.{descriptor_at_is}
 use Rattle.proc_numbers.proofs.PlacedLeaves.{none_opens}
-use Rattle.proc_files.specs.Closing.{ChangesHolding, ClosesHolding}
+use Rattle.proc_files.specs.Closing.{ChangesHolding, ClosesHolding, with_locks_of}
 use Rattle.proc_files.proofs.Changing.{holding_closed, holding_then}
 use Rattle.proc_files.proofs.Finding.{IsAt}
 use Rattle.proc_files.specs.Ending.{ClosesEach, ClosesIf, ClosesMarked, closed_each, closed_where, goes_at_exec, has_mark}
@@ -111,7 +111,7 @@ pub not_marked : (h : Heap) (kept : TableView) (pid fd : ℕ) → IsAt h kept pi
 unfolding unchanged
 not_marked h kept pid fd it = record { changes = unchanged h kept pid it; becomes = refl }
 
-pub marked_closes : (old new : Heap) (kept : TableView) (pid fd : ℕ) → ClosesHolding old new kept pid fd → ClosesIf old new kept pid fd true
+pub marked_closes : (old new : Heap) (kept : TableView) (pid fd : ℕ) → ClosesHolding (with_locks_of old new) new kept pid fd → ClosesIf old new kept pid fd true
 unfolding holding_closed
 marked_closes old new kept pid fd closes =
     let one = closes.closes in

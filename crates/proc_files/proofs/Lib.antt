@@ -45,6 +45,7 @@ pub mod Endings
 pub mod NodesEnd
 pub mod Unnaming
 pub mod Unopened
+pub mod Unlocking
 mod EndMade
 mod FifoFound
 mod FifoOpens

@@ -11,13 +11,15 @@ use Rattle.posix_defs.specs.Files.State.{Files, beside, node_of, nodes_among, op
 use Rattle.posix_defs.specs.Reaching.{ends_at, ends_node}
 use Rattle.proc_table.specs.Table.{TableView}
 use Rattle.proc_table.proofs.PlaceLemmas.{some_same}
+use Rattle.proc_numbers.specs.Closed.{without_number}
 use Rattle.proc_numbers.specs.Having.{AreListed, HaveOpen, node_closed}
 use Rattle.proc_numbers.specs.Naming.{named_at}
-use Rattle.proc_files.specs.Closing.{CachesChange, ClosesHolding}
+use Rattle.proc_files.specs.Closing.{CachesChange, ClosesHolding, with_locks_of}
 use Rattle.proc_files.specs.Holders.{openings, times}
 use Rattle.proc_files.proofs.Beside.{have_beside, listed_beside, owners_beside}
 use Rattle.proc_files.proofs.Closings.{Goes, goes_with}
 use Rattle.proc_files.proofs.Openings.{times_here}
+use Rattle.proc_files.proofs.Unlocking.{goes_closed, heap_locked, listed_locked, open_left, owners_locked}
 use Rattle.proc_files.specs.Ending.{OnlyGoes}
 
 -- ---- steps
@@ -35,14 +37,18 @@ goes_then files mid next first second = record {
 pub only_goes : (files next : Files) (went : Option ℕ) → Goes files next went → OnlyGoes files next
 only_goes files next went goes = record { fewer = λ n. (let same = goes.opened n in omega (arith, same)); left = goes.left; nodes = goes.nodes }
 
--- what goes with a number, also where the caches change with it
-pub closing_goes : (old new : Heap) (kept : TableView) (pid fd : ℕ) (numbers : Numbers) (files : Files) → AreListed old kept → HasItsOwners old [] → AreListed new kept → HasItsOwners new [] → ClosesHolding old new kept pid fd
-    → HaveOpen numbers old kept files → HaveOpen numbers new kept (after_close files pid fd) → Goes files (after_close files pid fd) (node_closed old (named_at old kept pid fd))
+-- what goes with a number, also where the caches change with it and locks have gone before
+pub closing_goes : (old new : Heap) (kept : TableView) (pid fd : ℕ) (numbers : Numbers) (files : Files) → AreListed old kept → HasItsOwners old [] → AreListed new kept → HasItsOwners new []
+    → ClosesHolding (with_locks_of old new) new kept pid fd → HaveOpen numbers old kept files → HaveOpen numbers new kept (after_close files pid fd)
+    → Goes files (after_close files pid fd) (node_closed old (named_at old kept pid fd))
 closing_goes old new kept pid fd numbers files listed owners listed_new owners_new closes have then =
     let back : CachesChange new closes.mid =
     sym (ap (λ (h : Heap). record h { vnodes = closes.mid.vnodes; names = closes.mid.names; blocks = closes.mid.blocks; high = closes.mid.high }) closes.caches) in
-    goes_with old closes.mid kept pid fd listed owners closes.closes (listed_beside new closes.mid back kept listed_new) (owners_beside new closes.mid back [] owners_new) numbers files have
-    (have_beside new closes.mid back numbers kept (after_close files pid fd) (after_close files pid fd) refl refl refl refl refl then) (node_closed old (named_at old kept pid fd)) refl
+    let next = without_number files pid fd in
+    goes_closed files pid fd (node_closed old (named_at old kept pid fd))
+    (goes_with (with_locks_of old new) closes.mid kept pid fd (listed_locked old new.locks kept listed) (owners_locked old new.locks [] owners) closes.closes (listed_beside new closes.mid back kept listed_new)
+    (owners_beside new closes.mid back [] owners_new) numbers files (heap_locked old new.locks numbers kept files have)
+    (have_beside new closes.mid back numbers kept next next refl refl refl refl refl (open_left numbers new kept files pid fd then)) (node_closed old (named_at old kept pid fd)) refl)
 
 -- where each node is opened as often as before none went with it
 pub none_goes : (files next : Files) (went : Option ℕ) → Goes files next went → ((n : ℕ) → openings next n ≡ openings files n) → went ≡ None

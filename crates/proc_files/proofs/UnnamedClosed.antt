@@ -19,7 +19,7 @@ use Rattle.open_laws.specs.Socketed.{AreRenamed}
 use Rattle.open_laws.proofs.SocketLemmas.{closed_renamed}
 use Rattle.open_laws.specs.Placed.{Numbers}
 use Rattle.posix_defs.specs.DiskFormat.{table_nodes}
-use Rattle.posix_defs.specs.Files.Closing.{after_close, close_in, description_gone, gone_in, left_fifo, released, target_closed}
+use Rattle.posix_defs.specs.Files.Closing.{description_gone, gone_in, left_fifo, released, target_closed}
 use Rattle.posix_defs.specs.Files.Descriptions.{Description, OnNode, OnPipe, OnSocket, Target, description_at, may_write, with_description}
 use Rattle.posix_defs.specs.Files.Descriptors.{is_named}
 use Rattle.posix_defs.specs.Files.State.{Files, node_of as file_node, opens, pipe_at, with_descriptions, with_open, with_pipe, with_sockets, with_tree}
@@ -36,6 +36,7 @@ use Rattle.socket_laws.proofs.SocketCalls.{connected_there}
 use Rattle.usock_core.specs.Standing.{StandsFor as SocketsStandFor}
 use Rattle.usock_core.proofs.OneTable.{nowhere_in}
 use Rattle.proc_table.specs.Table.{TableView}
+use Rattle.proc_numbers.specs.Closed.{without_in, without_number}
 use Rattle.proc_numbers.specs.Having.{AreListed, HaveOpen, node_closed}
 use Rattle.proc_numbers.specs.Naming.{named_at}
 use Rattle.proc_numbers.proofs.NumberNames.{descriptor_at_is}
@@ -146,12 +147,12 @@ going_named h at desc there key is = sock_named_by h.descs at key (ap sock_in th
 -- What a close leaves of names, where the socket that goes has none: the machine is the same as if it had kept it, nobody has
 -- another name, and nobody waits anew.
 pub record ClosesUnnamed (files before : Files) (pid fd : ℕ) : Type 0 where
-  pub same : after_close files pid fd ≡ after_close before pid fd
-  pub nodes : (place : ℕ) → node_of (after_close files pid fd).sockets place ≡ node_of files.sockets place
-  pub waits : (listener place : ℕ) → WaitsFor (after_close files pid fd).sockets listener place → WaitsFor files.sockets listener place
+  pub same : without_number files pid fd ≡ without_number before pid fd
+  pub nodes : (place : ℕ) → node_of (without_number files pid fd).sockets place ≡ node_of files.sockets place
+  pub waits : (listener place : ℕ) → WaitsFor (without_number files pid fd).sockets listener place → WaitsFor files.sockets listener place
 
 -- sockets stay
-sockets_stay : (files : Files) (pid fd : ℕ) → (after_close files pid fd).sockets ≡ files.sockets → ClosesUnnamed files files pid fd
+sockets_stay : (files : Files) (pid fd : ℕ) → (without_number files pid fd).sockets ≡ files.sockets → ClosesUnnamed files files pid fd
 sockets_stay files pid fd same = record {
   same = refl;
   nodes = λ place. ap (λ (sockets : Sockets). node_of sockets place) same;
@@ -166,7 +167,7 @@ module _ (numbers : Numbers) (others : ℕ → ℕ) (old mid new : Heap) (kept :
     (procs : mid.procs ≡ old.procs) (leaves : mid.leaves ≡ old.leaves) (descs : mid.descs ≡ old.descs) (listed_mid : AreListed mid kept) (owners_mid : HasItsOwners mid [])
     (hold : HoldNames numbers others mid kept fs after (unnamed numbers files (socket_going desc)))
     (closes : ClosesHolding mid new kept pid fd) (listed_new : AreListed new kept) (owners_new : HasItsOwners new [])
-    (leads : (n : Numbers) (o : ℕ → ℕ) (f : Files) → HoldFiles n o mid kept fs f → HoldFiles n o new kept now (after_close f pid fd)) where
+    (leads : (n : Numbers) (o : ℕ → ℕ) (f : Files) → HoldFiles n o mid kept fs f → HoldFiles n o new kept now (without_number f pid fd)) where
   abbrev going : Option ℕ
   going = socket_going desc
 
@@ -178,7 +179,7 @@ module _ (numbers : Numbers) (others : ℕ → ℕ) (old mid new : Heap) (kept :
   back =
       subst (λ (h : Heap). closes.mid ≡ record h { vnodes = closes.mid.vnodes; names = closes.mid.names; blocks = closes.mid.blocks; high = closes.mid.high }) (sym closes.caches) refl
 
-  held_new : HoldFiles numbers others new kept now (after_close first pid fd)
+  held_new : HoldFiles numbers others new kept now (without_number first pid fd)
   held_new = leads numbers others first hold.held
 
   listed_then : AreListed closes.mid kept
@@ -187,8 +188,8 @@ module _ (numbers : Numbers) (others : ℕ → ℕ) (old mid new : Heap) (kept :
   owners_then : HasItsOwners closes.mid []
   owners_then = owners_beside new closes.mid back [] owners_new
 
-  have_then : HaveOpen numbers closes.mid kept (after_close first pid fd)
-  have_then = have_beside new closes.mid back numbers kept (after_close first pid fd) (after_close first pid fd) refl refl refl refl refl held_new.opened
+  have_then : HaveOpen numbers closes.mid kept (without_number first pid fd)
+  have_then = have_beside new closes.mid back numbers kept (without_number first pid fd) (without_number first pid fd) refl refl refl refl refl held_new.opened
 
   -- what is named is as before
   named_mid : named_at mid kept pid fd ≡ named_at old kept pid fd
@@ -196,7 +197,7 @@ module _ (numbers : Numbers) (others : ℕ → ℕ) (old mid new : Heap) (kept :
       ap (λ (l : List (Option Leaf)). named_at (record old { procs = mid.procs; leaves = l }) kept pid fd) leaves
       ∙ ap (λ (p : List (Option Proc)). named_at (record old { procs = p }) kept pid fd) procs
 
-  goes : Goes first (after_close first pid fd) (node_closed mid (named_at mid kept pid fd))
+  goes : Goes first (without_number first pid fd) (node_closed mid (named_at mid kept pid fd))
   goes =
       goes_with mid closes.mid kept pid fd listed_mid owners_mid closes.closes listed_then owners_then numbers first hold.held.opened have_then (node_closed mid (named_at mid kept pid fd)) refl
 
@@ -211,18 +212,18 @@ module _ (numbers : Numbers) (others : ℕ → ℕ) (old mid new : Heap) (kept :
   there_mid : object mid.descs held.desc ≡ Some desc
   there_mid = ap (λ (d : List (Option Desc)). object d held.desc) descs ∙ there
 
-  released_so : after_close first pid fd ≡ released (with_open first pid fd None) place
+  released_so : without_number first pid fd ≡ released (with_open first pid fd None) place
   released_so = closes_so mid closes.mid kept pid fd listed_mid owners_mid closes.closes listed_then owners_then numbers first hold.held.opened have_then held desc is_mid there_mid
 
   -- another descriptor names the description
-  other_names : desc.count ≢ 1 → (after_close first pid fd).sockets ≡ first.sockets
+  other_names : desc.count ≢ 1 → (without_number first pid fd).sockets ≡ first.sockets
   other_names more =
       ap (λ (f : Files). f.sockets) (released_so
       ∙ ap (λ b. cond b (with_open first pid fd None) (description_gone (with_open first pid fd None) place))
       (still_named mid closes.mid kept pid fd listed_mid owners_mid closes.closes listed_then owners_then numbers first hold.held.opened have_then held desc is_mid there_mid more))
 
   -- or it was the last
-  last_gone : desc.count ≡ 1 → after_close first pid fd ≡ description_gone (with_open first pid fd None) place
+  last_gone : desc.count ≡ 1 → without_number first pid fd ≡ description_gone (with_open first pid fd None) place
   last_gone last =
       released_so
       ∙ ap (λ b. cond b (with_open first pid fd None) (description_gone (with_open first pid fd None) place))
@@ -231,7 +232,7 @@ module _ (numbers : Numbers) (others : ℕ → ℕ) (old mid new : Heap) (kept :
   described : description_at first.descriptions place ≡ Some (counted_in numbers desc).is
   described = described_so numbers mid hold.held.opened.list first held.desc desc hold.held.opened.opened there_mid
 
-  not_socket : desc.count ≡ 1 → ((key : ℕ) → desc.target ≡ target.Sock key → ⊥) → (after_close first pid fd).sockets ≡ first.sockets
+  not_socket : desc.count ≡ 1 → ((key : ℕ) → desc.target ≡ target.Sock key → ⊥) → (without_number first pid fd).sockets ≡ first.sockets
   not_socket last never =
       ap (λ (f : Files). f.sockets) (last_gone last)
       ∙ gone_elsewhere (with_open first pid fd None) place (counted_in numbers desc).is described (by_target desc.target never)
@@ -272,17 +273,17 @@ module _ (numbers : Numbers) (others : ℕ → ℕ) (old mid new : Heap) (kept :
         placed_inside numbers.socks before.held.opened.opened.socketed.keyed files.sockets before.held.opened.opened.socketed.renamed key
         (keyed_there old [] key owners (on_named old held.desc key desc there on) before.held.opened.opened.socketed.keyed before.held.opened.opened.socketed.stands)
 
-    gone_first : after_close first pid fd ≡ with_sockets (rest (with_open first pid fd None) place) (sockets_after_close first.sockets socket)
+    gone_first : without_number first pid fd ≡ with_sockets (rest (with_open first pid fd None) place) (sockets_after_close first.sockets socket)
     gone_first =
         last_gone last ∙ gone_socket (with_open first pid fd None) place socket (counted_in numbers desc).is described (ap (target_in numbers) on)
 
-    sockets_gone : (after_close first pid fd).sockets ≡ sockets_after_close first.sockets socket
+    sockets_gone : (without_number first pid fd).sockets ≡ sockets_after_close first.sockets socket
     sockets_gone = ap (λ (f : Files). f.sockets) gone_first
 
     -- the machine that kept the name closes the same
-    gone_files : after_close files pid fd ≡ with_sockets (rest (with_open files pid fd None) place) (sockets_after_close files.sockets socket)
+    gone_files : without_number files pid fd ≡ with_sockets (rest (with_open files pid fd None) place) (sockets_after_close files.sockets socket)
     gone_files =
-        ap (close_in files pid fd) (descriptor_at_is numbers old kept files pid before.held.opened fd ∙ ap (option_map (descriptor_by numbers.descs)) is)
+        ap (without_in files pid fd) (descriptor_at_is numbers old kept files pid before.held.opened fd ∙ ap (option_map (descriptor_by numbers.descs)) is)
         ∙ ap (λ b. cond b (with_open files pid fd None) (description_gone (with_open files pid fd None) place)) none
         ∙ gone_socket (with_open files pid fd None) place socket (counted_in numbers desc).is
         (described_so numbers old before.held.opened.list files held.desc desc before.held.opened.opened there) (ap (target_in numbers) on)
@@ -292,7 +293,7 @@ module _ (numbers : Numbers) (others : ℕ → ℕ) (old mid new : Heap) (kept :
             ap (λ (f : Files). is_named (with_open f pid fd None).descriptors place) (sym first_is)
             ∙ none_names mid closes.mid kept pid fd listed_mid owners_mid closes.closes listed_then owners_then numbers first hold.held.opened have_then held desc is_mid there_mid last
 
-    same : after_close first pid fd ≡ after_close files pid fd
+    same : without_number first pid fd ≡ without_number files pid fd
     same =
         gone_first
         ∙ ap (λ (f : Files). with_sockets (rest (with_open f pid fd None) place) (sockets_after_close f.sockets socket)) first_is
@@ -328,10 +329,10 @@ module _ (numbers : Numbers) (others : ℕ → ℕ) (old mid new : Heap) (kept :
 
   -- ---- whatever it names
 
-  stays : going ≡ None → (after_close first pid fd).sockets ≡ first.sockets → ClosesUnnamed first files pid fd
+  stays : going ≡ None → (without_number first pid fd).sockets ≡ first.sockets → ClosesUnnamed first files pid fd
   stays none same =
       let it : first ≡ files = ap (unnamed numbers files) none in
-      subst (λ (f : Files). ClosesUnnamed f files pid fd) (sym it) (sockets_stay files pid fd (subst (λ (f : Files). (after_close f pid fd).sockets ≡ f.sockets) it same))
+      subst (λ (f : Files). ClosesUnnamed f files pid fd) (sym it) (sockets_stay files pid fd (subst (λ (f : Files). (without_number f pid fd).sockets ≡ f.sockets) it same))
 
   so : ClosesUnnamed first files pid fd
   so = by_count (eqb_tells desc.count 1)
@@ -346,20 +347,20 @@ module _ (numbers : Numbers) (others : ℕ → ℕ) (old mid new : Heap) (kept :
       by_count (inr more) = stays (ap (λ b. cond b (sock_of desc.target) None) more.0) (other_names more.1)
 
   -- all that heap, table, tree and names stand for
-  pub closed_names_hold : HoldNames numbers others new kept now after (after_close files pid fd)
+  pub closed_names_hold : HoldNames numbers others new kept now after (without_number files pid fd)
   closed_names_hold = subst (λ (f : Files). HoldNames numbers others new kept now after f) so.same (record {
     held = held_new;
     bound =
         bound_on (name_of mid.socks) (name_of new.socks) after hold.bound
-        (names_on numbers mid new kept first (after_close first pid fd) owners_mid hold.held.opened
+        (names_on numbers mid new kept first (without_number first pid fd) owners_mid hold.held.opened
         (λ n keeps have. (leads n others first (record { opened = have; tree = hold.held.tree; nodes = hold.held.nodes; beside = hold.held.beside })).opened) so.nodes);
     named = record {
       bound = λ place number is none.
           subst (λ t. is_socket t number ≡ true) (sym goes.tree)
-          (left_names first.tree (node_closed mid (named_at mid kept pid fd)) (opens (after_close first pid fd)) hold.held.tree.is_tree number (hold.named.bound place number (sym (so.nodes place) ∙ is) none));
+          (left_names first.tree (node_closed mid (named_at mid kept pid fd)) (opens (without_number first pid fd)) hold.held.tree.is_tree number (hold.named.bound place number (sym (so.nodes place) ∙ is) none));
       waiting = λ listener place waits. so.nodes place ∙ hold.named.waiting listener place (so.waits listener place waits);
     };
     places =
         subst (λ n. table_nodes n < length after)
-        (sym (ap (λ t. t.blocks) goes.tree ∙ left_blocks first.tree (node_closed mid (named_at mid kept pid fd)) (opens (after_close first pid fd)))) hold.places;
+        (sym (ap (λ t. t.blocks) goes.tree ∙ left_blocks first.tree (node_closed mid (named_at mid kept pid fd)) (opens (without_number first pid fd)))) hold.places;
   })

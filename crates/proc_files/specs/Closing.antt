@@ -26,13 +26,18 @@ pub record PaysInTurn (old : Heap) (back before : Purse) (new : Heap) (after : P
 abbrev pub CachesChange : Heap → Heap → Type 0
 CachesChange old new = new ≡ record old { vnodes = new.vnodes; names = new.names; blocks = new.blocks; high = new.high }
 
+-- the heap with the locks of another one
+abbrev pub with_locks_of : Heap → Heap → Heap
+with_locks_of old new = record old { locks = new.locks }
+
 -- A number of a process is open no more, and of the caches only what goes with a node is other.
 pub record ClosesHolding (old new : Heap) (kept : TableView) (pid fd : ℕ) : Type 0 where
   pub mid : Heap
   pub closes : ClosesNumber old mid kept pid fd
   pub caches : CachesChange mid new
 
--- Of one process other numbers are open, in its Proc and its Leaves; of the other objects only what is open and what the caches keep are others.
+-- Of one process other numbers are open, in its Proc and its Leaves; of the other objects only what is open, what the caches keep
+-- and locks are others.
 pub record ChangesHolding (old new : Heap) (kept : TableView) (pid : ℕ) : Type 0 where
   pub key : ℕ
   pub proc : Proc
@@ -51,5 +56,6 @@ pub record ChangesHolding (old new : Heap) (kept : TableView) (pid : ℕ) : Type
     vnodes = new.vnodes;
     names = new.names;
     blocks = new.blocks;
+    locks = new.locks;
     high = new.high;
   }

@@ -3,6 +3,7 @@ use Rattle.std.specs.Prelude.{ℕ, ◌≡◌, List, Option}
 use Rattle.kabi_types.specs.declared.scripts.Script.{Script}
 use Rattle.kabi_types.specs.declared.replies.Reply.{Reply}
 use Rattle.kheap_slabs.specs.Heap.{Heap}
+use Rattle.lock_table.specs.Chain.{HoldsLocks}
 use Rattle.memfs_ops.specs.FileTree.{TreeView}
 use Rattle.open_laws.specs.Placed.{Numbers}
 use Rattle.posix_defs.specs.Answer.{Answer, replied}
@@ -18,6 +19,13 @@ pub record AnswersNaming (numbers : Numbers) (others : ℕ → ℕ) (h : Heap) (
   pub files : Files
   pub replies : answer ≡ replied script (with_files plain files) pid reply
   pub holds : HoldNames numbers others h kept fs names files
+
+-- The same where locks may have gone: where the chain that began so had those of the machine, the one that begins so now has those of
+-- the files.
+pub record AnswersClosing (numbers : Numbers) (others : ℕ → ℕ) (old new : Heap) (was now : Option ℕ) (kept : TableView) (fs : TreeView) (names : List (Option ℕ)) (script : Script)
+    (plain : Plain) (pid : ℕ) (answer : Answer) (reply : Reply) : Type 0 where
+  pub answers : AnswersNaming numbers others new kept fs names script plain pid answer reply
+  pub locks : HoldsLocks old.locks was plain.files.locks → HoldsLocks new.locks now answers.files.locks
 
 -- The same where a socket may have been made, which has a number then; what was there keeps the one that it had.
 pub record AnswersConnecting (numbers : Numbers) (others : ℕ → ℕ) (old new : Heap) (kept : TableView) (fs : TreeView) (names : List (Option ℕ)) (script : Script) (plain : Plain)

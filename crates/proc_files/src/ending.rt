@@ -5,6 +5,7 @@ ghost use Rattle.std.specs.List.{list_all, list_any};
 ghost use Rattle.fifo_nodes.specs.Chain.{IsChain};
 ghost use Rattle.kheap_slabs.specs.Paid.{IsPaid};
 ghost use Rattle.kheap_slabs.specs.declared.objects.Proc.{Proc as HeldProc};
+ghost use Rattle.lock_table.specs.Chain.{HoldsLocks, IsLockTable};
 ghost use Rattle.memfs_ops.specs.Closing.{KeepsCached};
 ghost use Rattle.open_laws.specs.Owned.{HasItsOwners};
 ghost use Rattle.open_laws.specs.Placed.{Numbers};
@@ -29,6 +30,7 @@ use desc_table::descriptor_of;
 use fifo_nodes::FifoTable;
 use kabi_types::MOST_DESCRIPTORS;
 use kheap_slabs::{Descriptor, KHeap, Purse};
+use lock_table::LockTable;
 use memfs_ops::FileTree;
 use proc_table::{Place, ProcTable};
 
@@ -45,20 +47,26 @@ pub fn close_each(
     tree: &mut FileTree,
     names: &mut BoundTable,
     fifos: &mut FifoTable,
+    locks: &mut LockTable,
     place: Place,
 )
     requires listed { AreListed heap.old procs.now }
     requires owners { HasItsOwners heap.old [] }
     requires chain { IsChain heap.old fifos.old }
+    requires locked { IsLockTable heap.old.locks locks.old }
     requires there { IsPlaced procs.now place }
     requires hold { HoldSomeNames heap.old procs.now tree.old names.old }
     requires may { MayClose heap.old purse.old }
     ensures closed { (numbers : Numbers) (others : ℕ → ℕ) (files : Files)
         → HoldNames numbers others heap.old procs.now tree.old names.old files
         → HoldNames numbers others heap.new procs.now tree.new names.new (closed_each files place.pid) }
+    ensures locks { (numbers : Numbers) (others : ℕ → ℕ) (files : Files)
+        → HoldNames numbers others heap.old procs.now tree.old names.old files → HoldsLocks heap.old.locks locks.old files.locks
+        → HoldsLocks heap.new.locks locks.new (closed_each files place.pid).locks }
     ensures listed { AreListed heap.new procs.now }
     ensures owners { HasItsOwners heap.new [] }
     ensures chain { IsChain heap.new fifos.new }
+    ensures locked { IsLockTable heap.new.locks locks.new }
     ensures hold { HoldSomeNames heap.new procs.now tree.new names.new }
     ensures closes { ClosesEach heap.old heap.new procs.now place.pid }
     ensures places { length names.new ≡ length names.old }
@@ -77,7 +85,9 @@ pub fn close_each(
     }
     let marks = all_marks();
     let below = reach_of(heap, procs, place);
-    close_marked(heap, purse, procs, tree, names, fifos, place, &marks, below);
+    close_marked(
+        heap, purse, procs, tree, names, fifos, locks, place, &marks, below,
+    );
     is_well_formed(heap);
 }
 
@@ -94,20 +104,26 @@ pub fn close_at_exec(
     tree: &mut FileTree,
     names: &mut BoundTable,
     fifos: &mut FifoTable,
+    locks: &mut LockTable,
     place: Place,
 )
     requires listed { AreListed heap.old procs.now }
     requires owners { HasItsOwners heap.old [] }
     requires chain { IsChain heap.old fifos.old }
+    requires locked { IsLockTable heap.old.locks locks.old }
     requires there { IsPlaced procs.now place }
     requires hold { HoldSomeNames heap.old procs.now tree.old names.old }
     requires may { MayClose heap.old purse.old }
     ensures closed { (numbers : Numbers) (others : ℕ → ℕ) (files : Files)
         → HoldNames numbers others heap.old procs.now tree.old names.old files
         → HoldNames numbers others heap.new procs.now tree.new names.new (after_exec_of files place.pid) }
+    ensures locks { (numbers : Numbers) (others : ℕ → ℕ) (files : Files)
+        → HoldNames numbers others heap.old procs.now tree.old names.old files → HoldsLocks heap.old.locks locks.old files.locks
+        → HoldsLocks heap.new.locks locks.new (after_exec_of files place.pid).locks }
     ensures listed { AreListed heap.new procs.now }
     ensures owners { HasItsOwners heap.new [] }
     ensures chain { IsChain heap.new fifos.new }
+    ensures locked { IsLockTable heap.new.locks locks.new }
     ensures hold { HoldSomeNames heap.new procs.now tree.new names.new }
     ensures changes { ChangesHolding heap.old heap.new procs.now place.pid }
     ensures places { length names.new ≡ length names.old }
@@ -123,7 +139,9 @@ pub fn close_at_exec(
 {
     let below = reach_of(heap, procs, place);
     let marks = marks_of(heap, procs, place, below);
-    close_marked(heap, purse, procs, tree, names, fifos, place, &marks, below);
+    close_marked(
+        heap, purse, procs, tree, names, fifos, locks, place, &marks, below,
+    );
 }
 
 // Whether nothing is open in a process.
@@ -215,6 +233,7 @@ fn close_marked(
     tree: &mut FileTree,
     names: &mut BoundTable,
     fifos: &mut FifoTable,
+    locks: &mut LockTable,
     place: Place,
     marks: &[bool; 128],
     below: u32,
@@ -222,6 +241,7 @@ fn close_marked(
     requires listed { AreListed heap.old procs.now }
     requires owners { HasItsOwners heap.old [] }
     requires chain { IsChain heap.old fifos.old }
+    requires locked { IsLockTable heap.old.locks locks.old }
     requires there { IsPlaced procs.now place }
     requires hold { HoldSomeNames heap.old procs.now tree.old names.old }
     requires within { below ≤ most_descriptors }
@@ -229,9 +249,13 @@ fn close_marked(
     ensures closed { (numbers : Numbers) (others : ℕ → ℕ) (files : Files)
         → HoldNames numbers others heap.old procs.now tree.old names.old files
         → HoldNames numbers others heap.new procs.now tree.new names.new (closed_where (is_marked marks.now) files place.pid below) }
+    ensures locks { (numbers : Numbers) (others : ℕ → ℕ) (files : Files)
+        → HoldNames numbers others heap.old procs.now tree.old names.old files → HoldsLocks heap.old.locks locks.old files.locks
+        → HoldsLocks heap.new.locks locks.new (closed_where (is_marked marks.now) files place.pid below).locks }
     ensures listed { AreListed heap.new procs.now }
     ensures owners { HasItsOwners heap.new [] }
     ensures chain { IsChain heap.new fifos.new }
+    ensures locked { IsLockTable heap.new.locks locks.new }
     ensures hold { HoldSomeNames heap.new procs.now tree.new names.new }
     ensures closes { ClosesMarked heap.old heap.new procs.now place.pid (is_marked marks.now) below }
     ensures places { length names.new ≡ length names.old }
@@ -251,7 +275,9 @@ fn close_marked(
 {
     for fd in 0..below {
         let marked = mark_at(marks, fd);
-        close_if(heap, purse, procs, tree, names, fifos, place, fd, marked);
+        close_if(
+            heap, purse, procs, tree, names, fifos, locks, place, fd, marked,
+        );
     }
 }
 
@@ -263,6 +289,7 @@ fn close_if(
     tree: &mut FileTree,
     names: &mut BoundTable,
     fifos: &mut FifoTable,
+    locks: &mut LockTable,
     place: Place,
     fd: u32,
     marked: bool,
@@ -270,15 +297,20 @@ fn close_if(
     requires listed { AreListed heap.old procs.now }
     requires owners { HasItsOwners heap.old [] }
     requires chain { IsChain heap.old fifos.old }
+    requires locked { IsLockTable heap.old.locks locks.old }
     requires there { IsPlaced procs.now place }
     requires hold { HoldSomeNames heap.old procs.now tree.old names.old }
     requires may { MayClose heap.old purse.old }
     ensures closed { (numbers : Numbers) (others : ℕ → ℕ) (files : Files)
         → HoldNames numbers others heap.old procs.now tree.old names.old files
         → HoldNames numbers others heap.new procs.now tree.new names.new (if marked then after_close files place.pid fd else files) }
+    ensures locks { (numbers : Numbers) (others : ℕ → ℕ) (files : Files)
+        → HoldNames numbers others heap.old procs.now tree.old names.old files → HoldsLocks heap.old.locks locks.old files.locks
+        → HoldsLocks heap.new.locks locks.new (if marked then after_close files place.pid fd else files).locks }
     ensures listed { AreListed heap.new procs.now }
     ensures owners { HasItsOwners heap.new [] }
     ensures chain { IsChain heap.new fifos.new }
+    ensures locked { IsLockTable heap.new.locks locks.new }
     ensures hold { HoldSomeNames heap.new procs.now tree.new names.new }
     ensures closes { ClosesIf heap.old heap.new procs.now place.pid fd marked }
     ensures places { length names.new ≡ length names.old }
@@ -299,5 +331,5 @@ fn close_if(
     if !marked {
         return;
     }
-    close_at(heap, purse, procs, tree, names, fifos, place, fd);
+    close_at(heap, purse, procs, tree, names, fifos, locks, place, fd);
 }

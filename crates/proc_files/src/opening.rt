@@ -106,6 +106,7 @@ pub fn open_path(
     ensures changes { ChangesHolding heap.old heap.new procs.now place.pid }
     ensures queues { QueuesStand heap.old heap.new }
     ensures socks { heap.new.socks ≡ heap.old.socks }
+    ensures locks { heap.new.locks ≡ heap.old.locks }
     ensures paid { IsPaid heap.old purse.old heap.new purse.new }
     ensures fills { HasFills heap.new purse.new }
     ensures reads { tree.old.disk.reads ≤ tree.new.disk.reads }
@@ -161,6 +162,7 @@ fn open_found(
     ensures changes { ChangesHolding heap.old heap.new procs.now place.pid }
     ensures queues { QueuesStand heap.old heap.new }
     ensures socks { heap.new.socks ≡ heap.old.socks }
+    ensures locks { heap.new.locks ≡ heap.old.locks }
     ensures paid { IsPaid heap.old purse.old heap.new purse.new }
     ensures fills { HasFills heap.new purse.new }
     ensures disk { tree.new.disk ≡ tree.old.disk }
@@ -207,6 +209,7 @@ fn open_fifo(
     ensures changes { ChangesHolding heap.old heap.new procs.now place.pid }
     ensures queues { QueuesStand heap.old heap.new }
     ensures socks { heap.new.socks ≡ heap.old.socks }
+    ensures locks { heap.new.locks ≡ heap.old.locks }
     ensures paid { IsPaid heap.old purse.old heap.new purse.new }
     ensures fills { HasFills heap.new purse.new }
     ensures disk { tree.new.disk ≡ tree.old.disk }
@@ -304,6 +307,7 @@ fn open_end(
     ensures stay { CachesStay heap.old heap.new }
     ensures queues { QueuesStand heap.old heap.new }
     ensures socks { heap.new.socks ≡ heap.old.socks }
+    ensures locks { heap.new.locks ≡ heap.old.locks }
     ensures paid { IsPaid heap.old purse.old heap.new purse.new }
     ensures fills { HasFills heap.new purse.new }
 {
@@ -382,6 +386,7 @@ fn open_new(
     ensures stay { CachesStay heap.old heap.new }
     ensures queues { QueuesStand heap.old heap.new }
     ensures socks { heap.new.socks ≡ heap.old.socks }
+    ensures locks { heap.new.locks ≡ heap.old.locks }
     ensures paid { IsPaid heap.old purse.old heap.new purse.new }
     ensures fills { HasFills heap.new purse.new }
 {

@@ -5,6 +5,7 @@ ghost use Rattle.fifo_nodes.specs.Chain.{IsChain};
 ghost use Rattle.kabi_types.specs.declared.scripts.Script.{Script};
 ghost use Rattle.kheap_slabs.specs.Paid.{CanPay};
 ghost use Rattle.desc_table.specs.Copying.{spends_leaves};
+ghost use Rattle.lock_table.specs.Chain.{IsLockTable};
 ghost use Rattle.open_laws.specs.Owned.{HasItsOwners};
 ghost use Rattle.open_laws.specs.Placed.{Numbers};
 ghost use Rattle.posix_defs.specs.Calls.OnDescriptors.{dup2};
@@ -15,7 +16,7 @@ ghost use Rattle.proc_numbers.specs.Having.{AreListed};
 ghost use Rattle.proc_numbers.specs.Queues.{QueuesStand};
 ghost use Rattle.proc_numbers.specs.Answering.{node_replaced, value_of};
 ghost use Rattle.proc_files.specs.Closing.{ChangesHolding, MayClose, PaysInTurn};
-ghost use Rattle.proc_files.specs.NameAnswering.{AnswersNaming};
+ghost use Rattle.proc_files.specs.NameAnswering.{AnswersClosing};
 ghost use Rattle.proc_files.specs.NameHolding.{HoldNames, HoldSomeNames};
 
 use crate::closing::close_at;
@@ -24,6 +25,7 @@ use bound_table::BoundTable;
 use fifo_nodes::FifoTable;
 use kabi_types::Errno;
 use kheap_slabs::{KHeap, Purse};
+use lock_table::LockTable;
 use memfs_ops::FileTree;
 use proc_numbers::{Named, count_of, may_be_descriptor, share_at};
 use proc_table::{Place, ProcTable};
@@ -44,6 +46,7 @@ pub fn dup_number(
     tree: &mut FileTree,
     names: &mut BoundTable,
     fifos: &mut FifoTable,
+    locks: &mut LockTable,
     place: Place,
     on: &Named,
     to: i64,
@@ -51,6 +54,7 @@ pub fn dup_number(
     requires listed { AreListed heap.old procs.now }
     requires owners { HasItsOwners heap.old [] }
     requires chain { IsChain heap.old fifos.old }
+    requires locked { IsLockTable heap.old.locks locks.old }
     requires there { IsPlaced procs.now place }
     requires opened { IsOpened heap.old procs.now place.pid on.now }
     requires hold { HoldSomeNames heap.old procs.now tree.old names.old }
@@ -59,10 +63,12 @@ pub fn dup_number(
     requires may { MayClose heap.old back.old }
     ensures answers { (numbers : Numbers) (others : ℕ → ℕ) (script : Script) (plain : Plain)
         → HoldNames numbers others heap.old procs.now tree.old names.old plain.files
-        → AnswersNaming numbers others heap.new procs.now tree.new names.new script plain place.pid (dup2 script plain place.pid on.now.fd to) (value_of result) }
+        → AnswersClosing numbers others heap.old heap.new locks.old locks.new procs.now tree.new names.new script plain place.pid
+        (dup2 script plain place.pid on.now.fd to) (value_of result) }
     ensures listed { AreListed heap.new procs.now }
     ensures owners { HasItsOwners heap.new [] }
     ensures chain { IsChain heap.new fifos.new }
+    ensures locked { IsLockTable heap.new.locks locks.new }
     ensures hold { HoldSomeNames heap.new procs.now tree.new names.new }
     ensures changes { ChangesHolding heap.old heap.new procs.now place.pid }
     ensures places { length names.new ≡ length names.old }
@@ -85,7 +91,7 @@ pub fn dup_number(
         return Ok(number);
     }
     is_well_formed(heap);
-    close_at(heap, back, procs, tree, names, fifos, place, number);
+    close_at(heap, back, procs, tree, names, fifos, locks, place, number);
     share_at(heap, purse, procs, place, number, found.key);
     Ok(number)
 }

@@ -3,6 +3,7 @@ pub mod NamedPlaces
 pub mod Listing
 pub mod Droppable
 pub mod NumberCloses
+pub mod WithLocks
 pub mod AllClose
 pub mod NumberOpens
 pub mod NumberParts

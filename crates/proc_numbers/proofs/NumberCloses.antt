@@ -32,6 +32,7 @@ use Rattle.proc_table.specs.Procs.{numbers_in, proc_of}
 use Rattle.proc_table.specs.Table.{AreStored, TableView, key_of, keys_of, processes, procs_at}
 use Rattle.proc_table.proofs.PlaceLemmas.{eqb_same, key_of-proc, some_same}
 use Rattle.desc_table.specs.Numbered.{names_one}
+use Rattle.proc_numbers.specs.Closed.{without_in, without_number}
 use Rattle.proc_numbers.specs.Having.{AreListed, ClosesNumber, HaveDescriptors, HaveOpen, OpensNoNode, places_in}
 use Rattle.proc_numbers.specs.Naming.{TurnsNumber, named_at}
 use Rattle.proc_numbers.proofs.Droppable.{droppable}
@@ -124,8 +125,8 @@ module _ (old mid : Heap) (kept : TableView) (pid fd : ℕ) (held : HeldDescript
         ap (λ descriptors. descriptor_at descriptors fd) (descriptors_here old mid kept pid fd turns.key turns.proc turns.now None listed turns.turns turns.numbers numbers files have.descriptors)
         ∙ get_or-map (option_map (descriptor_by numbers.descs)) (numbers_in old turns.proc) fd None ∙ ap (option_map (descriptor_by numbers.descs)) is
 
-    closes_so : after_close files pid fd ≡ released without_it place
-    closes_so = ap (close_in files pid fd) at_number
+    closes_so : without_number files pid fd ≡ released without_it place
+    closes_so = ap (without_in files pid fd) at_number
 
     descriptors_mid : HaveDescriptors (numbers_in mid) numbers.descs (processes mid kept) kept.last without_it
     descriptors_mid = descriptors_turned old mid kept pid fd turns.key turns.proc turns.now None listed turns.turns turns.numbers numbers files have.descriptors
@@ -203,7 +204,7 @@ module _ (old mid : Heap) (kept : TableView) (pid fd : ℕ) (held : HeldDescript
 
     -- Where the Desc is dropped the processes have open what the machine says after the close.
     pub have_closed : (new : Heap) → new.procs ≡ mid.procs → new.leaves ≡ mid.leaves
-        → AreOpen numbers new (after_drop have.list place) (files_dropped without_it have.list place) → HaveOpen numbers new kept (after_close files pid fd)
+        → AreOpen numbers new (after_drop have.list place) (files_dropped without_it have.list place) → HaveOpen numbers new kept (without_number files pid fd)
     have_closed new procs leaves opened =
         subst (HaveOpen numbers new kept) (sym (closes_so ∙ released_so)) (record {
           list = after_drop have.list place;

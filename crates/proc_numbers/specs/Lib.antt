@@ -1,4 +1,5 @@
 pub mod Having
+pub mod Closed
 pub mod Naming
 pub mod Queues
 pub mod Answering

@@ -8,12 +8,12 @@ ghost use Rattle.kheap_slabs.specs.Paid.{TakesNothing};
 ghost use Rattle.fifo_nodes.specs.Chain.{IsChain};
 ghost use Rattle.open_laws.specs.Owned.{HasItsOwners};
 ghost use Rattle.open_laws.specs.Placed.{Numbers};
-ghost use Rattle.posix_defs.specs.Files.Closing.{after_close};
 ghost use Rattle.posix_defs.specs.Files.State.{Files};
 ghost use Rattle.kabi_types.specs.Arguments.{most_descriptors};
 ghost use Rattle.proc_table.specs.Procs.{numbers_in, proc_of};
 ghost use Rattle.proc_table.specs.Table.{IsPlaced, processes};
 ghost use Rattle.proc_numbers.specs.Queues.{QueuesStand};
+ghost use Rattle.proc_numbers.specs.Closed.{without_number};
 ghost use Rattle.proc_numbers.specs.Having.{AreListed, ClosesNumber, HaveOpen, OpensNoNode, node_closed};
 ghost use Rattle.proc_numbers.specs.Naming.{TurnsNumber, named_at};
 
@@ -23,7 +23,7 @@ use kheap_slabs::KHeap;
 use proc_table::{Place, ProcTable};
 
 /// A process has a number open no more (POSIX close), which was found open. With the last of its numbers that is open a Leaf goes. With
-/// the last descriptor that names it a description goes, and what it was open on is closed.
+/// the last descriptor that names it a description goes, and what it was open on is closed. Locks are let go by the caller.
 ///
 /// The answer is the node whose pin the caller then drops, that of a FIFO too; None where no description of a node has gone.
 pub fn close_one(
@@ -40,7 +40,7 @@ pub fn close_one(
     requires number { fd < most_descriptors }
     requires is_open { IsSome (named_at heap.old procs.now place.pid fd) }
     ensures closed { (numbers : Numbers) (files : Files) → HaveOpen numbers heap.old procs.now files
-        → HaveOpen numbers heap.new procs.now (after_close files place.pid fd) }
+        → HaveOpen numbers heap.new procs.now (without_number files place.pid fd) }
     ensures nodes { OpensNoNode heap.old.descs → OpensNoNode heap.new.descs }
     ensures listed { AreListed heap.new procs.now }
     ensures owners { HasItsOwners heap.new [] }

@@ -11,6 +11,7 @@ use Rattle.kheap_slabs.specs.declared.objects.Descriptor.{Descriptor as HeldDesc
 use Rattle.kheap_slabs.specs.declared.objects.Proc.{Proc}
 use Rattle.kheap_slabs.specs.Heap.{Heap}
 use Rattle.kheap_slabs.specs.Owners.{OwnsItsObjects}
+use Rattle.lock_table.specs.Chain.{IsLockTable}
 use Rattle.memfs_ops.specs.FileTree.{TreeView}
 use Rattle.open_laws.specs.Owned.{HasItsOwners}
 use Rattle.posix_defs.specs.Memory.{Frames}
@@ -149,15 +150,15 @@ alive_shut procs now pid is alive = record {
     by_pid true = refl
     by_pid false = refl
 
--- the objects with another heap, another tree, other names and another chain of FIFOs' pipes
-abbrev pub with_heap : Objects → Heap → TreeView → List (Option ℕ) → Option ℕ → Objects
-with_heap old heap tree names first = record { heap = heap; procs = old.procs; tree = tree; names = names; fifos = first }
+-- the objects with another heap, another tree, other names and other chains, of FIFOs' pipes and of locks
+abbrev pub with_heap : Objects → Heap → TreeView → List (Option ℕ) → Option ℕ → Option ℕ → Objects
+with_heap old heap tree names first held = record { heap = heap; procs = old.procs; tree = tree; names = names; fifos = first; locks = held }
 
 -- What the objects keep they keep.
-pub kept_shut : (script : Script) (old : Objects) (heap : Heap) (tree : TreeView) (names : List (Option ℕ)) (first : Option ℕ) (pid : ℕ) → AreKept script old → ClosesEach old.heap heap old.procs pid
-    → AreListed heap old.procs → HasItsOwners heap [] → AreBound (name_of heap.socks) names → length names ≡ length old.names → IsChain heap first → KeepsTree heap tree
-    → AreKept script (with_heap old heap tree names first)
-kept_shut script old heap tree names first pid kept closes listed owners bound long chain caches = record {
+pub kept_shut : (script : Script) (old : Objects) (heap : Heap) (tree : TreeView) (names : List (Option ℕ)) (first held : Option ℕ) (pid : ℕ) → AreKept script old → ClosesEach old.heap heap old.procs pid
+    → AreListed heap old.procs → HasItsOwners heap [] → AreBound (name_of heap.socks) names → length names ≡ length old.names → IsChain heap first → IsLockTable heap.locks held → KeepsTree heap tree
+    → AreKept script (with_heap old heap tree names first held)
+kept_shut script old heap tree names first held pid kept closes listed owners bound long chain locked caches = record {
   holds = shut_holds old.heap heap old.procs pid kept.holds closes listed owners.objects;
   all = listed.all;
   leaves = listed.leaves;
@@ -169,6 +170,7 @@ kept_shut script old heap tree names first pid kept closes listed owners bound l
   bound = bound;
   places = subst (λ n. most_nodes < n) (sym long) kept.places;
   chain = chain;
+  locked = locked;
   caches = caches;
   size = ap (λ (h : Heap). h.heap) closes.changes.beside ∙ kept.size;
 }

@@ -55,7 +55,7 @@ use Rattle.store_objects.proofs.Pinning.{kept_then}
 use Rattle.store_objects.proofs.RunningProcs.{alive_is, all_found}
 use Rattle.store_objects.proofs.WorkPlaces.{away_cons, count, directories_from}
 use Rattle.process_calls.specs.Ending.{WorldWithout}
-use Rattle.process_calls.specs.Endings.{ClearsSome, HoldFilesOf, cleared_in_turn, shut, workers_at}
+use Rattle.process_calls.specs.Endings.{ClearsSome, HaveLocks, HoldFilesOf, cleared_in_turn, shut, workers_at}
 use Rattle.process_calls.proofs.EndedProcs.{Lasts, all_ended}
 use Rattle.process_calls.proofs.EndingOthers.{alive_made, alive_runs_there}
 use Rattle.process_calls.proofs.Going.{none_before, none_then, remain_end, remain_ends}
@@ -152,6 +152,7 @@ module _ (script : Script) (old : Objects) (world : World) (stands : StandsFor s
   -- What has become of what is open where a process ends, and all others with the first one.
   pub record Closes (new : Objects) (pid : ℕ) : Type 0 where
     pub held : HoldFilesOf stands.files.numbers new (closed_by plain.files pid)
+    pub locks : HaveLocks new (closed_by plain.files pid)
     pub queues : QueuesStand old.heap new.heap
     pub untouched : ends_node plain.files (closed_by plain.files pid) ≡ false → KeptStays old.tree new.tree
     pub reads : old.tree.disk.reads ≤ new.tree.disk.reads
@@ -201,6 +202,7 @@ module _ (script : Script) (old : Objects) (world : World) (stands : StandsFor s
       processes = are;
       memory = has;
       files = files;
+      locks = closes.locks;
       tree = tree;
       family = (let on = dies_on plain pid status plain_kept lives in on.family);
       works = works;
@@ -231,17 +233,18 @@ module _ (script : Script) (old : Objects) (world : World) (stands : StandsFor s
   pub dies_other : (new : Objects) (pid status : ℕ) → AreKept script new → IsAlive (procs_of old) pid → pid ≢ 1 → new.procs.last ≡ old.procs.last
       → procs_of new ≡ ended pid status (map (shut pid) (procs_of old)) → IsTable new.heap new.procs (ends_in plain.table pid status)
       → HasAccount new.heap new.procs (after_clear frames pid)
-      → HoldFilesOf stands.files.numbers new (after_end_of plain.files pid)
+      → HoldFilesOf stands.files.numbers new (after_end_of plain.files pid) → HaveLocks new (after_end_of plain.files pid)
       → QueuesStand old.heap new.heap → (ends_node plain.files (after_end_of plain.files pid) ≡ false → KeptStays old.tree new.tree)
       → old.tree.disk.reads ≤ new.tree.disk.reads → ((class : Class) → counted (counts_of new.heap) class ≤ counted (counts_of old.heap) class)
       → WorldWithout script new world pid status
-  dies_other new pid status kept_new alive other last is table has held queues untouched reads counts =
+  dies_other new pid status kept_new alive other last is table has held locks queues untouched reads counts =
       ended_stands new pid status kept_new lives are
       (subst (HasAccount new.heap new.procs)
       (sym (forgotten script new (die plain pid status) (after_clear frames pid) kept_new are has)
       ∙ forget_cleared (is_alive (die plain pid status).table) frames pid dead) has)
       (record {
         held = subst (HoldFilesOf stands.files.numbers new) (sym (closed pid other)) held;
+        locks = subst (HaveLocks new) (sym (closed pid other)) locks;
         queues = queues;
         untouched = λ none. untouched (ap (ends_node plain.files) (sym (closed pid other)) ∙ none);
         reads = reads;
@@ -313,6 +316,7 @@ module _ (script : Script) (old : Objects) (world : World) (stands : StandsFor s
     pub table : IsTable mid.heap mid.procs (ends_in plain.table pid status)
     pub account : HasAccount mid.heap mid.procs (after_clear frames pid)
     pub held : HoldFilesOf stands.files.numbers mid (after_end_of plain.files pid)
+    pub locks : HaveLocks mid (after_end_of plain.files pid)
     pub queues : QueuesStand old.heap mid.heap
     pub stays : ends_node plain.files (after_end_of plain.files pid) ≡ false → KeptStays old.tree mid.tree
     pub reads : old.tree.disk.reads ≤ mid.tree.disk.reads
@@ -322,6 +326,7 @@ module _ (script : Script) (old : Objects) (world : World) (stands : StandsFor s
     pub table : (table : Table) → IsTable mid.heap mid.procs table → IsTable new.heap new.procs (ends_from mid.procs.last 2 table 9)
     pub account : (frames : Frames) → HasAccount mid.heap mid.procs frames → (after : Frames) × HasAccount new.heap new.procs after × ClearsSome frames after
     pub held : HoldFilesOf stands.files.numbers new (after_ends_of files (range_with_len 2 (mid.procs.last - 1)))
+    pub locks : HaveLocks new (after_ends_of files (range_with_len 2 (mid.procs.last - 1)))
     pub queues : QueuesStand mid.heap new.heap
     pub stays : ends_node files (after_ends_of files (range_with_len 2 (mid.procs.last - 1))) ≡ false → KeptStays mid.tree new.tree
     pub reads : mid.tree.disk.reads ≤ new.tree.disk.reads
@@ -335,6 +340,7 @@ module _ (script : Script) (old : Objects) (world : World) (stands : StandsFor s
       found.0 found.1 found.2
       (record {
         held = subst (HoldFilesOf stands.files.numbers new) all_closed rest.held;
+        locks = subst (HaveLocks new) all_closed rest.locks;
         queues = queues_then _ _ _ first.queues rest.queues;
         untouched = λ none.
             let still : ends_node plain.files all ≡ false = ap (ends_node plain.files) all_closed ∙ none in

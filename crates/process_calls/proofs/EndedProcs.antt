@@ -64,10 +64,10 @@ all_ended P pid status procs lasts all = by_alone (is_alone pid procs)
     by_alone false = left
 
 -- what the objects keep they keep when a process ends that has nothing open
-pub kept_ended : (script : Script) (old new : Objects) (pid status : ℕ) → AreKept script old → new.tree ≡ old.tree → new.names ≡ old.names → new.fifos ≡ old.fifos → HasClosed (procs_of old) pid → TableMoves old.heap old.procs new.heap new.procs
+pub kept_ended : (script : Script) (old new : Objects) (pid status : ℕ) → AreKept script old → new.tree ≡ old.tree → new.names ≡ old.names → new.fifos ≡ old.fifos → new.locks ≡ old.locks → HasClosed (procs_of old) pid → TableMoves old.heap old.procs new.heap new.procs
     → procs_of new ≡ ended pid status (procs_of old) → AreKept script new
-kept_ended script old new pid status kept tree names fifos closed moves is =
-    kept_on script old new kept tree names fifos moves
+kept_ended script old new pid status kept tree names fifos locks closed moves is =
+    kept_on script old new kept tree names fifos locks moves
     (subst (HoldLeaves new.heap.leaves) (sym is) (subst (λ leaves. HoldLeaves leaves (ended pid status (procs_of old))) (sym (ap (λ (h : Heap). h.leaves) moves.kept)) (hold_ended old.heap old.procs pid status kept.holds closed kept.leaves)))
     (subst (AllByRecursion (λ proc. length proc.nodes ≡ 4)) (sym is)
     (all_ended (λ proc. length proc.nodes ≡ 4) pid status (procs_of old) (record { cleared = λ proc four. refl; moved = λ proc four. four; over = λ proc four. four }) kept.groups))

@@ -23,7 +23,7 @@ use Rattle.proc_table.proofs.FamilyLemmas.{proc_has_pid, process_is}
 use Rattle.proc_table.proofs.OwnLemmas.{has_it}
 use Rattle.proc_table.proofs.TurnLemmas.{closed_once}
 use Rattle.store_objects.specs.declared.objects.Objects.{Objects}
-use Rattle.process_calls.specs.Endings.{ClearsSome, HoldFilesOf, IsLowestBehind, cleared_in_turn}
+use Rattle.process_calls.specs.Endings.{ClearsSome, HaveLocks, HoldFilesOf, IsLowestBehind, cleared_in_turn}
 use Rattle.process_calls.proofs.Going.{Remain, none_before, none_then, remain_end, remain_same, remain_then}
 use Rattle.store_objects.specs.Objects.{is_running, procs_of}
 use Rattle.store_objects.specs.Trees.{KeptStays}
@@ -213,6 +213,7 @@ pub record ClosesOn (start now : Objects) (pid : ℕ) (numbers : Numbers) (files
   -- what is there was there, and where no description of a node has gone the caches keep the same
   pub remain : Remain files here
   pub stays : ends_node files here ≡ false → KeptStays start.tree now.tree
+  pub locks : HaveLocks start files → HaveLocks now here
 
 pub closes_first : (start : Objects) (numbers : Numbers) (files : Files) → HoldFilesOf numbers start files → ClosesOn start start 1 numbers files
 closes_first start numbers files hold = record {
@@ -223,6 +224,7 @@ closes_first start numbers files hold = record {
   same = refl;
   remain = remain_same files files refl refl;
   stays = λ none. record { kept = refl; reads = refl };
+  locks = λ held. held;
 }
 
 -- the next one closes what it has open
@@ -230,8 +232,9 @@ pub closes_one : (start mid new : Objects) (pid next : ℕ) (numbers : Numbers) 
     → IsLowestBehind (procs_of mid) pid next
     → ((here : Files) → HoldFilesOf numbers mid here → HoldFilesOf numbers new (after_end_of here next))
     → ((here : Files) → HoldFilesOf numbers mid here → ends_node here (after_end_of here next) ≡ false → KeptStays mid.tree new.tree)
+    → ((here : Files) → HoldFilesOf numbers mid here → HaveLocks mid here → HaveLocks new (after_end_of here next))
     → ClosesOn start mid pid numbers files → ClosesOn start new next numbers files
-closes_one start mid new pid next numbers files holds last found closes stays on = record {
+closes_one start mid new pid next numbers files holds last found closes stays locks on = record {
   more = less;
   here = after_end_of on.here next;
   counts = (let c = on.counts in let b = found.behind in let k : start.procs.last ≤ next + (on.more - (next - pid)) = omega (arith, c, b, made) in k);
@@ -246,6 +249,7 @@ closes_one start mid new pid next numbers files holds last found closes stays on
   stays = λ none.
       kept_then start.tree mid.tree new.tree (on.stays (none_before files on.here (after_end_of on.here next) on.remain (remain_end on.here next) none))
       (stays on.here on.held (none_then files on.here (after_end_of on.here next) on.remain (remain_end on.here next) none));
+  locks = λ held. locks on.here on.held (on.locks held);
 }
   where
     less : ℕ
@@ -268,3 +272,6 @@ module _ (start now : Objects) (pid : ℕ) (numbers : Numbers) (files : Files) (
 
   pub stays_all : ends_node files (after_ends_of files (range_with_len 2 (start.procs.last - 1))) ≡ false → KeptStays start.tree now.tree
   stays_all ends = on.stays (ap (ends_node files) (sym all_are) ∙ ends)
+
+  pub locks_all : HaveLocks start files → HaveLocks now (after_ends_of files (range_with_len 2 (start.procs.last - 1)))
+  locks_all held = subst (HaveLocks now) (sym all_are) (on.locks held)

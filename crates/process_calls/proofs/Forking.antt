@@ -50,6 +50,7 @@ use Rattle.proc_table.proofs.FamilyLemmas.{proc_has_pid}
 use Rattle.proc_table.proofs.LawLemmas.{fork_is, on-account, on-table}
 use Rattle.proc_table.proofs.OwnLemmas.{all_append, all_weaker, has_it}
 use Rattle.proc_table.proofs.PlaceLemmas.{eqb_other, eqb_same}
+use Rattle.store_objects.proofs.LockedOn.{holds_on, stay_moved}
 use Rattle.store_objects.specs.declared.objects.Objects.{Objects}
 use Rattle.store_objects.specs.Files.{HaveFiles}
 use Rattle.store_objects.specs.Objects.{AreAtCalls, AreKept, IsAtCall, MovesOn, Runs, procs_of}
@@ -57,7 +58,7 @@ use Rattle.store_objects.specs.Standing.{AreProcesses, Performs, StandsFor, Worl
 use Rattle.store_objects.proofs.FewPins.{few_pins}
 use Rattle.store_objects.proofs.GoingOn.{descriptors_moved, kept_moved, led_to, mapped_from, moves_then, proc_made, procs_then, replaced_at, rising_in, some_same}
 use Rattle.store_objects.proofs.Keeping.{kept_with, moved_caches}
-use Rattle.store_objects.proofs.Pinning.{kept_then, kept_where, pinned_account, pinned_files, pinned_kept, pinned_procs, pinned_stays, pinned_table, stands_where}
+use Rattle.store_objects.proofs.Pinning.{kept_then, kept_where, pinned_account, pinned_files, pinned_kept, pinned_locks, pinned_procs, pinned_stays, pinned_table, stands_where}
 use Rattle.store_objects.proofs.TreesOn.{caches_then, held_by_procs, same_pins, works_in, works_worked}
 use Rattle.store_objects.proofs.WorkPlaces.{count, directories_from, entered_others, holds_it, others_by}
 use Rattle.store_objects.proofs.WorkingOn.{all_and, entered_by_one, works_among}
@@ -136,10 +137,10 @@ at_last controls last d (suc i) h =
     ∙ ap (λ found. unwrap_or found d) (get_behind controls last [])
 
 -- where neither has changed the objects are the same
-pub same_objects : (old : Objects) (heap : Heap) (procs : TableView) → heap ≡ old.heap → procs ≡ old.procs → record { heap = heap; procs = procs; tree = old.tree; names = old.names; fifos = old.fifos } ≡ old
+pub same_objects : (old : Objects) (heap : Heap) (procs : TableView) → heap ≡ old.heap → procs ≡ old.procs → record { heap = heap; procs = procs; tree = old.tree; names = old.names; fifos = old.fifos; locks = old.locks } ≡ old
 same_objects old heap procs same_heap same_procs =
-    ap (λ (h : Heap). record { heap = h; procs = procs; tree = old.tree; names = old.names; fifos = old.fifos }) same_heap
-    ∙ ap (λ (t : TableView). record { heap = old.heap; procs = t; tree = old.tree; names = old.names; fifos = old.fifos }) same_procs
+    ap (λ (h : Heap). record { heap = h; procs = procs; tree = old.tree; names = old.names; fifos = old.fifos; locks = old.locks }) same_heap
+    ∙ ap (λ (t : TableView). record { heap = old.heap; procs = t; tree = old.tree; names = old.names; fifos = old.fifos; locks = old.locks }) same_procs
 
 -- the child's pid is the one behind the last
 pub number_of : (there last child : ℕ) → Ok child ≡ forked_as there last → child ≡ last + 1
@@ -155,7 +156,7 @@ forked_world script world pid = record world { plain = with_child script world.p
 
 -- The table has made a child.
 module _ (script : Script) (old mid : Objects) (pid child : ℕ) (control : Control) (kept : AreKept script old) (runs : Runs old pid control)
-    (moves : TableMoves (sharing old.heap mid.heap) old.procs mid.heap mid.procs) (tree : mid.tree ≡ old.tree) (names : mid.names ≡ old.names) (fifos : mid.fifos ≡ old.fifos) (shared : HasShared old mid runs.proc)
+    (moves : TableMoves (sharing old.heap mid.heap) old.procs mid.heap mid.procs) (tree : mid.tree ≡ old.tree) (names : mid.names ≡ old.names) (fifos : mid.fifos ≡ old.fifos) (locks : mid.locks ≡ old.locks) (shared : HasShared old mid runs.proc)
     (forked : IsForked old.heap old.procs mid.heap mid.procs pid child) (copies : HasCopies old.heap mid.heap forked.parent (child_proc forked.parent child forked.nodes forked.leaves)) where
   same_parent : forked.parent ≡ runs.proc
   same_parent = some_same (proc_of (procs_of old) pid) forked.parent runs.proc forked.parent_is runs.found
@@ -169,7 +170,7 @@ module _ (script : Script) (old mid : Objects) (pid child : ℕ) (control : Cont
 
   pub kept_forked : AreKept script mid
   kept_forked =
-      kept_with script (sharing old.heap mid.heap) old.procs old.tree old.names old.fifos mid (keeps_shared script old mid kept) tree names fifos moves leaves_forked
+      kept_with script (sharing old.heap mid.heap) old.procs old.tree old.names old.fifos old.locks mid (keeps_shared script old mid kept) tree names fifos locks moves leaves_forked
       (owners_shared script old mid runs.proc (child_proc forked.parent child forked.nodes forked.leaves) kept shared
       (subst (λ (p : Proc). HasCopies old.heap mid.heap p (child_proc forked.parent child forked.nodes forked.leaves)) same_parent copies) leaves_forked moves)
       (subst (AllByRecursion (λ proc. length proc.nodes ≡ 4)) (sym forked.processes_are)
@@ -193,11 +194,11 @@ module _ (script : Script) (old mid : Objects) (pid child : ℕ) (control : Cont
 
 -- The child goes on at another control.
 module _ (script : Script) (old mid moved : Objects) (pid child : ℕ) (control next : Control) (kept : AreKept script old) (runs : Runs old pid control)
-    (moves : TableMoves (sharing old.heap mid.heap) old.procs mid.heap mid.procs) (tree : mid.tree ≡ old.tree) (names : mid.names ≡ old.names) (fifos : mid.fifos ≡ old.fifos) (shared : HasShared old mid runs.proc)
+    (moves : TableMoves (sharing old.heap mid.heap) old.procs mid.heap mid.procs) (tree : mid.tree ≡ old.tree) (names : mid.names ≡ old.names) (fifos : mid.fifos ≡ old.fifos) (locks : mid.locks ≡ old.locks) (shared : HasShared old mid runs.proc)
     (forked : IsForked old.heap old.procs mid.heap mid.procs pid child) (copies : HasCopies old.heap mid.heap forked.parent (child_proc forked.parent child forked.nodes forked.leaves))
     (number : child ≡ old.procs.last + 1) (turned : MovesOn mid child next moved) where
   pub between : AreKept script mid
-  between = kept_forked script old mid pid child control kept runs moves tree names fifos shared forked copies
+  between = kept_forked script old mid pid child control kept runs moves tree names fifos locks shared forked copies
 
   abbrev pub now : Proc
   now = record turned.proc { control = next }
@@ -209,7 +210,7 @@ module _ (script : Script) (old mid moved : Objects) (pid child : ℕ) (control 
   own = proc_has_pid (procs_of mid) child turned.proc turned.found
 
   apart : pid ≢ child
-  apart = made_before script old mid pid child control kept runs moves tree names fifos shared forked copies number
+  apart = made_before script old mid pid child control kept runs moves tree names fifos locks shared forked copies number
 
   pub kept_child : Stands script next → Rests script next → AreKept script moved
   kept_child stands rests = kept_moved script mid moved child next between turned stands rests
@@ -308,15 +309,15 @@ module _ (script : Script) (old mid moved : Objects) (pid child : ℕ) (control 
 
 -- The child holds the directory that it works in.
 module _ (script : Script) (old mid moved pinned : Objects) (pid child directory : ℕ) (control next : Control) (kept : AreKept script old) (runs : Runs old pid control)
-    (moves : TableMoves (sharing old.heap mid.heap) old.procs mid.heap mid.procs) (same_tree : mid.tree ≡ old.tree) (same_names : mid.names ≡ old.names) (same_fifos : mid.fifos ≡ old.fifos) (shared : HasShared old mid runs.proc)
+    (moves : TableMoves (sharing old.heap mid.heap) old.procs mid.heap mid.procs) (same_tree : mid.tree ≡ old.tree) (same_names : mid.names ≡ old.names) (same_fifos : mid.fifos ≡ old.fifos) (same_locks : mid.locks ≡ old.locks) (shared : HasShared old mid runs.proc)
     (forked : IsForked old.heap old.procs mid.heap mid.procs pid child) (copies : HasCopies old.heap mid.heap forked.parent (child_proc forked.parent child forked.nodes forked.leaves))
     (number : child ≡ old.procs.last + 1) (turned : MovesOn mid child next moved) (at : directory ≡ runs.proc.cwd) (only : OnlyPins moved pinned)
     (lets : (tree : Tree) (pins : ℕ → ℕ) → TreeStands moved.heap moved.tree tree pins → TreeStands pinned.heap pinned.tree tree (entered_pins pins directory)) where
   mid_kept : AreKept script mid
-  mid_kept = between script old mid moved pid child control next kept runs moves same_tree same_names same_fifos shared forked copies number turned
+  mid_kept = between script old mid moved pid child control next kept runs moves same_tree same_names same_fifos same_locks shared forked copies number turned
 
   stays : TreeStays old moved
-  stays = tree_stays script old mid moved pid child control next kept runs moves same_tree same_names same_fifos shared forked copies number turned
+  stays = tree_stays script old mid moved pid child control next kept runs moves same_tree same_names same_fifos same_locks shared forked copies number turned
 
   abbrev heir : Proc
   heir = child_proc forked.parent child forked.nodes forked.leaves
@@ -325,19 +326,19 @@ module _ (script : Script) (old mid moved pinned : Objects) (pid child directory
   further = record turned.proc { control = next }
 
   works_there : heir.cwd ≡ directory
-  works_there = ap (λ (p : Proc). p.cwd) (same_parent script old mid pid child control kept runs moves same_tree same_names same_fifos shared forked copies) ∙ sym at
+  works_there = ap (λ (p : Proc). p.cwd) (same_parent script old mid pid child control kept runs moves same_tree same_names same_fifos same_locks shared forked copies) ∙ sym at
 
   runs_there : heir.status ≡ None
-  runs_there = ap (λ (p : Proc). p.status) (same_parent script old mid pid child control kept runs moves same_tree same_names same_fifos shared forked copies) ∙ runs.up
+  runs_there = ap (λ (p : Proc). p.status) (same_parent script old mid pid child control kept runs moves same_tree same_names same_fifos same_locks shared forked copies) ∙ runs.up
 
   pub kept_pinned : Stands script next → Rests script next → AreKept script pinned
   kept_pinned stands rests =
-      pinned_kept moved pinned only script (kept_child script old mid moved pid child control next kept runs moves same_tree same_names same_fifos shared forked copies number turned stands rests)
+      pinned_kept moved pinned only script (kept_child script old mid moved pid child control next kept runs moves same_tree same_names same_fifos same_locks shared forked copies number turned stands rests)
       (kept.caches.0, entered_pins kept.caches.1 directory, lets kept.caches.0 kept.caches.1 (stands_where old moved kept.caches.0 kept.caches.1 stays kept.caches.2))
 
   pub runs_pinned : Runs pinned pid control
   runs_pinned =
-      let still = runs_still script old mid moved pid child control next kept runs moves same_tree same_names same_fifos shared forked copies number turned in
+      let still = runs_still script old mid moved pid child control next kept runs moves same_tree same_names same_fifos same_locks shared forked copies number turned in
       record { proc = still.proc; found = ap (λ procs. proc_of procs pid) (pinned_procs moved pinned only) ∙ still.found; up = still.up; at_call = still.at_call }
 
   -- one more works in the tree
@@ -394,7 +395,7 @@ module _ (script : Script) (old mid moved pinned : Objects) (pid child directory
       (files_moved mid moved (with_heir plain.files pid) (with_heir plain.files pid) (forked_world script world pid).account (forked_world script world pid).account
       (moves_then script mid moved child next mid_kept turned) refl refl refl refl refl
       (descriptors_moved script mid moved child next (with_heir plain.files pid) mid_kept turned at_call.0 at_call.1)
-      (opens_forked script old mid moved pid child control next kept runs moves same_tree same_names same_fifos shared forked copies number turned plain.files world.account (forked_world script world pid).account refl refl stands.files)) in
+      (opens_forked script old mid moved pid child control next kept runs moves same_tree same_names same_fifos same_locks shared forked copies number turned plain.files world.account (forked_world script world pid).account refl refl stands.files)) in
       let caches = kept_then old.tree moved.tree pinned.tree (kept_where old moved stays) (pinned_stays moved pinned only) in
       record {
         valid = stands.valid;
@@ -404,13 +405,16 @@ module _ (script : Script) (old mid moved pinned : Objects) (pid child directory
           last = ap (λ k. k.last) only.procs ∙ ap (λ k. k.last) turned.same ∙ forked.last ∙ number ∙ ap (λ n. n + 1) stands.processes.last
               ∙ sym (length-append plain.controls (after script (control_of plain pid) (Val (pos 0)) ∷ []));
           controls = λ q it found up.
-              controls_then script old mid moved pid child control next kept runs moves same_tree same_names same_fifos shared forked copies number turned plain stands.processes leads q it
+              controls_then script old mid moved pid child control next kept runs moves same_tree same_names same_fifos same_locks shared forked copies number turned plain stands.processes leads q it
               (ap (λ procs. proc_of procs q) (sym (pinned_procs moved pinned only)) ∙ found) up;
         };
         memory = pinned_account moved pinned only (after_fork world.account.frames pid)
             (subst (λ k. HasAccount moved.heap k (after_fork world.account.frames pid)) (sym turned.same)
             (on-account mid.heap moved.heap mid.procs child turned.key turned.proc further mid_kept.holds turned.turns (after_fork world.account.frames pid) has));
         files = files;
+        locks = holds_on moved pinned (pinned_locks moved pinned only) plain.files.locks
+            (holds_on mid moved (stay_moved mid moved (moves_then script mid moved child next mid_kept turned) turned.locks) plain.files.locks
+            (holds_on old mid (record { shelf = ap (λ (h : Heap). h.locks) moves.kept; first = same_locks }) plain.files.locks stands.locks));
         tree = record {
           stands = tree_forked world stands (with_child script plain pid).table table on (with_child script plain pid) refl is;
           kept = stands.tree.kept ∙ sym caches.kept;

@@ -112,7 +112,9 @@ remain_close files pid fd = by_number (descriptor_at (descriptors_of files pid) 
     by_number None = remain_same files files refl refl
     by_number (Some descriptor) =
         let without = with_open files pid fd None in
-        remain_then files without (released without descriptor.description) (remain_same files without refl refl) (remain_released without descriptor.description)
+        let closed = released without descriptor.description in
+        remain_then files closed (close_in files pid fd (Some descriptor))
+        (remain_then files without closed (remain_same files without refl refl) (remain_released without descriptor.description)) (remain_same closed (close_in files pid fd (Some descriptor)) refl refl)
 
 remain_closes : (files : Files) (pid : ℕ) (fds : List ℕ) → Remain files (after_closes files pid fds)
 remain_closes files pid [] = remain_same files files refl refl

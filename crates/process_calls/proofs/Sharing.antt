@@ -47,13 +47,14 @@ pub record HasShared (old mid : Objects) (parent : Proc) : Type 0 where
   pub descs : mid.heap.descs ≡ share_all old.heap.descs (numbers_in old.heap parent)
 
 -- what is kept of the heap in which all is shared, and in which the child's Leaves are
-pub keeps_shared : (script : Script) (old mid : Objects) → AreKept script old → KeepsHeap script (sharing old.heap mid.heap) old.procs old.tree old.names old.fifos
+pub keeps_shared : (script : Script) (old mid : Objects) → AreKept script old → KeepsHeap script (sharing old.heap mid.heap) old.procs old.tree old.names old.fifos old.locks
 keeps_shared script old mid kept = record {
   without = old.heap.leaves;
   listed = record { stored = kept.holds.stored; rising = kept.holds.rising; all = kept.all; leaves = kept.leaves };
   bound = kept.bound;
   places = kept.places;
   chain = chain_kept old.heap (sharing old.heap mid.heap) old.fifos (λ key. refl) kept.chain;
+  locked = kept.locked;
   caches = caches_on old.heap (sharing old.heap mid.heap) old.tree old.tree refl (record { vnodes = refl; names = refl; blocks = refl; size = refl }) kept.caches;
   size = kept.size;
 }

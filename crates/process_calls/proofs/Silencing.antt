@@ -37,11 +37,11 @@ use Rattle.process_calls.proofs.Closing.{closed_at, shut_account, shut_procs, sh
 use Rattle.process_calls.proofs.Holding.{table_caches}
 use Rattle.process_calls.proofs.Shutting.{found_changing, found_shut, has_shut}
 
-module _ (script : Script) (old : Objects) (heap : Heap) (tree : TreeView) (names : List (Option ℕ)) (first : Option ℕ) (pid : ℕ) (now : Objects) (kept : AreKept script old)
-    (closes : ClosesEach old.heap heap old.procs pid) (alive : IsAlive (procs_of old) pid) (between : AreKept script (with_heap old heap tree names first))
-    (waits : WaitsIn (with_heap old heap tree names first) pid None now) where
+module _ (script : Script) (old : Objects) (heap : Heap) (tree : TreeView) (names : List (Option ℕ)) (first held : Option ℕ) (pid : ℕ) (now : Objects) (kept : AreKept script old)
+    (closes : ClosesEach old.heap heap old.procs pid) (alive : IsAlive (procs_of old) pid) (between : AreKept script (with_heap old heap tree names first held))
+    (waits : WaitsIn (with_heap old heap tree names first held) pid None now) where
   abbrev mid : Objects
-  mid = with_heap old heap tree names first
+  mid = with_heap old heap tree names first held
 
   abbrev was : Proc
   was = alive.proc

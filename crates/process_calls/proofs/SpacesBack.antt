@@ -27,6 +27,7 @@ use Rattle.proc_table.specs.Standing.{IsTable}
 use Rattle.proc_table.specs.Table.{Holds, TableView, processes}
 use Rattle.proc_table.proofs.FamilyLemmas.{process_is}
 use Rattle.proc_table.proofs.LawLemmas.{back-account, back-moves, back-procs, back-table}
+use Rattle.store_objects.proofs.LockedOn.{holds_on, stay_moved}
 use Rattle.store_objects.specs.declared.objects.Objects.{Objects}
 use Rattle.store_objects.specs.Objects.{AreAtCalls, AreKept, IsAtCall, Runs, procs_of}
 use Rattle.store_objects.specs.Standing.{AreProcesses, StandsFor, remembered_in}
@@ -94,11 +95,11 @@ procs_back script old new mid pid key proc now holds turns same =
 
 -- the objects are kept
 pub kept_back : (script : Script) (old new : Objects) (mid : Heap) (pid key : ℕ) (proc : Proc) (now : List (Option ℕ)) → AreKept script old
-    → SpaceTurns old.heap mid new.heap old.procs pid key proc now → new.procs ≡ old.procs → new.tree ≡ old.tree → new.names ≡ old.names → new.fifos ≡ old.fifos → length now ≡ 4 → AreKept script new
-kept_back script old new mid pid key proc now kept turns same tree names fifos four =
+    → SpaceTurns old.heap mid new.heap old.procs pid key proc now → new.procs ≡ old.procs → new.tree ≡ old.tree → new.names ≡ old.names → new.fifos ≡ old.fifos → new.locks ≡ old.locks → length now ≡ 4 → AreKept script new
+kept_back script old new mid pid key proc now kept turns same tree names fifos locks four =
     let procs = procs_back script old new mid pid key proc now kept.holds turns same in
     let moves = back-moves old.heap mid new.heap old.procs pid key proc now kept.holds turns in
-    kept_on script old new kept tree names fifos
+    kept_on script old new kept tree names fifos locks
     (subst (TableMoves old.heap old.procs new.heap) (sym same) moves)
     (subst (HoldLeaves new.heap.leaves) (sym procs) (subst (λ leaves. HoldLeaves leaves (map (with_nodes pid now) (procs_of old))) (sym (ap (λ (h : Heap). h.leaves) moves.kept)) (hold_nodes old.heap pid now (procs_of old) kept.leaves)))
     (subst (AllByRecursion (λ p. length p.nodes ≡ 4)) (sym procs) (all_with_nodes (λ p. length p.nodes ≡ 4) pid now (procs_of old) (λ p long. four) kept.groups))
@@ -126,10 +127,10 @@ memory_here script objects plain pid proc are found =
 
 -- The objects stand for the world with another memory.
 pub stand_back : (script : Script) (old new : Objects) (mid : Heap) (pid key : ℕ) (proc : Proc) (now : List (Option ℕ)) (world : World) (after : Frames) (memory : Memory)
-    → (stands : StandsFor script old world) → SpaceTurns old.heap mid new.heap old.procs pid key proc now → new.procs ≡ old.procs → new.tree ≡ old.tree → new.names ≡ old.names → new.fifos ≡ old.fifos → length now ≡ 4
+    → (stands : StandsFor script old world) → SpaceTurns old.heap mid new.heap old.procs pid key proc now → new.procs ≡ old.procs → new.tree ≡ old.tree → new.names ≡ old.names → new.fifos ≡ old.fifos → new.locks ≡ old.locks → length now ≡ 4
     → IsMemory mid now memory → length memory ≡ 256 → AccountMoves old.heap mid proc.nodes now stands.memory.number world.account.frames after pid
     → StandsFor script new (remembered_in world pid memory after)
-stand_back script old new mid pid key proc now world after memory stands turns same tree names fifos four is whole moved = record {
+stand_back script old new mid pid key proc now world after memory stands turns same tree names fifos locks four is whole moved = record {
   valid = stands.valid;
   kept = kept;
   processes = record {
@@ -144,6 +145,7 @@ stand_back script old new mid pid key proc now world after memory stands turns s
   memory = subst (λ k. HasAccount new.heap k after) (sym same)
       (back-account old.heap mid new.heap old.procs pid key proc now stands.kept.holds turns world.account.frames after stands.memory moved);
   files = files;
+  locks = holds_on old new (stay_moved old new moves locks) world.plain.files.locks stands.locks;
   tree = tree_goes_on script old new world (remembered_in world pid memory after) stands refl works
       (record { tree = tree; names = names; caches = moved_caches old.heap new.heap old.procs new.procs moves }) refl refl refl;
   family = remembers_family world.plain.table pid memory stands.family;
@@ -151,7 +153,7 @@ stand_back script old new mid pid key proc now world after memory stands turns s
 }
   where
     kept : AreKept script new
-    kept = kept_back script old new mid pid key proc now stands.kept turns same tree names fifos four
+    kept = kept_back script old new mid pid key proc now stands.kept turns same tree names fifos locks four
 
     moves : TableMoves old.heap old.procs new.heap new.procs
     moves = subst (TableMoves old.heap old.procs new.heap) (sym same) (back-moves old.heap mid new.heap old.procs pid key proc now stands.kept.holds turns)

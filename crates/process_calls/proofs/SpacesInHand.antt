@@ -58,10 +58,10 @@ module _ (objects : Objects) (mid new : Heap) (pid key : ℕ) (space now : List 
   }
 
   abbrev back : Objects
-  back = record { heap = new; procs = objects.procs; tree = objects.tree; names = objects.names; fifos = objects.fifos }
+  back = record { heap = new; procs = objects.procs; tree = objects.tree; names = objects.names; fifos = objects.fifos; locks = objects.locks }
 
   pub kept_then : (script : Script) → AreKept script objects → length now ≡ 4 → AreKept script back
-  kept_then script kept four = kept_back script objects back mid pid key has.proc now kept turns refl refl refl refl four
+  kept_then script kept four = kept_back script objects back mid pid key has.proc now kept turns refl refl refl refl refl four
 
   pub runs_then : (script : Script) → AreKept script objects → (control : Control) → Runs objects pid control → Runs back pid control
   runs_then script kept control runs = runs_back script objects back mid pid key has.proc now kept turns refl control runs
@@ -75,7 +75,7 @@ module _ (objects : Objects) (mid new : Heap) (pid key : ℕ) (space now : List 
   stand_then script world next change stands four is whole moved =
       subst (λ memory. StandsFor script back (remembered_in world pid (change memory) next))
       (sym (memory_is script objects world.plain pid key space has stands.processes))
-      (stand_back script objects back mid pid key has.proc now world next (change (memory_at objects.heap space)) stands turns refl refl refl refl four
+      (stand_back script objects back mid pid key has.proc now world next (change (memory_at objects.heap space)) stands turns refl refl refl refl refl four
       (is (memory_at-stands objects.heap space)) whole
       (subst (λ nodes. AccountMoves objects.heap mid nodes now stands.memory.number world.account.frames next pid) (sym has.nodes)
       (moved stands.memory.number

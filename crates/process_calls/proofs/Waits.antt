@@ -39,6 +39,7 @@ use Rattle.proc_table.proofs.FamilyLemmas.{found_is}
 use Rattle.proc_table.proofs.LawLemmas.{wait_is}
 use Rattle.proc_table.proofs.OwnLemmas.{all_filter}
 use Rattle.proc_table.proofs.WaitLemmas.{took_ended}
+use Rattle.store_objects.proofs.LockedOn.{holds_on, stay_moved}
 use Rattle.store_objects.specs.declared.objects.Objects.{Objects}
 use Rattle.store_objects.specs.Objects.{AreAtCalls, AreKept, IsAtCall, Runs, procs_of}
 use Rattle.store_objects.specs.Standing.{AreProcesses, Performs, StandsFor, WorldAfter}
@@ -69,10 +70,10 @@ all_waited P (Took pid status) procs all = all_filter P (is_other pid) procs all
 all_waited P Nobody procs all = all
 all_waited P NoChild procs all = all
 
-pub kept_waited : (script : Script) (old mid : Objects) (parent : ℕ) (which : ℤ) (told : Reaped) → AreKept script old → TableMoves old.heap old.procs mid.heap mid.procs → mid.tree ≡ old.tree → mid.names ≡ old.names → mid.fifos ≡ old.fifos
+pub kept_waited : (script : Script) (old mid : Objects) (parent : ℕ) (which : ℤ) (told : Reaped) → AreKept script old → TableMoves old.heap old.procs mid.heap mid.procs → mid.tree ≡ old.tree → mid.names ≡ old.names → mid.fifos ≡ old.fifos → mid.locks ≡ old.locks
     → told ≡ reaped_of parent which (procs_of old) → procs_of mid ≡ after_wait told (procs_of old) → AreKept script mid
-kept_waited script old mid parent which told kept moves tree names fifos is procs =
-    kept_on script old mid kept tree names fifos moves
+kept_waited script old mid parent which told kept moves tree names fifos locks is procs =
+    kept_on script old mid kept tree names fifos locks moves
     (subst (HoldLeaves mid.heap.leaves) (sym procs) (subst (λ leaves. HoldLeaves leaves (after_wait told (procs_of old))) (sym (ap (λ (h : Heap). h.leaves) moves.kept)) (hold_waited old.heap old.procs parent which told kept.holds is kept.leaves)))
     (subst (AllByRecursion (λ proc. length proc.nodes ≡ 4)) (sym procs) (all_waited (λ proc. length proc.nodes ≡ 4) told (procs_of old) kept.groups))
     (subst (AreAtCalls script) (sym procs) (all_waited (λ proc. proc.status ≡ None → IsAtCall script proc) told (procs_of old) kept.calls))
@@ -128,14 +129,14 @@ waits_leave frames pid which options _ = refl
 
 -- The table has answered a wait: who is told is gone from it.
 module _ (script : Script) (old mid : Objects) (pid : ℕ) (which options : ℤ) (told : Reaped) (moves : TableMoves old.heap old.procs mid.heap mid.procs)
-    (same_tree : mid.tree ≡ old.tree) (same_names : mid.names ≡ old.names) (same_fifos : mid.fifos ≡ old.fifos) (right : argument_fault (call.Waitpid which options) ≡ None) (is : told ≡ reaped_of pid which (procs_of old)) (procs : procs_of mid ≡ after_wait told (procs_of old))
+    (same_tree : mid.tree ≡ old.tree) (same_names : mid.names ≡ old.names) (same_fifos : mid.fifos ≡ old.fifos) (same_locks : mid.locks ≡ old.locks) (right : argument_fault (call.Waitpid which options) ≡ None) (is : told ≡ reaped_of pid which (procs_of old)) (procs : procs_of mid ≡ after_wait told (procs_of old))
     (last : mid.procs.last ≡ old.procs.last) (table : (table : Table) → IsTable old.heap old.procs table → IsTable mid.heap mid.procs (waited_in table told))
     (has : (frames : Frames) → HasAccount old.heap old.procs frames → HasAccount mid.heap mid.procs frames) where
   -- the objects stand for the world without who was told
   waited_stands : (world : World) → StandsFor script old world → is_alive world.plain.table pid ≡ true → StandsFor script mid (waited_world world told)
   waited_stands world stands alive = record {
     valid = stands.valid;
-    kept = kept_waited script old mid pid which told stands.kept moves same_tree same_names same_fifos is procs;
+    kept = kept_waited script old mid pid which told stands.kept moves same_tree same_names same_fifos same_locks is procs;
     processes = record {
       table = table world.plain.table stands.processes.table;
       last = last ∙ stands.processes.last;
@@ -143,6 +144,7 @@ module _ (script : Script) (old mid : Objects) (pid : ℕ) (which options : ℤ)
     };
     memory = has world.account.frames stands.memory;
     files = files;
+    locks = holds_on old mid (stay_moved old mid moves same_locks) world.plain.files.locks stands.locks;
     tree = tree_goes_on script old mid world (waited_world world told) stands refl works
         (record { tree = same_tree; names = same_names; caches = moved_caches old.heap mid.heap old.procs mid.procs moves }) refl refl refl;
     family = family told (waits_as script old world.plain pid which options told stands.processes is);

@@ -1,6 +1,7 @@
 -- Processes that end one after another.
 use Rattle.std.specs.Prelude.{ℕ, ◌≡◌, ◌==◌, ◌<◌, false, if◌then◌else◌, List, [], ◌∷◌, None, count_by}
 use Rattle.kheap_slabs.specs.declared.objects.Proc.{Proc}
+use Rattle.lock_table.specs.Chain.{HoldsLocks}
 use Rattle.open_laws.specs.Placed.{Numbers}
 use Rattle.posix_defs.specs.Files.State.{Files}
 use Rattle.posix_defs.specs.Memory.{Frames, after_clear}
@@ -52,3 +53,9 @@ HoldFilesOf numbers objects files = HoldBeside numbers (workers_at (procs_of obj
 -- they stand for some files
 abbrev pub HoldSomeFiles : Objects → Type 0
 HoldSomeFiles objects = (numbers : Numbers) × (files : Files) × HoldFilesOf numbers objects files
+
+-- ---- what is locked
+
+-- the chain of locks has those of these files
+abbrev pub HaveLocks : Objects → Files → Type 0
+HaveLocks objects files = HoldsLocks objects.heap.locks objects.locks files.locks

@@ -21,7 +21,7 @@ ghost use Rattle.proc_table.specs.Procs.{IsAlive};
 ghost use Rattle.proc_table.specs.Standing.{IsTable, ends_from, ends_in};
 ghost use Rattle.proc_table.specs.Table.{Holds, IsPlaced};
 ghost use Rattle.process_calls.specs.Ending.{WorldWithout};
-ghost use Rattle.process_calls.specs.Endings.{ClearsSome, HoldBeside, HoldFilesOf, HoldSomeFiles, IsLowestBehind, shut};
+ghost use Rattle.process_calls.specs.Endings.{ClearsSome, HaveLocks, HoldBeside, HoldFilesOf, HoldSomeFiles, IsLowestBehind, shut};
 ghost use Rattle.store_objects.specs.Objects.{AreKept, Runs, is_running, procs_of};
 ghost use Rattle.store_objects.specs.Purses.{closing_need, unspent};
 ghost use Rattle.store_objects.specs.Standing.{IsSound, StandsFor};
@@ -73,6 +73,8 @@ fn shut_down(objects: &mut Objects, purse: &mut Purse, place: Place, status: u16
         → HasAccount objects.new.heap objects.new.procs (after_clear frames place.pid) }
     ensures holds { (numbers : Numbers) (others : ℕ → ℕ) (files : Files) → HoldBeside numbers others objects.old files
         → HoldBeside numbers others objects.new (after_end_of files place.pid) }
+    ensures locks { (numbers : Numbers) (others : ℕ → ℕ) (files : Files) → HoldBeside numbers others objects.old files
+        → HaveLocks objects.old files → HaveLocks objects.new (after_end_of files place.pid) }
     ensures queues { QueuesStand objects.old.heap objects.new.heap }
     ensures stays { (numbers : Numbers) (others : ℕ → ℕ) (files : Files) → HoldBeside numbers others objects.old files
         → ends_node files (after_end_of files place.pid) ≡ false → objects.new.tree ≡ objects.old.tree }
@@ -87,6 +89,7 @@ fn shut_down(objects: &mut Objects, purse: &mut Purse, place: Place, status: u16
         &mut objects.tree,
         &mut objects.names,
         &mut objects.fifos,
+        &mut objects.locks,
         place,
     );
     objects.wait_in(place, None);
@@ -110,6 +113,8 @@ fn end_one(objects: &mut Objects, purse: &mut Purse, place: Place, status: u16)
         → HasAccount objects.new.heap objects.new.procs (after_clear frames place.pid) }
     ensures holds { (numbers : Numbers) (files : Files) → HoldFilesOf numbers objects.old files
         → HoldFilesOf numbers objects.new (after_end_of files place.pid) }
+    ensures locks { (numbers : Numbers) (files : Files) → HoldFilesOf numbers objects.old files
+        → HaveLocks objects.old files → HaveLocks objects.new (after_end_of files place.pid) }
     ensures queues { QueuesStand objects.old.heap objects.new.heap }
     ensures stays { (numbers : Numbers) (files : Files) → HoldFilesOf numbers objects.old files
         → ends_node files (after_end_of files place.pid) ≡ false → KeptStays objects.old.tree objects.new.tree }
@@ -136,6 +141,8 @@ fn end_others(objects: &mut Objects, purse: &mut Purse)
         → (after : Frames) × HasAccount objects.new.heap objects.new.procs after × ClearsSome frames after }
     ensures holds { (numbers : Numbers) (files : Files) → HoldFilesOf numbers objects.old files
         → HoldFilesOf numbers objects.new (after_ends_of files (range_with_len 2 (objects.old.procs.last - 1))) }
+    ensures locks { (numbers : Numbers) (files : Files) → HoldFilesOf numbers objects.old files
+        → HaveLocks objects.old files → HaveLocks objects.new (after_ends_of files (range_with_len 2 (objects.old.procs.last - 1))) }
     ensures queues { QueuesStand objects.old.heap objects.new.heap }
     ensures stays { (numbers : Numbers) (files : Files) → HoldFilesOf numbers objects.old files
         → ends_node files (after_ends_of files (range_with_len 2 (objects.old.procs.last - 1))) ≡ false

@@ -65,6 +65,9 @@ kind_made kind.Shutdown numbers texts done = refl
 kind_made kind.Poll numbers texts done = refl
 kind_made kind.Signal numbers texts done = refl
 kind_made kind.Mkfifo numbers texts done = refl
+kind_made kind.Setlk numbers texts done = refl
+kind_made kind.Setlkw numbers texts done = refl
+kind_made kind.Getlk numbers texts done = refl
 
 -- a call whose price is nothing, whatever its operands are, may use nothing
 pub bound_free : (call : Call) → price_of (kind_of call) ≡ Always 0 → bound call ≡ 0

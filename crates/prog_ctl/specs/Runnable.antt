@@ -96,6 +96,13 @@ TakesSocket kind.Accept = ⊤
 TakesSocket kind.Shutdown = ⊤
 TakesSocket _ = ⊥
 
+-- the calls of this kind are on record locks
+abbrev pub TakesLock : CallKind → Type 0
+TakesLock kind.Setlk = ⊤
+TakesLock kind.Setlkw = ⊤
+TakesLock kind.Getlk = ⊤
+TakesLock _ = ⊥
+
 -- The calls of this kind go through descriptors, and are neither `read` nor `write` nor of one that was named: those of processes
 -- and memory, and those that name nodes by their paths alone, have their cases beside them.
 abbrev pub TakesFiles : CallKind → Type 0

@@ -7,20 +7,21 @@ use Rattle.kabi_types.specs.Call.{kind_of}
 use Rattle.posix_defs.specs.Needs.{bound}
 use Rattle.posix_defs.specs.declared.phases.Asked.{Asked}
 use Rattle.prog_ctl.specs.declared.waits.Awaited.{Awaited}
-use Rattle.prog_ctl.specs.declared.waits.Awaited.TheVariants.{Child, Bytes, Room, Peer, Events, OtherSide}
+use Rattle.prog_ctl.specs.declared.waits.Awaited.TheVariants.{Child, Bytes, Room, Peer, Events, OtherSide, Lock}
 
 -- the other side of a FIFO, or nothing
 abbrev pub other_side_if : Bool → Option Awaited
 other_side_if waits = if waits then Some OtherSide else None
 
--- six calls may block: `waitpid` for a child, `read` for bytes, `write` for room, `accept` for a peer, `poll` for events, and `open`
--- for the other side of a FIFO, where its operands are right; None for any other call, which never does
+-- seven calls may block: `waitpid` for a child, `read` for bytes, `write` for room, `accept` for a peer, `poll` for events, `setlkw` for a
+-- lock of a range, and `open` for the other side of a FIFO, where its operands are right; None for any other call, which never does
 abbrev pub wait_of : Call → Option Awaited
 wait_of (call.Waitpid pid options) = Some (Child pid options)
 wait_of (call.Read fd addr n) = Some (Bytes fd addr n)
 wait_of (call.Write fd addr n done) = Some (Room fd addr n done)
 wait_of (call.Accept fd) = Some (Peer fd)
 wait_of (call.Poll timeout entries) = Some (Events timeout entries)
+wait_of (call.Setlkw fd kind start length) = Some (Lock fd kind start length)
 wait_of (call.OpenFile path flags) = if is_none (argument_fault (call.OpenFile path flags)) then Some OtherSide else None
 wait_of _ = None
 

@@ -8,7 +8,7 @@ ghost use Rattle.kabi_types.specs.declared.scripts.Control.{Control as ControlOf
 ghost use Rattle.posix_defs.specs.Control.{call_at, value_of};
 ghost use Rattle.posix_defs.specs.Made as spec;
 ghost use Rattle.posix_defs.specs.ScriptLines.{shape_of};
-ghost use Rattle.prog_ctl.specs.Runnable.{IsMadeOnPath, IsOperand, IsRunnableAt, MovesBytes, TakesDescriptor, TakesFiles, TakesMore, TakesSocket, most_text};
+ghost use Rattle.prog_ctl.specs.Runnable.{IsMadeOnPath, IsOperand, IsRunnableAt, MovesBytes, TakesDescriptor, TakesFiles, TakesLock, TakesMore, TakesSocket, most_text};
 ghost use Rattle.prog_ctl.specs.Waits.{other_side_if, wait_of};
 
 use crate::Awaited;
@@ -277,6 +277,35 @@ fn made_on_socket(control: &Control, kind: CallKind, operands: &[Operand], texts
     }
 }
 
+/// The call of a kind on record locks.
+#[inline(never)]
+fn made_on_lock(control: &Control, kind: CallKind, operands: &[Operand]) -> Call
+    requires { AllByRecursion IsOperand operands.now }
+    ensures { (texts : List (List ℕ)) (done : ℕ) → TakesLock kind → result ≡ spec.made kind (map (value_of control.now) operands.now) texts done }
+{
+    match kind {
+        CallKind::Setlk => return Call::Setlk {
+            fd: operand_at(control, operands, 0),
+            kind: operand_at(control, operands, 1),
+            start: operand_at(control, operands, 2),
+            length: operand_at(control, operands, 3),
+        },
+        CallKind::Setlkw => return Call::Setlkw {
+            fd: operand_at(control, operands, 0),
+            kind: operand_at(control, operands, 1),
+            start: operand_at(control, operands, 2),
+            length: operand_at(control, operands, 3),
+        },
+        CallKind::Getlk => return Call::Getlk {
+            fd: operand_at(control, operands, 0),
+            kind: operand_at(control, operands, 1),
+            start: operand_at(control, operands, 2),
+            length: operand_at(control, operands, 3),
+        },
+        _ => Call::SchedYield,
+    }
+}
+
 /// The call of a kind that goes through descriptors or paths, and is neither `exec`, `read` nor `write` nor on memory: each family
 /// of them has a function.
 #[inline(never)]
@@ -306,6 +335,9 @@ fn made_on_files(control: &Control, kind: CallKind, operands: &[Operand], texts:
         CallKind::Accept => made_on_socket(control, kind, operands, texts),
         CallKind::Shutdown => made_on_socket(control, kind, operands, texts),
         CallKind::Poll => made_with_texts(control, kind, operands, texts),
+        CallKind::Setlk => made_on_lock(control, kind, operands),
+        CallKind::Setlkw => made_on_lock(control, kind, operands),
+        CallKind::Getlk => made_on_lock(control, kind, operands),
         _ => Call::SchedYield,
     }
 }
@@ -473,6 +505,12 @@ fn awaited(
         CallKind::Poll => Some(Awaited::Events {
             timeout: operand_at(control, operands, 0),
             entries: entries_of(numbers_of(control, operands).as_slice()),
+        }),
+        CallKind::Setlkw => Some(Awaited::Lock {
+            fd: operand_at(control, operands, 0),
+            kind: operand_at(control, operands, 1),
+            start: operand_at(control, operands, 2),
+            length: operand_at(control, operands, 3),
         }),
         CallKind::OpenFile => {
             if opens_right(control, operands, texts) {

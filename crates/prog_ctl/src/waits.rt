@@ -33,4 +33,11 @@ pub enum Awaited {
     },
     /// The other side of a FIFO, for `open`. Whether it waits, and for which, is known by who opens it.
     OtherSide,
+    /// No lock of another in the way of a range, for `setlkw`.
+    Lock {
+        fd: i64,
+        kind: i64,
+        start: i64,
+        length: i64,
+    },
 }

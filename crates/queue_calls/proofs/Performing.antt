@@ -1,5 +1,6 @@
 -- A call on what a process has open changes that as the machine's does, and then its caller goes on.
 use Rattle.std.proofs.Common.{◌≡◌, ℕ, [], IsSome, refl, ap, subst}
+use Rattle.answer_laws.specs.KeptLocks.{LeavesLocks}
 use Rattle.kabi_types.specs.declared.calls.Call.{Call}
 use Rattle.kabi_types.specs.declared.replies.Reply.{Reply}
 use Rattle.kabi_types.specs.declared.scripts.Control.{Control}
@@ -59,10 +60,10 @@ module _ (script : Script) (objects : Objects) (heap : Heap) (pid : ℕ) (contro
     (names : (key : ℕ) → name_of heap.socks key ≡ name_of objects.heap.socks key) where
   -- the objects mid
   abbrev pub mid : Objects
-  mid = record { heap = heap; procs = objects.procs; tree = objects.tree; names = objects.names; fifos = objects.fifos }
+  mid = record { heap = heap; procs = objects.procs; tree = objects.tree; names = objects.names; fifos = objects.fifos; locks = objects.locks }
 
   moves : OpenMoves objects mid
-  moves = moves_opened objects mid pid kept.holds refl refl refl refl kept.chain (alive_who_runs objects pid control runs) changes listed owners names
+  moves = moves_opened objects mid pid kept.holds refl refl refl refl refl kept.chain (alive_who_runs objects pid control runs) changes listed owners names
 
   pub kept_then : AreKept script mid
   kept_then = kept_opened script objects mid kept moves
@@ -72,11 +73,12 @@ module _ (script : Script) (objects : Objects) (heap : Heap) (pid : ℕ) (contro
 
   module _ (new : Objects) (which : Call) (said : Reply) (told : Turned) (answer : Plain → Answer) (stand : QueuesStand objects.heap heap)
       (leaves : (plain : Plain) → Stay plain (answer plain))
-      (tells : told ≡ turned.Done said) (goes : GoesOn script mid pid said new) (none : (frames : Frames) → frames_after frames pid which said ≡ frames) where
+      (tells : told ≡ turned.Done said) (goes : GoesOn script mid pid said new) (none : (frames : Frames) → frames_after frames pid which said ≡ frames)
+      (locks : (plain : Plain) → LeavesLocks plain (answer plain)) where
     -- by the numbers that there were
     pub performs : ((numbers : Numbers) (plain : Plain) → HaveOpen numbers objects.heap objects.procs plain.files → Answers numbers heap objects.procs script plain pid (answer plain) said)
         → Performs script objects pid which answer told new
-    performs answers = performs_opened script objects mid new pid which said told answer refl changes moves on tells goes none
+    performs answers = performs_opened script objects mid new pid which said told answer refl changes moves on tells goes none locks
       where
         on : (world : World) → StandsFor script objects world → RepliesOn mid script world.plain world.account pid (answer world.plain) said
         on world stands =
@@ -93,7 +95,7 @@ module _ (script : Script) (objects : Objects) (heap : Heap) (pid : ℕ) (contro
     -- where what is new has numbers
     pub performs_anew : ((numbers : Numbers) (plain : Plain) → HaveOpen numbers objects.heap objects.procs plain.files
         → AnswersAnew numbers objects.heap heap objects.procs script plain pid (answer plain) said) → Performs script objects pid which answer told new
-    performs_anew answers = performs_opened script objects mid new pid which said told answer refl changes moves on tells goes none
+    performs_anew answers = performs_opened script objects mid new pid which said told answer refl changes moves on tells goes none locks
       where
         on : (world : World) → StandsFor script objects world → RepliesOn mid script world.plain world.account pid (answer world.plain) said
         on world stands =

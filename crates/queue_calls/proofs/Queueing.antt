@@ -5,8 +5,10 @@ use Rattle.std.specs.Prelude.{IsSome}
 use Rattle.kabi_types.specs.declared.scripts.Control.{Control}
 use Rattle.kabi_types.specs.declared.scripts.Script.{Script}
 use Rattle.fifo_nodes.proofs.ChainLemmas.{chain_kept}
+use Rattle.kheap_slabs.specs.declared.objects.Lock.{Lock as HeldLock}
 use Rattle.kheap_slabs.specs.declared.objects.Proc.{Proc}
 use Rattle.kheap_slabs.specs.Heap.{Heap}
+use Rattle.lock_table.specs.Chain.{HoldsLocks, IsLockTable}
 use Rattle.pipe_ends.specs.Links.{KeepsLinks}
 use Rattle.posix_defs.specs.Account.{Account}
 use Rattle.posix_defs.specs.ByPid.{at_pid}
@@ -69,6 +71,7 @@ pub record LeavesRest (old new : Heap) : Type 0 where
   pub names : new.names ≡ old.names
   pub blocks : new.blocks ≡ old.blocks
   pub size : new.heap ≡ old.heap
+  pub locks : new.locks ≡ old.locks
   pub links : KeepsLinks old new
 
 pub leaves_rest : (old new : Heap) → new ≡ record old { nodes = new.nodes; pages = new.pages; pipes = new.pipes; chunks = new.chunks; socks = new.socks; high = new.high } → KeepsLinks old new → LeavesRest old new
@@ -78,6 +81,7 @@ leaves_rest old new beside links = record {
   names = ap (λ (h : Heap). h.names) beside;
   blocks = ap (λ (h : Heap). h.blocks) beside;
   size = ap (λ (h : Heap). h.heap) beside;
+  locks = ap (λ (h : Heap). h.locks) beside;
   links = links;
 }
 
@@ -88,12 +92,13 @@ leaves_more old new beside links = record {
   names = ap (λ (h : Heap). h.names) beside;
   blocks = ap (λ (h : Heap). h.blocks) beside;
   size = ap (λ (h : Heap). h.heap) beside;
+  locks = ap (λ (h : Heap). h.locks) beside;
   links = links;
 }
 
 module _ (script : Script) (old : Objects) (new : Heap) (is : IsKept new old.procs) (rest : LeavesRest old.heap new) (names : (key : ℕ) → name_of new.socks key ≡ name_of old.heap.socks key) where
   abbrev pub mid : Objects
-  mid = record { heap = new; procs = old.procs; tree = old.tree; names = old.names; fifos = old.fifos }
+  mid = record { heap = new; procs = old.procs; tree = old.tree; names = old.names; fifos = old.fifos; locks = old.locks }
 
   caches : CachesStay old.heap new
   caches = record { vnodes = rest.vnodes; names = rest.names; blocks = rest.blocks; size = rest.size }
@@ -110,6 +115,7 @@ module _ (script : Script) (old : Objects) (new : Heap) (is : IsKept new old.pro
     bound = bound_on (name_of old.heap.socks) (name_of new.socks) old.names kept.bound names;
     places = kept.places;
     chain = chain_kept old.heap new old.fifos rest.links kept.chain;
+    locked = subst (λ (shelf : List (Option HeldLock)). IsLockTable shelf old.locks) (sym rest.locks) kept.locked;
     caches = caches_on old.heap new old.tree old.tree refl caches kept.caches;
     size = rest.size ∙ kept.size;
   }
@@ -138,6 +144,8 @@ module _ (script : Script) (old : Objects) (new : Heap) (is : IsKept new old.pro
     files = files;
     tree = tree_goes_on script old mid world (record world { plain = next; account = account }) stands remains.nodes.opens remains.works
         (record { tree = refl; names = refl; caches = caches }) remains.nodes.tree refl refl;
+    locks = subst (HoldsLocks new.locks old.locks) (sym remains.locks)
+        (subst (λ (shelf : List (Option HeldLock)). HoldsLocks shelf old.locks world.plain.files.locks) (sym rest.locks) stands.locks);
     family = remains.family stands.family;
     works = works_on world.plain next remains.nodes.tree remains.works stands.works;
   }

@@ -30,12 +30,13 @@ use Rattle.posix_defs.specs.World.{directories_of}
 use Rattle.store_objects.proofs.WorkingOn.{works_remembered}
 use Rattle.store_objects.proofs.Leaving.{LeavesNodes, files_in, same_named, same_opened}
 
--- The machine becomes another: who is whose child, who works where, the tree, which nodes of it are open, and the names of sockets
--- are what they were.
+-- The machine becomes another: who is whose child, who works where, the tree, which nodes of it are open, the names of sockets, and
+-- the locks of files are what they were.
 pub record Remains (plain next : Plain) : Type 0 where
   pub family : IsFamily plain.table → IsFamily next.table
   pub works : directories_of next.table ≡ directories_of plain.table
   pub nodes : LeavesNodes plain.files next.files
+  pub locks : next.files.locks ≡ plain.files.locks
 
 -- so does whatever an answer leads to, whose caller doesn't end; of the parts that a call does this is true
 abbrev pub Leaves : (ℕ → Type 0) → Plain → Answer → Type 0
@@ -144,19 +145,21 @@ module _ (Parts : ℕ → Type 0) (script : Script) (plain : Plain) (pid : ℕ) 
 
   -- what changes the caller's control alone
   tells : (reply : Reply) → Left (replied script plain pid reply)
-  tells reply = record { family = λ is. is; works = refl; nodes = record { tree = refl; opens = refl; names = λ place. refl } }
+  tells reply = record { family = λ is. is; works = refl; nodes = record { tree = refl; opens = refl; names = λ place. refl }; locks = refl }
 
   -- and what changes pipes or sockets
-  tells_with : (files : Files) (reply : Reply) → LeavesNodes plain.files files → Left (replied script (with_files plain files) pid reply)
-  tells_with files reply nodes = record { family = λ is. is; works = refl; nodes = record { tree = nodes.tree; opens = nodes.opens; names = nodes.names } }
+  tells_with : (files : Files) (reply : Reply) → LeavesNodes plain.files files → files.locks ≡ plain.files.locks → Left (replied script (with_files plain files) pid reply)
+  tells_with files reply nodes locks =
+      record { family = λ is. is; works = refl; nodes = record { tree = nodes.tree; opens = nodes.opens; names = nodes.names }; locks = locks }
 
   -- and what puts bytes in memory
-  puts : (files : Files) (addr : ℤ) (bytes : List ℕ) → LeavesNodes plain.files files → Left (put script (with_files plain files) pid addr bytes)
-  puts files addr bytes nodes =
+  puts : (files : Files) (addr : ℤ) (bytes : List ℕ) → LeavesNodes plain.files files → files.locks ≡ plain.files.locks → Left (put script (with_files plain files) pid addr bytes)
+  puts files addr bytes nodes locks =
       let memory : Memory = stored (memory_of plain.table pid) (count_of addr) bytes in record {
         family = λ is. remembers_family plain.table pid memory is;
         works = works_remembered plain.table pid memory;
         nodes = record { tree = nodes.tree; opens = nodes.opens; names = nodes.names };
+        locks = locks;
       }
 
   -- a pipe with other bytes leaves them
@@ -203,14 +206,14 @@ module _ (Parts : ℕ → Type 0) (script : Script) (plain : Plain) (pid : ℕ) 
     from_pipe : (place : ℕ) (addr : ℤ) (moving : Moving) → Left (read_from_pipe script plain pid place addr moving)
     from_pipe place addr (Moves k) =
         let pipe = pipe_at plain.files place in
-        puts (with_pipe plain.files place (Some (after_read pipe k))) addr (take k pipe.bytes) (in_pipe place (after_read pipe k) refl)
+        puts (with_pipe plain.files place (Some (after_read pipe k))) addr (take k pipe.bytes) (in_pipe place (after_read pipe k) refl) refl
     from_pipe place addr Blocks = tt
     from_pipe place addr (Fails errno) = tells (Fail errno)
 
     from_socket : (place : ℕ) (addr : ℤ) (moving : Moving) → Left (read_from_socket script plain pid place addr moving)
     from_socket place addr (Moves k) =
         puts (with_sockets plain.files (socket_after_read plain.files.sockets place k)) addr (take k (socket_at plain.files.sockets place).bytes)
-        (in_sockets (socket_after_read plain.files.sockets place k) (read_named place k))
+        (in_sockets (socket_after_read plain.files.sockets place k) (read_named place k)) refl
     from_socket place addr Blocks = tt
     from_socket place addr (Fails errno) = tells (Fail errno)
 
@@ -238,25 +241,25 @@ module _ (Parts : ℕ → Type 0) (script : Script) (plain : Plain) (pid : ℕ) 
     -- ---- write
 
     -- k of the bytes that are left were put in a queue
-    put_k : (files : Files) (n done k : ℕ) (nonblock : Bool) → LeavesNodes plain.files files
+    put_k : (files : Files) (n done k : ℕ) (nonblock : Bool) → LeavesNodes plain.files files → files.locks ≡ plain.files.locks
         → ((moved : ℕ) → done + moved ≤ n → Parts moved) → k ≤ n - done → (all : Bool) → (k == n - done) ≡ all
         → Left (cond all (replied script (with_files plain files) pid (Val (pos n)))
         (cond nonblock (replied script (with_files plain files) pid (Val (pos (done + k)))) (did_part (with_files plain files) pid k)))
-    put_k files n done k nonblock nodes parts less true is = tells_with files (Val (pos n)) nodes
-    put_k files n done k true nodes parts less false is = tells_with files (Val (pos (done + k))) nodes
-    put_k files n done k false nodes parts less false is = (
+    put_k files n done k nonblock nodes locks parts less true is = tells_with files (Val (pos n)) nodes locks
+    put_k files n done k true nodes locks parts less false is = tells_with files (Val (pos (done + k))) nodes locks
+    put_k files n done k false nodes locks parts less false is = (
       parts k (elim (eqb_tells k (n - done)) [
         | inl same ↦ absurd (let g : true ≡ false = sym same.0 ∙ is in cc)
         | inr other ↦ (let apart = other.1 in omega arith)
       ]),
-      record { family = λ is. is; works = refl; nodes = record { tree = nodes.tree; opens = nodes.opens; names = nodes.names } },
+      record { family = λ is. is; works = refl; nodes = record { tree = nodes.tree; opens = nodes.opens; names = nodes.names }; locks = locks },
     )
 
     to_pipe : (place : ℕ) (n done : ℕ) (nonblock : Bool) (bytes : List ℕ) → ((moved : ℕ) → done + moved ≤ n → Parts moved)
         → (moving : Moving) → pipe_write (pipe_at plain.files place) nonblock n (n - done) ≡ moving
         → Left (write_queue script plain pid nonblock n done (put_in_pipe plain.files place bytes) moving)
     to_pipe place n done nonblock bytes parts (Moves k) is =
-        put_k (put_in_pipe plain.files place bytes k) n done k nonblock (in_pipe place (after_write (pipe_at plain.files place) bytes k) refl) parts (pipe_within (pipe_at plain.files place) nonblock n (n - done) k is) (k == n - done) refl
+        put_k (put_in_pipe plain.files place bytes k) n done k nonblock (in_pipe place (after_write (pipe_at plain.files place) bytes k) refl) refl parts (pipe_within (pipe_at plain.files place) nonblock n (n - done) k is) (k == n - done) refl
     to_pipe place n done nonblock bytes parts Blocks is = tt
     to_pipe place n done nonblock bytes parts (Fails errno) is = choose (done == 0) _ _ (tells (Fail errno)) (tells (Val (pos done)))
 
@@ -265,7 +268,7 @@ module _ (Parts : ℕ → Type 0) (script : Script) (plain : Plain) (pid : ℕ) 
         → Left (write_queue script plain pid nonblock n done (put_in_socket plain.files place bytes) moving)
     to_socket place n done nonblock bytes parts (Moves k) is =
         put_k (put_in_socket plain.files place bytes k) n done k nonblock
-        (in_sockets (socket_after_write plain.files.sockets place bytes k) (sent_named (peer_of (stage_at plain.files.sockets place)) (take k bytes))) parts (socket_within plain.files.sockets place nonblock (n - done) k is) (k == n - done) refl
+        (in_sockets (socket_after_write plain.files.sockets place bytes k) (sent_named (peer_of (stage_at plain.files.sockets place)) (take k bytes))) refl parts (socket_within plain.files.sockets place nonblock (n - done) k is) (k == n - done) refl
     to_socket place n done nonblock bytes parts Blocks is = tt
     to_socket place n done nonblock bytes parts (Fails errno) is = choose (done == 0) _ _ (tells (Fail errno)) (tells (Val (pos done)))
 

@@ -13,8 +13,8 @@ use Rattle.store_objects.proofs.Leading.{led_blocked}
 
 pub performs_asleep : (script : Script) (old : Objects) (heap : Heap) (pid : ℕ) (which : Call) (answer : Plain → Answer) → heap ≡ old.heap
     → ((world : World) → StandsFor script old world → answer world.plain ≡ Blocked)
-    → Performs script old pid which answer turned.Sleep (record { heap = heap; procs = old.procs; tree = old.tree; names = old.names; fifos = old.fifos })
+    → Performs script old pid which answer turned.Sleep (record { heap = heap; procs = old.procs; tree = old.tree; names = old.names; fifos = old.fifos; locks = old.locks })
 performs_asleep script old heap pid which answer same blocks = λ world stands alive.
-    subst (λ a. WorldAfter script (record { heap = heap; procs = old.procs; tree = old.tree; names = old.names; fifos = old.fifos }) world pid which a turned.Sleep) (sym (blocks world stands))
-    (led_blocked script (record { heap = heap; procs = old.procs; tree = old.tree; names = old.names; fifos = old.fifos }) world pid which
-    (subst (λ h. StandsFor script (record { heap = h; procs = old.procs; tree = old.tree; names = old.names; fifos = old.fifos }) world) (sym same) stands))
+    subst (λ a. WorldAfter script (record { heap = heap; procs = old.procs; tree = old.tree; names = old.names; fifos = old.fifos; locks = old.locks }) world pid which a turned.Sleep) (sym (blocks world stands))
+    (led_blocked script (record { heap = heap; procs = old.procs; tree = old.tree; names = old.names; fifos = old.fifos; locks = old.locks }) world pid which
+    (subst (λ h. StandsFor script (record { heap = h; procs = old.procs; tree = old.tree; names = old.names; fifos = old.fifos; locks = old.locks }) world) (sym same) stands))

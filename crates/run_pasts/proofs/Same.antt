@@ -100,6 +100,9 @@ word_back kind.Shutdown = refl
 word_back kind.Poll = refl
 word_back kind.Signal = refl
 word_back kind.Mkfifo = refl
+word_back kind.Setlk = refl
+word_back kind.Setlkw = refl
+word_back kind.Getlk = refl
 
 all_errnos : List Errno
 all_errnos =
@@ -107,7 +110,7 @@ all_errnos =
     ∷ errno.ENOMEM ∷ errno.EACCES ∷ errno.EFAULT ∷ errno.EBUSY ∷ errno.EEXIST ∷ errno.ENOTDIR ∷ errno.EISDIR
     ∷ errno.EINVAL ∷ errno.EMFILE ∷ errno.EFBIG ∷ errno.ENOSPC ∷ errno.ESPIPE ∷ errno.EMLINK ∷ errno.EPIPE
     ∷ errno.ENAMETOOLONG ∷ errno.ENOTEMPTY ∷ errno.EOVERFLOW ∷ errno.ENOTSOCK ∷ errno.EDESTADDRREQ ∷ errno.EOPNOTSUPP
-    ∷ errno.EADDRINUSE ∷ errno.EISCONN ∷ errno.ENOTCONN ∷ errno.ECONNREFUSED ∷ []
+    ∷ errno.EADDRINUSE ∷ errno.EISCONN ∷ errno.ENOTCONN ∷ errno.ECONNREFUSED ∷ errno.EDEADLK ∷ []
 
 errno_of_number : ℕ → Option Errno
 errno_of_number n = first_by (λ other. number_of other == n) all_errnos
@@ -146,6 +149,7 @@ number_back errno.EADDRINUSE = refl
 number_back errno.EISCONN = refl
 number_back errno.ENOTCONN = refl
 number_back errno.ECONNREFUSED = refl
+number_back errno.EDEADLK = refl
 
 node_of_word : List ℕ → Option NodeKind
 node_of_word text = first_by (λ other. bytes_eq (node_text other) text) (node.File ∷ node.Dir ∷ node.Sock ∷ node.Pipe ∷ node.Fifo ∷ [])

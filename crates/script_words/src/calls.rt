@@ -65,7 +65,8 @@ pub fn shape_of(kind: CallKind) -> Shape
         CallKind::OpenFile => Shape::PathValue,
         CallKind::Fcntl | CallKind::Read | CallKind::Write | CallKind::Lseek | CallKind::Readdir =>
             Shape::Values(3),
-        CallKind::Pread | CallKind::Pwrite => Shape::Values(4),
+        CallKind::Pread | CallKind::Pwrite | CallKind::Setlk | CallKind::Setlkw | CallKind::Getlk =>
+            Shape::Values(4),
         CallKind::Link | CallKind::Rename => Shape::TwoPaths,
         CallKind::Bind | CallKind::Connect => Shape::ValuePath,
         CallKind::Poll => Shape::Pairs,

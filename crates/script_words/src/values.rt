@@ -188,7 +188,7 @@ const OPEN_CONSTANTS: &[(&str, u32)] = &[
     ("O_CLOEXEC", 524288),
 ];
 
-/// The constants of `lseek` and `fcntl`.
+/// The constants of `lseek` and `fcntl`, and of the calls on record locks.
 const DESCRIPTOR_CONSTANTS: &[(&str, u32)] = &[
     ("SEEK_SET", 0),
     ("SEEK_CUR", 1),
@@ -199,6 +199,9 @@ const DESCRIPTOR_CONSTANTS: &[(&str, u32)] = &[
     ("F_GETFL", 3),
     ("F_SETFL", 4),
     ("FD_CLOEXEC", 1),
+    ("F_RDLCK", 0),
+    ("F_WRLCK", 1),
+    ("F_UNLCK", 2),
 ];
 
 /// The constants of `waitpid`, `kill`, `signal`, `shutdown` and `poll`.

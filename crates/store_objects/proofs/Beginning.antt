@@ -1,8 +1,10 @@
 -- An open of a FIFO has made its end, and its caller sleeps in it in the world that its answer reaches.
 use Rattle.std.proofs.Common.{◌≡◌, ℕ, true, false, length, Some, refl, ap, sym, ◌∙◌, subst}
+use Rattle.answer_laws.specs.KeptLocks.{LeavesLocks}
 use Rattle.kabi_types.specs.declared.calls.Call.{Call}
 use Rattle.kabi_types.specs.declared.scripts.Script.{Script}
 use Rattle.kheap_slabs.specs.Objects.{count}
+use Rattle.lock_table.specs.Chain.{HoldsLocks}
 use Rattle.memfs_ops.specs.FileTree.{Stands}
 use Rattle.posix_defs.specs.Answer.{Answer}
 use Rattle.posix_defs.specs.Files.State.{HalfOpen}
@@ -15,6 +17,8 @@ use Rattle.posix_defs.specs.World.{World}
 use Rattle.posix_defs.specs.declared.turner.Turned.{Turned}
 use Rattle.posix_defs.specs.declared.turner.Turned.TheVariants as turned
 use Rattle.proc_files.specs.Holders.{holders}
+use Rattle.store_objects.proofs.LockedOn.{holds_on}
+use Rattle.store_objects.specs.OpenMoves.{LocksStay}
 use Rattle.store_objects.specs.declared.objects.Objects.{Objects}
 use Rattle.store_objects.specs.Standing.{IsSound, StandsFor, waiting_in}
 use Rattle.store_objects.specs.Told.{partly_in}
@@ -54,12 +58,13 @@ module _ (script : Script) (old mid new : Objects) (pid : ℕ) (which : Call) (o
   -- The store stands for the worlds that the call's answers reach.
   pub serves_begun : (answer : Plain → Answer) → FileMoves old mid → ((world : World) → StandsFor script mid world → StandsFor script new (asleep world))
       → ((world : World) → StandsFor script old world → IsSound world.plain → is_alive world.plain.table pid ≡ true
-      → HasBegun old mid world pid which (answer world.plain) opening)
+      → HasBegun old mid world pid which (answer world.plain) opening) → LocksStay old mid → ((plain : Plain) → LeavesLocks plain (answer plain))
       → Serves script old pid which answer told new
-  serves_begun answer moves goes on = λ world stands sound alive.
+  serves_begun answer moves goes on stay leaves = λ world stands sound alive.
       let has = on world stands sound alive in
       let base = turned_in mid has.next (account_after world.account world.plain pid which (answer world.plain)) in
-      let between : StandsFor script mid base = stands_turned script old mid world base stands moves has.turned in
+      let between : StandsFor script mid base = stands_turned script old mid world base stands moves has.turned
+      (subst (HoldsLocks mid.heap.locks mid.locks) (sym (same world has)) (holds_on old mid stay world.plain.files.locks stands.locks)) in
       subst (λ a. WorldReached script new world pid which a told) (sym has.begins)
       (record {
         next = asleep base;
@@ -68,3 +73,6 @@ module _ (script : Script) (old mid new : Objects) (pid : ℕ) (which : Call) (o
         account = ap (account_after world.account world.plain pid which) has.begins;
         keeps = keeps world (answer world.plain) stands has;
       })
+    where
+      same : (world : World) → (has : HasBegun old mid world pid which (answer world.plain) opening) → has.next.files.locks ≡ world.plain.files.locks
+      same world has = subst (LeavesLocks world.plain) has.begins (leaves world.plain)

@@ -33,7 +33,7 @@ beside_in h vnodes names blocks high marks last_high = record h { vnodes = vnode
 -- the objects with that heap, and another tree of files
 abbrev pub beside_as : Objects → List (Option Vnode) → List (Option Name) → List (Option Block) → ℕ → ℕ → ℕ → TreeView → Objects
 beside_as objects vnodes names blocks high marks last_high fs =
-    record { heap = beside_in objects.heap vnodes names blocks high marks last_high; procs = objects.procs; tree = fs; names = objects.names; fifos = objects.fifos }
+    record { heap = beside_in objects.heap vnodes names blocks high marks last_high; procs = objects.procs; tree = fs; names = objects.names; fifos = objects.fifos; locks = objects.locks }
 
 -- a world with another tree, in which other things are kept and more was read
 abbrev pub treed_in : World → Tree → Kept → ℕ → World
@@ -67,6 +67,7 @@ module _ (script : Script) (objects : Objects) (vnodes : List (Option Vnode)) (n
     bound = kept.bound;
     places = kept.places;
     chain = chain_kept objects.heap new.heap objects.fifos (λ key. refl) kept.chain;
+    locked = kept.locked;
     caches = keeps;
     size = kept.size;
   }
@@ -93,6 +94,7 @@ module _ (script : Script) (objects : Objects) (vnodes : List (Option Vnode)) (n
     processes = processes_beside world.plain (treed_in world tree kept reads).plain refl refl stands.processes;
     memory = memory_beside world.account.frames stands.memory;
     files = files_beside world.plain.files tree world.account stands.files;
+    locks = stands.locks;
     tree = has;
     family = stands.family;
     works = works;
@@ -108,6 +110,7 @@ module _ (script : Script) (objects : Objects) (vnodes : List (Option Vnode)) (n
     processes = processes_beside world.plain world.plain refl refl stands.processes;
     memory = memory_beside world.account.frames stands.memory;
     files = files_beside world.plain.files world.plain.files.tree world.account stands.files;
+    locks = stands.locks;
     tree = now;
     entered = is;
     same = refl;

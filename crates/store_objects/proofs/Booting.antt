@@ -15,6 +15,7 @@ use Rattle.kabi_types.specs.declared.scripts.Control.{Control}
 use Rattle.kabi_types.specs.declared.scripts.Program.{Program}
 use Rattle.kabi_types.specs.declared.scripts.Script.{Script}
 use Rattle.kheap_slabs.specs.Objects.{count, object, put}
+use Rattle.kheap_slabs.specs.declared.objects.Lock.{Lock as HeldLock}
 use Rattle.kheap_slabs.specs.declared.objects.Node.{Node}
 use Rattle.kheap_slabs.specs.declared.objects.Page.{Page}
 use Rattle.kheap_slabs.specs.declared.objects.Pipe.{Pipe}
@@ -30,6 +31,8 @@ use Rattle.kheap_slabs.proofs.ObjectLemmas.{count-none, count-put_new, object-no
 use Rattle.kheap_slabs.proofs.PurseLemmas.{need_bytes-more}
 use Rattle.kheap_laws.proofs.OwnerLemmas.{IsOwned-same, empty_heap-owned}
 use Rattle.kheap_laws.proofs.TableLemmas.{OwnsItsObjects-along}
+use Rattle.lock_table.specs.Chain.{HoldsLocks}
+use Rattle.lock_table.proofs.Tables.{holds_at_boot}
 use Rattle.posix_defs.specs.Control.{settled}
 use Rattle.posix_defs.specs.History.{boots}
 use Rattle.posix_defs.specs.Memory.{boot_frames}
@@ -129,6 +132,7 @@ pub record IsUnopened (heap : ℕ) (h : Heap) : Type 0 where
   pub socks : h.socks ≡ (empty_heap heap).socks
   pub chunks : h.chunks ≡ (empty_heap heap).chunks
   pub leaves : h.leaves ≡ (empty_heap heap).leaves
+  pub locks : h.locks ≡ (empty_heap heap).locks
 
 -- The root is put in an empty heap.
 module _ (heap : ℕ) (inode : Inode) (empty rooted : Heap) (is_empty : empty ≡ empty_heap heap) (root : KeepsRoot inode empty rooted) where
@@ -173,6 +177,7 @@ module _ (heap : ℕ) (inode : Inode) (empty rooted : Heap) (is_empty : empty �
     socks = same (λ h. h.socks) (λ h vnodes high. refl);
     chunks = same (λ h. h.chunks) (λ h vnodes high. refl);
     leaves = same (λ h. h.leaves) (λ h vnodes high. refl);
+    locks = same (λ h. h.locks) (λ h vnodes high. refl);
   }
 
   pub rooted_owners : HasItsOwners rooted []
@@ -225,7 +230,7 @@ module _ (heap : ℕ) (inode : Inode) (empty rooted : Heap) (is_empty : empty �
 module _ (heap disk : ℕ) (control : Control) (rooted : Heap) (fs : TreeView) (mid new : Objects)
     (no_pages : (k : ℕ) → object rooted.pages k ≡ None) (no_procs : AreKeysOf rooted.procs []) (owned : IsOwned rooted no_owners)
     (bare : IsUnopened heap rooted) (owners : HasItsOwners rooted []) (stands : TreeStands rooted fs (new_tree disk) root_alone) (kept : kept_by fs ≡ kept_at_boot)
-    (unread : fs.disk.reads ≡ 0) (tree : mid.tree ≡ fs) (unbound : mid.names ≡ replicate (most_nodes + 1) None) (no_fifos : mid.fifos ≡ None) (bytes : rooted.heap ≡ heap)
+    (unread : fs.disk.reads ≡ 0) (tree : mid.tree ≡ fs) (unbound : mid.names ≡ replicate (most_nodes + 1) None) (no_fifos : mid.fifos ≡ None) (no_locks : mid.locks ≡ None) (bytes : rooted.heap ≡ heap)
     (procs : procs_of mid ≡ first_proc ∷ []) (last : mid.procs.last ≡ 1)
     (moves : (others : Owners) → IsOwned rooted others → TableMoves rooted no_table mid.heap mid.procs)
     (table : IsTable mid.heap mid.procs (Some first_process ∷ []))
@@ -309,6 +314,7 @@ module _ (heap disk : ℕ) (control : Control) (rooted : Heap) (fs : TreeView) (
     socks = as_was (λ h. h.socks) (λ h procs nodes pages high. refl) ∙ bare.socks;
     chunks = as_was (λ h. h.chunks) (λ h procs nodes pages high. refl) ∙ bare.chunks;
     leaves = as_was (λ h. h.leaves) (λ h procs nodes pages high. refl) ∙ bare.leaves;
+    locks = as_was (λ h. h.locks) (λ h procs nodes pages high. refl) ∙ bare.locks;
   }
 
   same_tree : new.tree ≡ fs
@@ -337,6 +343,8 @@ module _ (heap disk : ℕ) (control : Control) (rooted : Heap) (fs : TreeView) (
     size = as_was (λ h. h.heap) (λ h procs nodes pages high. refl) ∙ bytes;
     names = turned.names ∙ unbound;
     fifos = turned.fifos ∙ no_fifos;
+    locks = subst (λ (first : Option ℕ). HoldsLocks new.heap.locks first []) (sym (turned.locks ∙ no_locks))
+        (subst (λ (shelf : List (Option HeldLock)). HoldsLocks shelf None []) (sym (as_was (λ h. h.locks) (λ h procs nodes pages high. refl) ∙ bare.locks)) (holds_at_boot (heap / size class.Lock)));
     first = first;
     last = ap (λ t. t.last) turned.same ∙ last;
     table = subst (λ k. IsTable new.heap k (Some first_process ∷ [])) (sym turned.same)
@@ -439,6 +447,7 @@ boot_kept script objects control booted stands rests = record {
   bound = boot_bound script objects control booted;
   places = subst (λ (list : List (Option ℕ)). most_nodes < length list) (sym booted.names) (one_behind most_nodes);
   chain = boot_chain script objects control booted;
+  locked = ([], booted.locks);
   caches = (new_tree script.disk, root_alone, booted.stands);
   size = booted.size;
 }
@@ -533,6 +542,7 @@ boot_stands_for script copy objects place control valid same named settles stand
       };
       memory = booted.account;
       files = boot_opens script objects control (subst (λ s. HasBooted objects s.heap s.disk control) same booted);
+      locks = booted.locks;
       tree = boot_has_tree script objects (subst (λ s. TreeStands objects.heap objects.tree (new_tree s.disk) root_alone) same booted.stands) booted.kept booted.unread;
       family = (reached_kept {script = script} boots).family;
       works = (refl, tt);

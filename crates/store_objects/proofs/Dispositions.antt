@@ -21,6 +21,7 @@ use Rattle.proc_table.proofs.FamilyLemmas.{proc_has_pid, process_is}
 use Rattle.proc_table.proofs.LawLemmas.{on-disposed}
 use Rattle.proc_table.proofs.OwnLemmas.{has_it}
 use Rattle.proc_table.proofs.PlaceLemmas.{eqb_is, eqb_same}
+use Rattle.store_objects.proofs.LockedOn.{holds_on, stay_moved}
 use Rattle.store_objects.specs.declared.objects.Objects.{Objects}
 use Rattle.store_objects.specs.Objects.{AreKept, IsAtCall, OneChanges, Runs, procs_of}
 use Rattle.store_objects.specs.Standing.{AreProcesses, StandsFor, disposed_in}
@@ -61,8 +62,8 @@ disposing signal ignored proc = with_ignored proc (with_disposition (ignored_by 
 
 -- what the table did is that one process has become another
 pub one_disposed : (old new : Objects) (place : Place) (signal : ℕ) (ignored before : Bool) → Disposes old.heap new.heap old.procs place signal ignored before
-    → new.procs ≡ old.procs → new.tree ≡ old.tree → new.names ≡ old.names → new.fifos ≡ old.fifos → TakesNothing old.heap new.heap → OneChanges old place.pid (disposing signal ignored) new
-one_disposed old new place signal ignored before disposes same tree names fifos takes = record {
+    → new.procs ≡ old.procs → new.tree ≡ old.tree → new.names ≡ old.names → new.fifos ≡ old.fifos → new.locks ≡ old.locks → TakesNothing old.heap new.heap → OneChanges old place.pid (disposing signal ignored) new
+one_disposed old new place signal ignored before disposes same tree names fifos locks takes = record {
   proc = disposes.proc;
   key = place.key;
   found = disposes.found;
@@ -71,6 +72,7 @@ one_disposed old new place signal ignored before disposes same tree names fifos 
   tree = tree;
   names = names;
   fifos = fifos;
+  locks = locks;
   takes = takes;
 }
 
@@ -128,6 +130,7 @@ module _ (script : Script) (old new : Objects) (pid signal : ℕ) (ignored : Boo
     memory = account_changed script old new pid (disposing signal ignored) kept changes world.account.frames stands.memory;
     files = files_moved old new world.plain.files world.plain.files world.account world.account (moves_changed script old new pid (disposing signal ignored) kept changes)
         refl refl refl refl refl (λ number have. descriptors_changed script old new pid (disposing signal ignored) kept changes refl world.plain.files number have) stands.files;
+    locks = holds_on old new (stay_moved old new (moves_changed script old new pid (disposing signal ignored) kept changes) changes.locks) world.plain.files.locks stands.locks;
     tree = tree_goes_on script old new world next stands refl works stays refl refl refl;
     family = changed_family (ignoring those) (ignoring_kin those) world.plain.table pid stands.family;
     works = works_on world.plain next.plain refl works stands.works;

@@ -3,6 +3,7 @@ use Rattle.std.proofs.Common.{ℕ, ◌<◌, ap, sym, ◌∙◌, subst}
 use Rattle.std.specs.Option.{option_map}
 use Rattle.kabi_types.specs.declared.scripts.Control.{Control}
 use Rattle.kabi_types.specs.declared.scripts.Script.{Script}
+use Rattle.lock_table.specs.Chain.{HoldsLocks}
 use Rattle.posix_defs.specs.World.{World}
 use Rattle.proc_files.specs.Holders.{holders}
 use Rattle.proc_table.specs.Procs.{IsAlive}
@@ -29,6 +30,7 @@ kept_turned script old new kept moves = record {
   bound = moves.bound;
   places = subst (λ n. most_nodes < n) (sym moves.places) kept.places;
   chain = moves.chain;
+  locked = moves.locked;
   caches = moves.keeps;
   size = moves.size ∙ kept.size;
 }
@@ -44,13 +46,14 @@ alive_turned old new pid moves alive =
 
 -- The objects stand for a world of which they have what has changed.
 pub stands_turned : (script : Script) (old new : Objects) (world next : World) → StandsFor script old world → FileMoves old new → HasTurned new world next
-    → StandsFor script new next
-stands_turned script old new world next stands moves turned = record {
+    → HoldsLocks new.heap.locks new.locks next.plain.files.locks → StandsFor script new next
+stands_turned script old new world next stands moves turned locks = record {
   valid = stands.valid;
   kept = kept_turned script old new stands.kept moves;
   processes = processes_stay script old new world.plain next.plain moves.procs stands.processes turned.table turned.controls;
   memory = turned.memory;
   files = turned.files;
+  locks = locks;
   tree = record {
     stands = same_pins new.heap new.tree next.plain.files.tree (holders (others_in next.plain) next.plain.files) (pins_in next.plain) (λ number. sym (pins_split next.plain number)) turned.tree;
     kept = turned.kept;

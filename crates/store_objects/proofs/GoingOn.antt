@@ -31,6 +31,7 @@ use Rattle.proc_table.proofs.AccountLemmas.{pids_within}
 use Rattle.proc_table.proofs.FamilyLemmas.{proc_has_pid}
 use Rattle.proc_table.proofs.LawLemmas.{on-account, on-moves, on-procs, on-table, only_one}
 use Rattle.proc_table.proofs.OwnLemmas.{AreRising, has_it, rising_procs}
+use Rattle.store_objects.proofs.LockedOn.{holds_on, stay_moved}
 use Rattle.store_objects.specs.declared.objects.Objects.{Objects}
 use Rattle.store_objects.specs.Objects.{AreAtCalls, AreKept, IsAtCall, MovesOn, OneChanges, Runs, procs_of}
 use Rattle.store_objects.specs.Standing.{AreProcesses, StandsFor, answered_in}
@@ -125,7 +126,7 @@ module _ (script : Script) (old new : Objects) (pid : ℕ) (change : Proc → Pr
   -- what is kept then, where it stands at its call if it runs
   pub kept_changed : (became.status ≡ None → IsAtCall script became) → AreKept script new
   kept_changed at =
-      kept_on script old new kept changes.tree changes.names changes.fifos moves_changed
+      kept_on script old new kept changes.tree changes.names changes.fifos changes.locks moves_changed
       (subst (λ (view : TableView). HoldLeaves new.heap.leaves (processes new.heap view)) (sym changes.same)
       (hold_turned old.heap new.heap old.procs pid changes.key changes.proc became kept.holds changes.turns kept.leaves))
       (subst (AllByRecursion (λ proc. length proc.nodes ≡ 4)) (sym procs_changed)
@@ -201,6 +202,7 @@ goes_to script old new world pid then control stands moves at rests leads = reco
   memory = account_changed script old new pid (at_control control) stands.kept moves world.account.frames stands.memory;
   files = files_moved old new world.plain.files world.plain.files world.account world.account (moves_then script old new pid control stands.kept moves)
       refl refl refl refl refl (descriptors_moved script old new pid control world.plain.files stands.kept moves at rests) stands.files;
+  locks = holds_on old new (stay_moved old new (moves_then script old new pid control stands.kept moves) moves.locks) world.plain.files.locks stands.locks;
   tree = tree_on old new world (record world { plain = with_control world.plain pid then })
       (record { tree = moves.tree; names = moves.names; caches = moved_caches old.heap new.heap old.procs new.procs (moves_then script old new pid control stands.kept moves) })
       refl refl refl refl stands.tree;

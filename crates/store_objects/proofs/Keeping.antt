@@ -8,6 +8,7 @@ use Rattle.kheap_slabs.specs.Leaves.{HoldLeaves}
 use Rattle.kheap_slabs.specs.declared.objects.Leaf.{Leaf}
 use Rattle.kheap_laws.proofs.TableLemmas.{OwnsItsObjects-along}
 use Rattle.kheap_slabs.specs.Objects.{InUse, object}
+use Rattle.kheap_slabs.specs.declared.objects.Lock.{Lock as HeldLock}
 use Rattle.kheap_slabs.specs.declared.objects.Proc.{Proc}
 use Rattle.kheap_slabs.specs.declared.objects.Sock.{Sock}
 use Rattle.kheap_slabs.specs.Heap.{Heap}
@@ -15,6 +16,7 @@ use Rattle.kheap_slabs.specs.Keys.{AreKeysOf, IsOnce}
 use Rattle.kheap_slabs.specs.Owners.{OwnsItsObjects, pipe_queues, sock_queues}
 use Rattle.kheap_laws.proofs.KeyLemmas.{AreKeysOf-changes}
 use Rattle.kheap_laws.proofs.OnceLemmas.{IsOnce-cons}
+use Rattle.lock_table.specs.Chain.{IsLockTable}
 use Rattle.open_laws.specs.Owned.{CountsItsNames, HasItsOwners, IsHeldOpen, desc_count_at, leaf_namings_of}
 use Rattle.open_laws.proofs.GoingLemmas.{held_open_on}
 use Rattle.pipe_ends.proofs.LinkLemmas.{links_same}
@@ -120,33 +122,35 @@ moved_caches old new was now moves = record {
   size = ap (λ (h : Heap). h.heap) moves.kept;
 }
 
--- What is kept of a heap, a table, a tree of files, a table of names and the chain of FIFOs' pipes, but for what is open. Some Leaves may
--- have come that no process has yet.
-pub record KeepsHeap (script : Script) (h : Heap) (kept : TableView) (fs : TreeView) (names : List (Option ℕ)) (first : Option ℕ) : Type 0 where
+-- What is kept of a heap, a table, a tree of files, a table of names, the chain of FIFOs' pipes and that of locks, but for what is
+-- open. Some Leaves may have come that no process has yet.
+pub record KeepsHeap (script : Script) (h : Heap) (kept : TableView) (fs : TreeView) (names : List (Option ℕ)) (first held : Option ℕ) : Type 0 where
   pub without : List (Option Leaf)
   pub listed : AreListed (record h { leaves = without }) kept
   pub bound : AreBound (name_of h.socks) names
   pub places : most_nodes < length names
   pub chain : IsChain h first
+  pub locked : IsLockTable h.locks held
   pub caches : KeepsTree h fs
   pub size : h.heap ≡ script.heap
 
-pub keeps_heap : (script : Script) (objects : Objects) → AreKept script objects → KeepsHeap script objects.heap objects.procs objects.tree objects.names objects.fifos
+pub keeps_heap : (script : Script) (objects : Objects) → AreKept script objects → KeepsHeap script objects.heap objects.procs objects.tree objects.names objects.fifos objects.locks
 keeps_heap script objects kept = record {
   without = objects.heap.leaves;
   listed = record { stored = kept.holds.stored; rising = kept.holds.rising; all = kept.all; leaves = kept.leaves };
   bound = kept.bound;
   places = kept.places;
   chain = kept.chain;
+  locked = kept.locked;
   caches = kept.caches;
   size = kept.size;
 }
 
 -- The objects are kept where a table moves on, each process has four groups and stands at its call, and all has its owner.
-pub kept_with : (script : Script) (old : Heap) (was : TableView) (fs : TreeView) (names : List (Option ℕ)) (first : Option ℕ) (new : Objects) → KeepsHeap script old was fs names first → new.tree ≡ fs → new.names ≡ names → new.fifos ≡ first
+pub kept_with : (script : Script) (old : Heap) (was : TableView) (fs : TreeView) (names : List (Option ℕ)) (first held : Option ℕ) (new : Objects) → KeepsHeap script old was fs names first held → new.tree ≡ fs → new.names ≡ names → new.fifos ≡ first → new.locks ≡ held
     → TableMoves old was new.heap new.procs → HoldLeaves new.heap.leaves (procs_of new) → HasItsOwners new.heap []
     → AllByRecursion (λ proc. length proc.nodes ≡ 4) (procs_of new) → AreAtCalls script (procs_of new) → AreKept script new
-kept_with script old was fs table first new keeps tree same fifos moves leaves owners groups calls = record {
+kept_with script old was fs table first held new keeps tree same fifos locks moves leaves owners groups calls = record {
   holds = moves.holds;
   all = all_on old new.heap was new.procs keeps.listed.all moves;
   leaves = leaves;
@@ -157,15 +161,16 @@ kept_with script old was fs table first new keeps tree same fifos moves leaves o
       (subst (λ (socks : List (Option Sock)). AreBound (name_of socks) table) (sym (ap (λ (h : Heap). h.socks) moves.kept)) keeps.bound);
   places = subst (λ (list : List (Option ℕ)). most_nodes < length list) (sym same) keeps.places;
   chain = subst (IsChain new.heap) (sym fifos) (chain_kept old new.heap first (links_same old new.heap (ap (λ (h : Heap). h.pipes) moves.kept)) keeps.chain);
+  locked = subst (IsLockTable new.heap.locks) (sym locks) (subst (λ (shelf : List (Option HeldLock)). IsLockTable shelf held) (sym (ap (λ (h : Heap). h.locks) moves.kept)) keeps.locked);
   caches = caches_on old new.heap fs new.tree tree (moved_caches old new.heap was new.procs moves) keeps.caches;
   size = ap (λ (h : Heap). h.heap) moves.kept ∙ keeps.size;
 }
 
-pub kept_on : (script : Script) (old new : Objects) → AreKept script old → new.tree ≡ old.tree → new.names ≡ old.names → new.fifos ≡ old.fifos → TableMoves old.heap old.procs new.heap new.procs
+pub kept_on : (script : Script) (old new : Objects) → AreKept script old → new.tree ≡ old.tree → new.names ≡ old.names → new.fifos ≡ old.fifos → new.locks ≡ old.locks → TableMoves old.heap old.procs new.heap new.procs
     → HoldLeaves new.heap.leaves (procs_of new) → AllByRecursion (λ proc. length proc.nodes ≡ 4) (procs_of new) → AreAtCalls script (procs_of new)
     → ((key : ℕ) → names_in key (procs_of new) ≡ names_in key (procs_of old)) → AreKept script new
 unfolding keeps_heap
-kept_on script old new kept tree same fifos moves leaves groups calls names =
+kept_on script old new kept tree same fifos locks moves leaves groups calls names =
     let keeps = keeps_heap script old kept in
-    kept_with script old.heap old.procs old.tree old.names old.fifos new keeps tree same fifos moves leaves
+    kept_with script old.heap old.procs old.tree old.names old.fifos old.locks new keeps tree same fifos locks moves leaves
     (owners_on old.heap new.heap old.procs new.procs keeps.listed leaves moves kept.owners names) groups calls

@@ -17,9 +17,11 @@ pub mod FewPins
 pub mod HoldsFiles
 pub mod PageNamings
 pub mod Families
+pub mod LockedOn
 pub mod Keeping
 pub mod GoingOn
 pub mod RunningProcs
+pub mod NextCalls
 pub mod Beside
 pub mod Marking
 pub mod WhatGoes

@@ -10,6 +10,7 @@ use Rattle.kabi_types.specs.Counts.{need_bytes}
 use Rattle.kabi_types.specs.declared.classes.Need.{Need}
 use Rattle.kabi_types.specs.declared.scripts.Script.{Script}
 use Rattle.kheap_slabs.specs.Objects.{count, object}
+use Rattle.lock_table.proofs.Tables.{each_counts}
 use Rattle.kheap_slabs.specs.declared.objects.Chunk.{Chunk}
 use Rattle.kheap_slabs.specs.declared.objects.Desc.{Desc}
 use Rattle.kheap_slabs.specs.declared.objects.Pipe.{Pipe as HeldPipe}
@@ -247,13 +248,14 @@ live_is script objects world stands whole =
     let pipes : count objects.heap.pipes ≡ count_by is_some files.pipes = pipes_are stands.files.numbers objects.heap files opened.piped in
     let chunks = chunks_are stands.files.numbers objects.heap stands.files.opened.list files world.account kept.owners.objects opened stands.files.fronts in
     let socks : count objects.heap.socks ≡ count_by is_some files.sockets = socks_are stands.files.numbers objects.heap files opened.socketed in
+    let locks : count objects.heap.locks ≡ length files.locks = each_counts objects.heap.locks objects.locks files.locks stands.locks in
     let leaves : count objects.heap.leaves ≡ leaves_open files = leaves_are stands.files.numbers objects.heap objects.procs files whole (listed_in script objects kept) stands.files.opened.descriptors in
     sum_is (counts_of objects.heap)
-    (how_many world.plain.table) (nodes_named world.account.frames) (frames_named world.account.frames) (count_by is_some files.descriptions) (count_by is_some files.pipes) (count_by is_some files.sockets) (leaves_open files)
+    (how_many world.plain.table) (nodes_named world.account.frames) (frames_named world.account.frames) (count_by is_some files.descriptions) (count_by is_some files.pipes) (count_by is_some files.sockets) (leaves_open files) (length files.locks)
     (chunks_taken (pipe_lengths files) world.account.pipes) (chunks_taken (socket_lengths files) world.account.sockets) (length world.kept.vnodes) (length world.kept.names) (length world.kept.blocks)
-    procs nodes pages descs vnodes names blocks pipes chunks socks leaves
+    procs nodes pages descs vnodes names blocks pipes chunks socks leaves locks
   where
-    sum_is : (n : Need) (procs nodes pages descs pipes socks leaves in_pipes in_socks vnodes names blocks : ℕ) → n.proc ≡ procs → n.node ≡ nodes → n.page ≡ pages → n.desc ≡ descs → n.vnode ≡ vnodes → n.name ≡ names
-        → n.block ≡ blocks → n.pipe ≡ pipes → n.chunk ≡ in_pipes + in_socks → n.sock ≡ socks → n.leaf ≡ leaves
-        → need_bytes n ≡ procs * 512 + nodes * 512 + pages * 4096 + (leaves * 256 + descs * 64 + pipes * 128 + socks * 128 + (in_pipes + in_socks) * 576) + (names * 64 + blocks * 1088 + vnodes * 128)
-    sum_is n procs nodes pages descs pipes socks leaves in_pipes in_socks vnodes names blocks e1 e2 e3 e4 e5 e6 e7 e8 e9 e10 e11 = omega arith
+    sum_is : (n : Need) (procs nodes pages descs pipes socks leaves locks in_pipes in_socks vnodes names blocks : ℕ) → n.proc ≡ procs → n.node ≡ nodes → n.page ≡ pages → n.desc ≡ descs → n.vnode ≡ vnodes → n.name ≡ names
+        → n.block ≡ blocks → n.pipe ≡ pipes → n.chunk ≡ in_pipes + in_socks → n.sock ≡ socks → n.leaf ≡ leaves → n.lock ≡ locks
+        → need_bytes n ≡ procs * 512 + nodes * 512 + pages * 4096 + (leaves * 256 + locks * 64 + descs * 64 + pipes * 128 + socks * 128 + (in_pipes + in_socks) * 576) + (names * 64 + blocks * 1088 + vnodes * 128)
+    sum_is n procs nodes pages descs pipes socks leaves locks in_pipes in_socks vnodes names blocks e1 e2 e3 e4 e5 e6 e7 e8 e9 e10 e11 e12 = omega arith

@@ -11,7 +11,7 @@ use Rattle.store_objects.proofs.TreesOn.{caches_on, tree_on}
 
 -- the objects with another mark of their heap
 abbrev pub marked_as : Objects → ℕ → ℕ → ℕ → Objects
-marked_as objects high marks last_high = record { heap = record objects.heap { high = high; marks = marks; last_high = last_high }; procs = objects.procs; tree = objects.tree; names = objects.names; fifos = objects.fifos }
+marked_as objects high marks last_high = record { heap = record objects.heap { high = high; marks = marks; last_high = last_high }; procs = objects.procs; tree = objects.tree; names = objects.names; fifos = objects.fifos; locks = objects.locks }
 
 -- a mark leaves what caches have in the heap
 marked_caches : (objects : Objects) (high marks last_high : ℕ) → CachesStay objects.heap (marked_as objects high marks last_high).heap

@@ -25,6 +25,7 @@ use Rattle.proc_table.proofs.LawLemmas.{on-procs, only_one}
 use Rattle.proc_table.proofs.MemoryLemmas.{process_of-same}
 use Rattle.proc_table.proofs.OwnLemmas.{has_it}
 use Rattle.proc_table.proofs.PlaceLemmas.{eqb_is, eqb_other, eqb_same}
+use Rattle.store_objects.proofs.LockedOn.{holds_on, stay_moved}
 use Rattle.store_objects.specs.declared.objects.Objects.{Objects}
 use Rattle.store_objects.specs.Files.{HaveFiles}
 use Rattle.store_objects.specs.Objects.{AreKept, IsAtCall, Runs, WorksElsewhere, procs_of}
@@ -36,7 +37,7 @@ use Rattle.store_objects.proofs.GoingOn.{account_changed, descriptors_changed, k
 use Rattle.store_objects.proofs.HeldNodes.{in_counts, one_if}
 use Rattle.store_objects.proofs.Keeping.{moved_caches}
 use Rattle.store_objects.proofs.Opening.{files_moved}
-use Rattle.store_objects.proofs.Pinning.{kept_then, kept_where, pinned_account, pinned_files, pinned_kept, pinned_procs, pinned_stays, pinned_table, stands_where}
+use Rattle.store_objects.proofs.Pinning.{kept_then, kept_where, pinned_account, pinned_files, pinned_kept, pinned_locks, pinned_procs, pinned_stays, pinned_table, stands_where}
 use Rattle.store_objects.proofs.TreesOn.{held_by_procs, same_pins, works_in, works_worked}
 use Rattle.store_objects.proofs.WorkPlaces.{away, count, entered_more, holds_it, left_less, others_by, others_hold}
 
@@ -341,6 +342,9 @@ module _ (script : Script) (old mid : Objects) (world : World) (directory : ℕ)
           memory = pinned_account moved new lets world.account.frames
               (account_changed script mid moved pid at_directory kept_mid moves world.account.frames (pinned_account old mid once world.account.frames has.memory));
           files = files_new;
+          locks = holds_on moved new (pinned_locks moved new lets) world.plain.files.locks
+              (holds_on mid moved (stay_moved mid moved (moves_changed script mid moved pid at_directory kept_mid moves) moves.locks) world.plain.files.locks
+              (holds_on old mid (pinned_locks old mid once) world.plain.files.locks has.locks));
           tree = record {
             stands = same_pins new.heap new.tree tree (left_pins entering left) (pins_in next) pins_new stands_new;
             kept = has.same ∙ sym kept_same.kept;

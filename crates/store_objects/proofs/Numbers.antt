@@ -191,10 +191,10 @@ module _ (old new : Heap) (kept : TableView) (pid : ℕ) (holds : Holds old kept
       }
 
 -- Where a call changes what a process has open that runs, only what is open has changed of the store.
-pub moves_opened : (old new : Objects) (pid : ℕ) → Holds old.heap old.procs → new.procs ≡ old.procs → new.tree ≡ old.tree → new.names ≡ old.names → new.fifos ≡ old.fifos → IsChain old.heap old.fifos → IsAlive (procs_of old) pid
+pub moves_opened : (old new : Objects) (pid : ℕ) → Holds old.heap old.procs → new.procs ≡ old.procs → new.tree ≡ old.tree → new.names ≡ old.names → new.fifos ≡ old.fifos → new.locks ≡ old.locks → IsChain old.heap old.fifos → IsAlive (procs_of old) pid
     → ChangesNumbers old.heap new.heap old.procs pid → AreListed new.heap old.procs → HasItsOwners new.heap [] → ((key : ℕ) → name_of new.heap.socks key ≡ name_of old.heap.socks key) → OpenMoves old new
-moves_opened old new pid holds same tree table fifos chain alive changes listed owners names =
-    subst (λ (procs : TableView). OpenMoves old (record { heap = new.heap; procs = procs; tree = new.tree; names = new.names; fifos = new.fifos })) (sym same) (record {
+moves_opened old new pid holds same tree table fifos locks chain alive changes listed owners names =
+    subst (λ (procs : TableView). OpenMoves old (record { heap = new.heap; procs = procs; tree = new.tree; names = new.names; fifos = new.fifos; locks = new.locks })) (sym same) (record {
       procs = record { same = refl; each = each old.heap new.heap old.procs pid holds changes };
       holds = holds_opened old.heap new.heap old.procs pid holds changes alive listed owners.objects;
       all = listed.all;
@@ -202,6 +202,7 @@ moves_opened old new pid holds same tree table fifos chain alive changes listed 
       owners = owners;
       names = names;
       chain = subst (IsChain new.heap) (sym fifos) (chain_kept old.heap new.heap old.fifos changes.links chain);
+      locks = record { shelf = ap (λ (h : Heap). h.locks) changes.beside; first = locks };
       tree = record {
         tree = tree;
         names = table;

@@ -6,6 +6,7 @@ use Rattle.std.specs.Prelude.{unwrap_or}
 use Rattle.kabi_types.specs.declared.scripts.Control.{Control}
 use Rattle.kabi_types.specs.declared.scripts.Script.{Script}
 use Rattle.kheap_slabs.specs.declared.objects.Proc.{Proc}
+use Rattle.lock_table.specs.Chain.{HoldsLocks}
 use Rattle.posix_defs.specs.ByPid.{at_pid}
 use Rattle.posix_defs.specs.Control.{settled}
 use Rattle.posix_defs.specs.Plain.{Plain, at_start}
@@ -16,6 +17,7 @@ use Rattle.proc_table.specs.Procs.{IsAlive, proc_of}
 use Rattle.proc_table.specs.Standing.{IsTable}
 use Rattle.proc_table.specs.Table.{Holds}
 use Rattle.proc_table.proofs.OwnLemmas.{has_it, rising_procs}
+use Rattle.store_objects.proofs.LockedOn.{holds_on, locked_on}
 use Rattle.store_objects.specs.declared.objects.Objects.{Objects}
 use Rattle.store_objects.specs.Objects.{AreAtCalls, AreKept, IsAtCall, Runs, most_nodes, procs_of}
 use Rattle.store_objects.specs.Standing.{AreProcesses, StandsFor}
@@ -92,6 +94,7 @@ kept_opened script old new kept moves = record {
   bound = subst (AreBound (name_of new.heap.socks)) (sym moves.tree.names) (bound_on (name_of old.heap.socks) (name_of new.heap.socks) old.names kept.bound moves.names);
   places = subst (λ (names : List (Option ℕ)). most_nodes < length names) (sym moves.tree.names) kept.places;
   chain = moves.chain;
+  locked = locked_on old new moves.locks kept.locked;
   caches = tree_kept old new moves.tree kept.caches;
   size = moves.tree.caches.size ∙ kept.size;
 }
@@ -107,13 +110,14 @@ alive_opened old new pid moves alive =
 
 -- The objects stand for a world of which they have what has changed.
 pub stands_opened : (script : Script) (old new : Objects) (world next : World) → StandsFor script old world → OpenMoves old new → HasReached new world next
-    → StandsFor script new next
-stands_opened script old new world next stands moves reached = record {
+    → next.plain.files.locks ≡ world.plain.files.locks → StandsFor script new next
+stands_opened script old new world next stands moves reached same = record {
   valid = stands.valid;
   kept = kept_opened script old new stands.kept moves;
   processes = processes_stay script old new world.plain next.plain moves.procs stands.processes reached.table reached.controls;
   memory = reached.memory;
   files = reached.files;
+  locks = subst (HoldsLocks new.heap.locks new.locks) (sym same) (holds_on old new moves.locks world.plain.files.locks stands.locks);
   tree = tree_goes_on script old new world next stands reached.opens reached.works moves.tree reached.tree reached.kept reached.reads;
   family = reached.family;
   works = works_on world.plain next.plain reached.tree reached.works stands.works;

@@ -20,6 +20,7 @@ use Rattle.proc_table.specs.Accounting.{HasAccount}
 use Rattle.proc_table.specs.Standing.{IsTable}
 use Rattle.proc_table.specs.Table.{TableView, processes}
 use Rattle.proc_table.proofs.LawLemmas.{elsewhere_account, elsewhere_table}
+use Rattle.store_objects.specs.OpenMoves.{LocksStay}
 use Rattle.store_objects.specs.declared.objects.Objects.{Objects}
 use Rattle.store_objects.specs.Files.{HaveFiles}
 use Rattle.store_objects.specs.Objects.{AreKept, procs_of}
@@ -29,8 +30,8 @@ use Rattle.store_objects.proofs.Beside.{kept_beside}
 use Rattle.store_objects.proofs.Opening.{files_on}
 use Rattle.store_objects.proofs.TreesOn.{stands_on}
 
-abbrev objects_of : Heap → TableView → TreeView → List (Option ℕ) → Option ℕ → Objects
-objects_of heap procs tree names fifos = record { heap = heap; procs = procs; tree = tree; names = names; fifos = fifos }
+abbrev objects_of : Heap → TableView → TreeView → List (Option ℕ) → Option ℕ → Option ℕ → Objects
+objects_of heap procs tree names fifos locks = record { heap = heap; procs = procs; tree = tree; names = names; fifos = fifos; locks = locks }
 
 -- what it stands for it stands for where it stays
 pub stands_where : (old new : Objects) (tree : Tree) (pins : ℕ → ℕ) → TreeStays old new → Stands old.heap old.tree tree pins → Stands new.heap new.tree tree pins
@@ -80,14 +81,18 @@ module _ (old new : Objects) (only : OnlyPins old new) where
   pub pinned_queues : QueuesStand old.heap new.heap
   pinned_queues = queues_same old.heap new.heap (ap (λ (h : Heap). h.pipes) only.heap) (ap (λ (h : Heap). h.socks) only.heap)
 
+  pub pinned_locks : LocksStay old new
+  pinned_locks = record { shelf = ap (λ (h : Heap). h.locks) only.heap; first = only.locks }
+
   -- what is kept
   pub pinned_kept : (script : Script) → AreKept script old → KeepsTree new.heap new.tree → AreKept script new
   pinned_kept script kept keeps =
       subst (AreKept script)
-      (sym (ap (λ (h : Heap). objects_of h new.procs new.tree new.names new.fifos) only.heap
-      ∙ ap (λ (view : TableView). objects_of (record old.heap { vnodes = new.heap.vnodes }) view new.tree new.names new.fifos) only.procs
-      ∙ ap (λ (names : List (Option ℕ)). objects_of (record old.heap { vnodes = new.heap.vnodes }) old.procs new.tree names new.fifos) only.names
-      ∙ ap (objects_of (record old.heap { vnodes = new.heap.vnodes }) old.procs new.tree old.names) only.fifos))
+      (sym (ap (λ (h : Heap). objects_of h new.procs new.tree new.names new.fifos new.locks) only.heap
+      ∙ ap (λ (view : TableView). objects_of (record old.heap { vnodes = new.heap.vnodes }) view new.tree new.names new.fifos new.locks) only.procs
+      ∙ ap (λ (names : List (Option ℕ)). objects_of (record old.heap { vnodes = new.heap.vnodes }) old.procs new.tree names new.fifos new.locks) only.names
+      ∙ ap (λ (first : Option ℕ). objects_of (record old.heap { vnodes = new.heap.vnodes }) old.procs new.tree old.names first new.locks) only.fifos
+      ∙ ap (objects_of (record old.heap { vnodes = new.heap.vnodes }) old.procs new.tree old.names old.fifos) only.locks))
       (kept_beside script old new.heap.vnodes old.heap.names old.heap.blocks old.heap.high old.heap.marks old.heap.last_high new.tree kept (subst (λ (h : Heap). KeepsTree h new.tree) only.heap keeps))
 
   pub pinned_stays : KeptStays old.tree new.tree

@@ -1,5 +1,6 @@
 -- A call on what is open is over: its caller goes on, in a machine whose files have become others.
 use Rattle.std.proofs.Common.{◌≡◌, ℕ, refl, ap, sym, ◌∙◌, subst}
+use Rattle.answer_laws.specs.KeptLocks.{LeavesLocks}
 use Rattle.kabi_types.specs.Arguments.{count_of}
 use Rattle.kabi_types.specs.declared.calls.Call.{Call}
 use Rattle.kabi_types.specs.declared.replies.Reply.{Reply}
@@ -109,12 +110,13 @@ pub performs_opened : (script : Script) (old mid new : Objects) (pid : ℕ) (whi
     → mid.procs ≡ old.procs → ChangesNumbers old.heap mid.heap old.procs pid → OpenMoves old mid
     → ((world : World) → StandsFor script old world → RepliesOn mid script world.plain world.account pid (answer world.plain) said)
     → told ≡ turned.Done said → GoesOn script mid pid said new → ((frames : Frames) → frames_after frames pid which said ≡ frames)
-    → Performs script old pid which answer told new
-performs_opened script old mid new pid which said told answer same changes moves on tells goes none = λ world stands alive.
+    → ((plain : Plain) → LeavesLocks plain (answer plain)) → Performs script old pid which answer told new
+performs_opened script old mid new pid which said told answer same changes moves on tells goes none leaves = λ world stands alive.
     let it = on world stands in
     subst (λ a. WorldAfter script new world pid which a told) (sym it.replies)
     (led_opened script old mid new world it.files pid which said told stands
-    (stands_opened script old mid world (opened_in world it.files) stands moves (reached_opened script old mid world pid it.files stands same changes it.become))
+    (stands_opened script old mid world (opened_in world it.files) stands moves (reached_opened script old mid world pid it.files stands same changes it.become)
+    (subst (LeavesLocks world.plain) it.replies (leaves world.plain)))
     tells goes (none world.account.frames))
 
 -- a call whose replies say nothing of frames leaves them

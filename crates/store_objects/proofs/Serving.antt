@@ -22,7 +22,7 @@ use Rattle.store_objects.specs.Walking.{KeepsOn, Serves, WorldReached}
 use Rattle.store_objects.proofs.KeptNow.{as_many_blocks, as_many_names, as_many_vnodes}
 use Rattle.store_objects.proofs.Replies.{GoesOn}
 use Rattle.store_objects.specs.FileMoves.{CachesWithin, FileMoves}
-use Rattle.store_objects.specs.FileWorlds.{HasAnswered, turned_in}
+use Rattle.store_objects.specs.FileWorlds.{HasAnswered, LocksFollow, turned_in}
 use Rattle.store_objects.proofs.FileMoving.{stands_turned}
 
 -- so many are kept as the heap has
@@ -56,12 +56,12 @@ module _ (script : Script) (old mid new : Objects) (pid : ℕ) (which : Call) (s
   -- The store stands for the worlds that the call's answers reach.
   pub serves : (answer : Plain → Answer) → FileMoves old mid → GoesOn script mid pid said new
       → ((world : World) → StandsFor script old world → IsSound world.plain → is_alive world.plain.table pid ≡ true
-      → HasAnswered script old mid world pid which (answer world.plain) said)
+      → HasAnswered script old mid world pid which (answer world.plain) said) → LocksFollow script old mid pid answer said
       → Serves script old pid which answer told new
-  serves answer moves goes on = λ world stands sound alive.
+  serves answer moves goes on locks = λ world stands sound alive.
       let has = on world stands sound alive in
       let base = turned_in mid has.next (account_after world.account world.plain pid which (answer world.plain)) in
-      let between : StandsFor script mid base = stands_turned script old mid world base stands moves has.turned in
+      let between : StandsFor script mid base = stands_turned script old mid world base stands moves has.turned (locks world stands sound has.next has.replies) in
       subst (λ a. WorldReached script new world pid which a told) (sym has.replies)
       (record {
         next = answered_in script base pid said;

@@ -17,6 +17,7 @@ use Rattle.proc_table.proofs.FamilyLemmas.{proc_has_pid}
 use Rattle.proc_table.proofs.LawLemmas.{on-table}
 use Rattle.proc_table.proofs.OwnLemmas.{has_it}
 use Rattle.proc_table.proofs.PlaceLemmas.{eqb_is, eqb_same}
+use Rattle.store_objects.proofs.LockedOn.{holds_on, stay_moved}
 use Rattle.store_objects.specs.declared.objects.Objects.{Objects}
 use Rattle.store_objects.specs.Objects.{AreKept, IsAtCall, Runs, WaitsIn, procs_of}
 use Rattle.store_objects.specs.Standing.{StandsFor, waiting_in}
@@ -80,6 +81,7 @@ module _ (script : Script) (old new : Objects) (pid : ℕ) (opening : Option Hal
     memory = account_changed script old new pid (sleeping opening) kept changes world.account.frames stands.memory;
     files = files_moved old new world.plain.files next.plain.files world.account world.account (moves_changed script old new pid (sleeping opening) kept changes)
         refl refl refl refl refl (λ number have. descriptors_slept script old new pid (sleeping opening) kept changes world.plain.files number have) stands.files;
+    locks = holds_on old new (stay_moved old new (moves_changed script old new pid (sleeping opening) kept changes) changes.locks) world.plain.files.locks stands.locks;
     tree = tree_on old new world next
         (record { tree = changes.tree; names = changes.names; caches = moved_caches old.heap new.heap old.procs new.procs (moves_changed script old new pid (sleeping opening) kept changes) })
         refl refl refl refl stands.tree;

@@ -7,6 +7,7 @@ use Rattle.fifo_nodes.specs.Chain.{IsChain}
 use Rattle.kheap_slabs.specs.declared.objects.Proc.{Proc}
 use Rattle.kheap_slabs.specs.Heap.{Heap}
 use Rattle.kheap_slabs.specs.Owners.{OwnsItsObjects}
+use Rattle.lock_table.specs.Chain.{IsLockTable}
 use Rattle.open_laws.specs.Owned.{HasItsOwners}
 use Rattle.posix_defs.specs.Memory.{Frames}
 use Rattle.posix_defs.specs.Process.{Table}
@@ -65,8 +66,8 @@ module _ (old new : Objects) (same : new.procs ≡ old.procs) (procs : new.heap.
 
   -- so the store goes on
   pub moves_elsewhere : IsKept new.heap old.procs → AreBound (name_of new.heap.socks) new.names → length new.names ≡ length old.names → KeepsTree new.heap new.tree
-      → new.heap.heap ≡ old.heap.heap → IsChain new.heap new.fifos → FileMoves old new
-  moves_elsewhere is bound places keeps size chain = record {
+      → new.heap.heap ≡ old.heap.heap → IsChain new.heap new.fifos → IsLockTable new.heap.locks new.locks → FileMoves old new
+  moves_elsewhere is bound places keeps size chain locked = record {
     procs = procs_elsewhere;
     holds = subst (Holds new.heap) (sym same) is.holds;
     all = (subst (AreListed new.heap) (sym same) is.listed).all;
@@ -75,6 +76,7 @@ module _ (old new : Objects) (same : new.procs ≡ old.procs) (procs : new.heap.
     bound = bound;
     places = places;
     chain = chain;
+    locked = locked;
     keeps = keeps;
     size = size;
   }
@@ -183,8 +185,8 @@ module _ (old new : Objects) (pid : ℕ) (same : new.procs ≡ old.procs) (chang
   }
 
   pub moves_holding : IsAlive (procs_of old) pid → AreListed new.heap old.procs → HasItsOwners new.heap [] → AreBound (name_of new.heap.socks) new.names
-      → length new.names ≡ length old.names → KeepsTree new.heap new.tree → IsChain new.heap new.fifos → FileMoves old new
-  moves_holding alive listed owners bound places keeps chain = record {
+      → length new.names ≡ length old.names → KeepsTree new.heap new.tree → IsChain new.heap new.fifos → IsLockTable new.heap.locks new.locks → FileMoves old new
+  moves_holding alive listed owners bound places keeps chain locked = record {
     procs = record {
       same = same;
       each = λ q.
@@ -198,6 +200,7 @@ module _ (old new : Objects) (pid : ℕ) (same : new.procs ≡ old.procs) (chang
     bound = bound;
     places = places;
     chain = chain;
+    locked = locked;
     keeps = keeps;
     size = ap (λ (h : Heap). h.heap) changes.beside;
   }

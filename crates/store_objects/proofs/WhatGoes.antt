@@ -235,7 +235,7 @@ gone_reads Vnode old new was is gone = ap (λ (fs : TreeView). fs.disk.reads) go
 module _ (script : Script) (objects : Objects) (what : Cached) (heap : Heap) (fs : TreeView) (gone : HasGone what objects.heap heap objects.tree fs)
     (on : (tree : Tree) (pins : ℕ → ℕ) → Stands objects.heap objects.tree tree pins → Stands heap fs tree pins) where
   abbrev after : Objects
-  after = record { heap = heap; procs = objects.procs; tree = fs; names = objects.names; fifos = objects.fifos }
+  after = record { heap = heap; procs = objects.procs; tree = fs; names = objects.names; fifos = objects.fifos; locks = objects.locks }
 
   beside : heap ≡ record objects.heap { vnodes = heap.vnodes; names = heap.names; blocks = heap.blocks }
   beside = gone_heap what objects.heap heap objects.tree fs gone
@@ -243,7 +243,7 @@ module _ (script : Script) (objects : Objects) (what : Cached) (heap : Heap) (fs
   pub kept_evicted : AreKept script objects → AreKept script after
   kept_evicted kept =
       let keeps : KeepsTree heap fs = (kept.caches.0, kept.caches.1, on kept.caches.0 kept.caches.1 kept.caches.2) in
-      subst (λ (h : Heap). AreKept script (record { heap = h; procs = objects.procs; tree = fs; names = objects.names; fifos = objects.fifos })) (sym beside)
+      subst (λ (h : Heap). AreKept script (record { heap = h; procs = objects.procs; tree = fs; names = objects.names; fifos = objects.fifos; locks = objects.locks })) (sym beside)
       (kept_beside script objects heap.vnodes heap.names heap.blocks objects.heap.high objects.heap.marks objects.heap.last_high fs kept (subst (λ (h : Heap). KeepsTree h fs) beside keeps))
 
   -- they stand for the world without what has gone
@@ -256,9 +256,9 @@ module _ (script : Script) (objects : Objects) (what : Cached) (heap : Heap) (fs
         reads = stands.tree.reads ∙ sym (gone_reads what objects.heap heap objects.tree fs gone);
       } in (
         next,
-        subst (λ (h : Heap). StandsFor script (record { heap = h; procs = objects.procs; tree = fs; names = objects.names; fifos = objects.fifos }) next) (sym beside)
+        subst (λ (h : Heap). StandsFor script (record { heap = h; procs = objects.procs; tree = fs; names = objects.names; fifos = objects.fifos; locks = objects.locks }) next) (sym beside)
             (stands_beside script objects heap.vnodes heap.names heap.blocks objects.heap.high objects.heap.marks objects.heap.last_high fs world world.plain.files.tree (kept_by fs) world.reads stands stands.works
-            (subst (λ (h : Heap). HasTree (record { heap = h; procs = objects.procs; tree = fs; names = objects.names; fifos = objects.fifos }) next) beside has)),
+            (subst (λ (h : Heap). HasTree (record { heap = h; procs = objects.procs; tree = fs; names = objects.names; fifos = objects.fifos; locks = objects.locks }) next) beside has)),
         record {
           plain = refl;
           account = refl;

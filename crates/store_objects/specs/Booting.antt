@@ -3,6 +3,7 @@ use Rattle.std.specs.Prelude.{ℕ, ◌≡◌, ◌+◌, [], ◌∷◌, None, repl
 use Rattle.kabi_types.specs.declared.scripts.Control.{Control}
 use Rattle.kheap_slabs.specs.Leaves.{HoldLeaves}
 use Rattle.kheap_slabs.specs.Keys.{AreKeysOf}
+use Rattle.lock_table.specs.Chain.{HoldsLocks}
 use Rattle.open_laws.specs.Open.{AreOpen}
 use Rattle.open_laws.specs.Owned.{HasItsOwners}
 use Rattle.open_laws.specs.Placed.{Numbers}
@@ -36,6 +37,7 @@ pub record HasBooted (objects : Objects) (heap blocks : ℕ) (control : Control)
   pub size : objects.heap.heap ≡ heap
   pub names : objects.names ≡ replicate (most_nodes + 1) None
   pub fifos : objects.fifos ≡ None
+  pub locks : HoldsLocks objects.heap.locks objects.locks []
   pub first : procs_of objects ≡ record first_proc { control = control } ∷ []
   pub last : objects.procs.last ≡ 1
   pub table : IsTable objects.heap objects.procs (Some first_process ∷ [])

@@ -5,6 +5,7 @@ use Rattle.kabi_types.specs.declared.calls.Call.{Call}
 use Rattle.kheap_slabs.specs.Leaves.{HoldLeaves}
 use Rattle.kheap_slabs.specs.Objects.{count}
 use Rattle.kheap_slabs.specs.Keys.{AreKeysOf}
+use Rattle.lock_table.specs.Chain.{IsLockTable}
 use Rattle.open_laws.specs.Owned.{HasItsOwners}
 use Rattle.store_objects.specs.OpenMoves.{ProcsStay}
 use Rattle.posix_defs.specs.Memory.{Frames}
@@ -19,8 +20,8 @@ use Rattle.store_objects.specs.Objects.{procs_of}
 use Rattle.store_objects.specs.Trees.{KeepsTree}
 
 -- Of a store what is open, what a process has in memory, the tree of files with what its caches keep, and names of sockets have
--- changed: its processes stay but for their descriptors, all that is in the heap has its owner, and the table of names has as many
--- places, with each socket that is bound at its node.
+-- changed, and locks may have: its processes stay but for their descriptors, all that is in the heap has its owner, and the table
+-- of names has as many places, with each socket that is bound at its node.
 pub record FileMoves (old new : Objects) : Type 0 where
   pub procs : ProcsStay old new
   pub holds : Holds new.heap new.procs
@@ -30,6 +31,7 @@ pub record FileMoves (old new : Objects) : Type 0 where
   pub bound : AreBound (name_of new.heap.socks) new.names
   pub places : length new.names ≡ length old.names
   pub chain : IsChain new.heap new.fifos
+  pub locked : IsLockTable new.heap.locks new.locks
   pub keeps : KeepsTree new.heap new.tree
   pub size : new.heap.heap ≡ old.heap.heap
 

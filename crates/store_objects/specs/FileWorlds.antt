@@ -3,6 +3,7 @@ use Rattle.std.specs.Prelude.{ℕ, ◌≡◌, true, false, Some}
 use Rattle.kabi_types.specs.declared.calls.Call.{Call}
 use Rattle.kabi_types.specs.declared.scripts.Script.{Script}
 use Rattle.kabi_types.specs.declared.replies.Reply.{Reply}
+use Rattle.lock_table.specs.Chain.{HoldsLocks}
 use Rattle.memfs_ops.specs.FileTree.{Stands}
 use Rattle.posix_defs.specs.Account.{Account}
 use Rattle.posix_defs.specs.Answer.{Answer, Blocked, Done, Ended, Part, replied}
@@ -16,6 +17,7 @@ use Rattle.posix_defs.specs.World.{World, directories_of}
 use Rattle.proc_files.specs.Holders.{holders}
 use Rattle.proc_table.specs.Accounting.{HasAccount}
 use Rattle.proc_table.specs.Standing.{IsTable}
+use Rattle.store_objects.specs.Standing.{IsSound, StandsFor}
 use Rattle.store_objects.specs.declared.objects.Objects.{Objects}
 use Rattle.store_objects.specs.Files.{HaveFiles}
 use Rattle.store_objects.specs.Trees.{kept_by, others_in}
@@ -49,6 +51,12 @@ LeavesKin plain Blocked = Unit {0}
 LeavesKin plain (Done reply next) = KinStays plain next
 LeavesKin plain (Part moved next) = Unit {0}
 LeavesKin plain (Ended status next) = Unit {0}
+
+-- Whatever machine a call's answer leads to with a reply, the chain of locks has that one's.
+abbrev pub LocksFollow : Script → Objects → Objects → ℕ → (Plain → Answer) → Reply → Type 0
+LocksFollow script old new pid answer said =
+    (world : World) → StandsFor script old world → IsSound world.plain → (next : Plain) → answer world.plain ≡ replied script next pid said
+    → HoldsLocks new.heap.locks new.locks next.files.locks
 
 -- What a call leaves of the tree's caches, where it leads from a world to a machine: where no node is reached all that is kept stays, the
 -- name that the call leaves is kept, and where all on its way was kept nothing is read.

@@ -9,6 +9,7 @@ use Rattle.kheap_slabs.specs.declared.objects.HalfOpen.{HalfOpen}
 use Rattle.kheap_slabs.specs.declared.objects.Proc.{Proc}
 use Rattle.kheap_slabs.specs.Keys.{AreKeysOf}
 use Rattle.kheap_slabs.specs.Owners.{Owners}
+use Rattle.lock_table.specs.Chain.{IsLockTable}
 use Rattle.open_laws.specs.Owned.{HasItsOwners}
 use Rattle.kheap_slabs.specs.Paid.{TakesNothing}
 use Rattle.proc_table.specs.Moves.{ProcTurns}
@@ -46,6 +47,7 @@ pub record OneChanges (old : Objects) (pid : ℕ) (change : Proc → Proc) (new 
   pub tree : new.tree ≡ old.tree
   pub names : new.names ≡ old.names
   pub fifos : new.fifos ≡ old.fifos
+  pub locks : new.locks ≡ old.locks
   pub takes : TakesNothing old.heap new.heap
 
 -- it has gone on at another control
@@ -89,7 +91,8 @@ most_nodes = 4096
 
 -- What the objects of a store keep, whatever they stand for: the table has every process that is in the heap, all nodes,
 -- descriptions, pipes, sockets and chunks have their owners, and the rest is what the tree of files keeps in its caches. The table
--- of names has for each node the socket that is bound to it, and the pipes of all FIFOs are a chain. Who runs stands at its next call.
+-- of names has for each node the socket that is bound to it, and the pipes of all FIFOs are a chain, as all locks are. Who runs
+-- stands at its next call.
 pub record AreKept (script : Script) (objects : Objects) : Type 0 where
   pub holds : Holds objects.heap objects.procs
   pub all : AreKeysOf objects.heap.procs (keys_of objects.procs.listed)
@@ -100,5 +103,6 @@ pub record AreKept (script : Script) (objects : Objects) : Type 0 where
   pub bound : AreBound (name_of objects.heap.socks) objects.names
   pub places : most_nodes < length objects.names
   pub chain : IsChain objects.heap objects.fifos
+  pub locked : IsLockTable objects.heap.locks objects.locks
   pub caches : KeepsTree objects.heap objects.tree
   pub size : objects.heap.heap ≡ script.heap

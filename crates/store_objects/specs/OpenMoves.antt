@@ -22,8 +22,13 @@ pub record ProcsStay (old new : Objects) : Type 0 where
   pub same : new.procs ≡ old.procs
   pub each : (pid : ℕ) → (now : Proc) × (proc_of (procs_of new) pid ≡ option_map (opening now) (proc_of (procs_of old) pid))
 
+-- The locks are those that were there.
+pub record LocksStay (old new : Objects) : Type 0 where
+  pub shelf : new.heap.locks ≡ old.heap.locks
+  pub first : new.locks ≡ old.locks
+
 -- Of a store only what is open has changed, and what a process has in memory: its processes stay but for their descriptors, all that
--- is in the heap has its owner, and the tree of files is the same. No socket has another name.
+-- is in the heap has its owner, and the tree of files and all locks are the same. No socket has another name.
 pub record OpenMoves (old new : Objects) : Type 0 where
   pub procs : ProcsStay old new
   pub holds : Holds new.heap new.procs
@@ -32,4 +37,5 @@ pub record OpenMoves (old new : Objects) : Type 0 where
   pub owners : HasItsOwners new.heap []
   pub names : (key : ℕ) → name_of new.heap.socks key ≡ name_of old.heap.socks key
   pub chain : IsChain new.heap new.fifos
+  pub locks : LocksStay old new
   pub tree : TreeStays old new

@@ -4,6 +4,7 @@ use Rattle.kabi_types.specs.declared.calls.Call.{Call}
 use Rattle.kabi_types.specs.declared.replies.Reply.{Reply}
 use Rattle.kabi_types.specs.declared.scripts.Script.{Script}
 use Rattle.kheap_slabs.specs.declared.objects.Proc.{Proc}
+use Rattle.lock_table.specs.Chain.{HoldsLocks}
 use Rattle.memfs_ops.specs.FileTree.{Stands, one_more}
 use Rattle.posix_defs.specs.Account.{account_on, with_frames}
 use Rattle.posix_defs.specs.Answer.{Answer}
@@ -13,6 +14,7 @@ use Rattle.posix_defs.specs.Family.{IsFamily}
 use Rattle.posix_defs.specs.Memory.{Frames, Memory}
 use Rattle.posix_defs.specs.MemoryCalls.{remembered}
 use Rattle.posix_defs.specs.Files.State.{HalfOpen, with_opening}
+use Rattle.posix_defs.specs.Files.Whole.{AreLocks}
 use Rattle.posix_defs.specs.Plain.{Plain, answered, control_of, last_pid, with_files, with_table}
 use Rattle.posix_defs.specs.Process.{ignores_of, is_alive, with_directory, with_ignores}
 use Rattle.posix_defs.specs.Signals.{with_disposition}
@@ -49,6 +51,8 @@ pub record StandsFor (script : Script) (objects : Objects) (world : World) : Typ
   pub memory : HasAccount objects.heap objects.procs world.account.frames
   -- one numbering of descriptions, pipes and sockets makes what is open the machine's, and the account of fronts true
   pub files : HaveFiles objects world.plain.files world.account
+  -- the chain of locks has the machine's
+  pub locks : HoldsLocks objects.heap.locks objects.locks world.plain.files.locks
   -- the disk has the machine's tree, and the caches keep what is kept of it
   pub tree : HasTree objects world
   -- of the machine alone: who is whose child, and that everybody works in a directory
@@ -62,6 +66,7 @@ pub record HasEntered (script : Script) (objects : Objects) (world : World) (dir
   pub processes : AreProcesses script objects world.plain
   pub memory : HasAccount objects.heap objects.procs world.account.frames
   pub files : HaveFiles objects world.plain.files world.account
+  pub locks : HoldsLocks objects.heap.locks objects.locks world.plain.files.locks
   pub tree : Stands objects.heap objects.tree world.plain.files.tree (one_more (pins_in world.plain) directory)
   pub entered : is_directory world.plain.files.tree directory ≡ true
   pub same : world.kept ≡ kept_by objects.tree
@@ -69,11 +74,12 @@ pub record HasEntered (script : Script) (objects : Objects) (world : World) (dir
   pub family : IsFamily world.plain.table
   pub works : AreDirectories world.plain.files.tree (directories_of world.plain.table)
 
--- What each machine that is reached has, of which calls on files and names make use: descriptions open nodes as they may, and who
--- is bound is bound to a socket's name, but nobody who waits.
+-- What each machine that is reached has, of which calls on files and names make use: descriptions open nodes as they may, who
+-- is bound is bound to a socket's name, but nobody who waits, and locks are of files that their holders have open.
 pub record IsSound (plain : Plain) : Type 0 where
   pub nodes : AreOpenNodes plain.files
   pub names : HaveNames plain.files
+  pub locks : AreLocks plain.files
 
 -- ---- worlds after a step
 

@@ -35,3 +35,4 @@ pub record OnlyPins (old new : Objects) : Type 0 where
   pub order : new.tree.vnodes.order ≡ old.tree.vnodes.order
   pub names : new.names ≡ old.names
   pub fifos : new.fifos ≡ old.fifos
+  pub locks : new.locks ≡ old.locks

@@ -8,6 +8,7 @@ use bound_table::BoundTable;
 use fifo_nodes::FifoTable;
 use kabi_types::{Control, Memory};
 use kheap_slabs::KHeap;
+use lock_table::LockTable;
 use memfs_ops::FileTree;
 use proc_table::{Place, ProcTable};
 use std::alloc::Global;
@@ -44,6 +45,7 @@ pub fn booted(alloc: Global, heap: u64, blocks: u32, control: Control) -> Result
         tree,
         names,
         fifos: FifoTable::new(),
+        locks: LockTable::new(),
     };
     let key = objects.key_there(FIRST);
     objects.move_on(Place { pid: FIRST, key }, control);

@@ -16,7 +16,8 @@ ghost use Rattle.store_objects.specs.Trees.{pins_in};
 ghost use Rattle.store_objects.specs.declared.objects.Objects.{Objects};
 
 /// What a store's heap has in use is what the world that it stands for takes: 512 bytes for each process that is there and for
-/// each group of 64 pages with a mapped one, 4096 for each frame that a page names, and what is open and what is kept.
+/// each group of 64 pages with a mapped one, 4096 for each frame that a page names, 64 for each lock, and what is open and what is
+/// kept.
 pub fn the_heap_is_the_worlds()
     ensures { (script : Script) (objects : Objects) (world : World) → StandsFor script objects world → IsWellFormed objects.heap
         → live_bytes objects.heap ≡ live_of world }

@@ -11,11 +11,12 @@ use bound_table::BoundTable;
 use fifo_nodes::FifoTable;
 use kabi_types::Control;
 use kheap_slabs::{HalfOpen, KHeap, Proc};
+use lock_table::LockTable;
 use memfs_ops::FileTree;
 use proc_table::{Place, ProcTable};
 
-/// The heap, the table of the processes that stand in it, the tree of files, whose caches stand in it too, and the table of the
-/// sockets that have names in the tree.
+/// The heap, the table of the processes that stand in it, the tree of files, whose caches stand in it too, the table of the sockets
+/// that have names in the tree, and the first of the chains of FIFOs' pipes and of locks.
 #[derive(Drop)]
 pub struct Objects {
     /// The heap.
@@ -28,6 +29,8 @@ pub struct Objects {
     pub names: BoundTable,
     /// Which FIFOs have a pipe.
     pub fifos: FifoTable,
+    /// What processes have locked of files.
+    pub locks: LockTable,
 }
 
 /// Who makes a call: a process that runs.

@@ -1,5 +1,6 @@
 //! Laws of stores of which a call changes what is open: they go on. Each is the contract of a function that does nothing.
 
+ghost use Rattle.answer_laws.specs.KeptLocks.{LeavesLocks};
 ghost use Rattle.fifo_nodes.specs.Chain.{IsChain};
 ghost use Rattle.kabi_types.specs.declared.calls.Call.{Call};
 ghost use Rattle.kabi_types.specs.declared.scripts.Control.{Control};
@@ -26,20 +27,21 @@ ghost use Rattle.store_objects.specs.Standing.{Performs, StandsFor, answered_in}
 ghost use Rattle.store_objects.specs.declared.objects.Objects.{Objects};
 
 /// Where of a store only what is open has changed, and what a process has in memory, its objects are kept, who ran runs where he
-/// stood, and they stand for each world of which they have what has changed.
+/// stood, and they stand for each world of which they have what has changed, where that has the same locks.
 pub fn a_store_goes_on_with_what_is_open()
     ensures kept { (script : Script) (old : Objects) (new : Objects) → AreKept script old → OpenMoves old new → AreKept script new }
     ensures runs { (old : Objects) (new : Objects) (pid : ℕ) (control : Control) → OpenMoves old new → Runs old pid control → Runs new pid control }
     ensures stands { (script : Script) (old : Objects) (new : Objects) (world : World) (next : World)
-        → StandsFor script old world → OpenMoves old new → HasReached new world next → StandsFor script new next }
+        → StandsFor script old world → OpenMoves old new → HasReached new world next
+        → next.plain.files.locks ≡ world.plain.files.locks → StandsFor script new next }
 {}
 
 /// Where a call changes what a process has open that runs, and no socket's name, only what is open has changed of the store; and
-/// where its answer is a reply that leaves all memory, with which the machine's files have become those that the objects have, its
-/// caller goes on in that machine.
+/// where its answer is a reply that leaves all memory and all locks, with which the machine's files have become those that the
+/// objects have, its caller goes on in that machine.
 pub fn a_call_changes_what_a_process_has_open()
     ensures moves { (old : Objects) (new : Objects) (pid : ℕ) → Holds old.heap old.procs → new.procs ≡ old.procs → new.tree ≡ old.tree → new.names ≡ old.names
-        → new.fifos ≡ old.fifos → IsChain old.heap old.fifos → IsAlive (procs_of old) pid → ChangesNumbers old.heap new.heap old.procs pid → AreListed new.heap old.procs → HasItsOwners new.heap []
+        → new.fifos ≡ old.fifos → new.locks ≡ old.locks → IsChain old.heap old.fifos → IsAlive (procs_of old) pid → ChangesNumbers old.heap new.heap old.procs pid → AreListed new.heap old.procs → HasItsOwners new.heap []
         → ((key : ℕ) → name_of new.heap.socks key ≡ name_of old.heap.socks key) → OpenMoves old new }
     ensures performs { (script : Script) (old : Objects) (mid : Objects) (new : Objects) (pid : ℕ) (call : Call) (said : Reply) (told : Turned)
         (answer : Plain → Answer)
@@ -48,5 +50,6 @@ pub fn a_call_changes_what_a_process_has_open()
         → RepliesOn mid script world.plain world.account pid (answer world.plain) said)
         → told ≡ turned.Done said
         → ((world : World) → StandsFor script mid world → StandsFor script new (answered_in script world pid said))
-        → ((frames : Frames) → frames_after frames pid call said ≡ frames) → Performs script old pid call answer told new }
+        → ((frames : Frames) → frames_after frames pid call said ≡ frames)
+        → ((plain : Plain) → LeavesLocks plain (answer plain)) → Performs script old pid call answer told new }
 {}

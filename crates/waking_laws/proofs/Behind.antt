@@ -30,10 +30,10 @@ use Rattle.posix_defs.specs.Turn.{Tells, TurnsTo, TurnsWhere}
 use Rattle.posix_defs.specs.World.{World}
 use Rattle.posix_defs.specs.declared.turner.Turned.{Turned}
 use Rattle.posix_defs.specs.declared.turner.Turned.TheVariants as turned
-use Rattle.waking_laws.specs.Waking.{Lasts, StaysAsItWas, StaysItself, awaited, gives_number, is_apart, meet, moves_through, no_fifo, passes_by, target_at, wakes_nobody}
+use Rattle.waking_laws.specs.Waking.{Lasts, StaysAsItWas, StaysItself, awaited, gives_number, is_apart, meet, moves_through, no_fifo, no_lock, passes_by, target_at, wakes_nobody}
 use Rattle.waking_laws.proofs.Moving.{IsMoved, LastsTo, moves_answer}
 use Rattle.waking_laws.proofs.OwnNumbers.{leaves_numbers}
-use Rattle.waking_laws.proofs.Passing.{nothing_changed}
+use Rattle.waking_laws.proofs.Passing.{both_true, none_held, nothing_changed}
 use Rattle.waking_laws.proofs.QuietCalls.{IsQuiet, QuietIf, quiet_answer}
 use Rattle.waking_laws.proofs.Seeing.{SeesQueue, SeesQueues, blocks_alike}
 use Rattle.waking_laws.proofs.Staying.{is_there, itself, same_targets, sees}
@@ -126,32 +126,34 @@ module _ (old new : Files) (target : Option Target)
 module _ (script : Script) (old : Plain) (pid who : ℕ) (reached : IsReached script old) (lives : is_alive old.table pid ≡ true) (apart : who ≢ pid)
     (alive : is_alive old.table who ≡ true) (fd : ℤ) where
   moved_so : (new : Plain) → (is_alive new.table who ≡ true → IsLeftAlone pid who old new) → IsMoved (target_at old.files pid fd) pid who old new
-      → is_apart script old who pid fd ≡ true → StaysAsItWas script who old new
-  moved_so new alone moved other =
+      → new.files.locks ≡ [] → is_apart script old who pid fd ≡ true → StaysAsItWas script who old new
+  moved_so new alone moved none other =
       let left : IsLeftAlone pid who old new = alone (ap is_alive_in (let kin = moved.kin in kin.itself) ∙ alive) in
       let own : KeepsOwn who old new = left.own in
       let described : AreDescribed old.files = (reached_keeps reached).1 in
       record {
         itself = itself who old new described own.control own.numbers moved.described moved.kin own.waits moved.opens script;
-        waits = blocks_alike script who old new (sees who old new described own.control own.numbers moved.described moved.kin own.waits moved.opens)
+        waits = blocks_alike script who old new (sees who old new described own.control own.numbers moved.described moved.kin own.waits moved.opens (sym moved.locks ∙ none, none))
             (apart_sees old.files new.files (target_at old.files pid fd) moved.pipes moved.sockets who (awaited (call_of script old who)) other);
       }
 
   moved_by : (given : Answer) (told : Turned) (new : Plain) → Tells given old told new → LeadsTo (λ next. is_alive next.table who ≡ true → IsLeftAlone pid who old next) given
-      → Lasts told → LastsTo (IsMoved (target_at old.files pid fd) pid who old) given → is_apart script old who pid fd ≡ true → StaysAsItWas script who old new
-  moved_by Blocked told new tells alone lasts moved other = nothing_changed script who old new tells.1
-  moved_by (Done said next) told new tells alone lasts moved other = subst (StaysAsItWas script who old) (sym tells.1) (moved_so next alone moved other)
-  moved_by (Part count next) told new tells alone lasts moved other = subst (StaysAsItWas script who old) (sym tells.1) (moved_so next alone moved other)
-  moved_by (Ended status next) told new tells alone lasts moved other = absurd (lasts status tells.0)
+      → Lasts told → LastsTo (IsMoved (target_at old.files pid fd) pid who old) given → new.files.locks ≡ [] → is_apart script old who pid fd ≡ true → StaysAsItWas script who old new
+  moved_by Blocked told new tells alone lasts moved none other = nothing_changed script who old new tells.1
+  moved_by (Done said next) told new tells alone lasts moved none other = subst (StaysAsItWas script who old) (sym tells.1)
+      (moved_so next alone moved (ap (λ (plain : Plain). plain.files.locks) (sym tells.1) ∙ none) other)
+  moved_by (Part count next) told new tells alone lasts moved none other = subst (StaysAsItWas script who old) (sym tells.1)
+      (moved_so next alone moved (ap (λ (plain : Plain). plain.files.locks) (sym tells.1) ∙ none) other)
+  moved_by (Ended status next) told new tells alone lasts moved none other = absurd (lasts status tells.0)
 
 pub moved_apart : (script : Script) (old new : World) (pid who : ℕ) (fd : ℤ) (which : Call) (told : Turned) → IsReached script old.plain
-    → TurnsTo script old pid which told new → moves_through which ≡ Some fd → Lasts told → who ≢ pid → is_alive old.plain.table who ≡ true
+    → TurnsTo script old pid which told new → moves_through which ≡ Some fd → Lasts told → no_lock new.plain.files ≡ true → who ≢ pid → is_alive old.plain.table who ≡ true
     → is_apart script old.plain who pid fd ≡ true → StaysAsItWas script who old.plain new.plain
-moved_apart script old new pid who fd which told reached turns moves lasts apart alive other = go (is_alive old.plain.table pid) refl turns
+moved_apart script old new pid who fd which told reached turns moves lasts none apart alive other = go (is_alive old.plain.table pid) refl turns
   where
     go : (lives : Bool) → is_alive old.plain.table pid ≡ lives → TurnsWhere lives script old pid which told new → StaysAsItWas script who old.plain new.plain
     go true is answers = moved_by script old.plain pid who reached is apart alive fd (machine script old.plain pid which) told new.plain answers.answer
-        (answers_leave_alone script old.plain reached pid who which is apart alive) lasts (moves_answer script old.plain pid who apart which fd moves) other
+        (answers_leave_alone script old.plain reached pid who which is apart alive) lasts (moves_answer script old.plain pid who apart which fd moves) (none_held new.plain.files none) other
     go false is over = nothing_changed script who old.plain new.plain (ap (λ (world : World). world.plain) over.1)
 
 -- who is alive stays so behind a turn that moves bytes
@@ -252,18 +254,18 @@ module _ (script : Script) (old : Plain) (pid : ℕ) (reached : IsReached script
       left_by which (machine script old pid which) told new e tells (leaves_numbers script old pid made (no_fifo new.files) which e f)
       (quiet_answer script old pid 0 (none_is_zero script old pid lives) (omega arith) which) fd
 
-  passed_so : (which : Call) (told : Turned) (new : Plain) → passes_by (no_fifo new.files) which told ≡ true → gives_number which ≡ false → Tells (machine script old pid which) old told new
+  passed_so : (which : Call) (told : Turned) (new : Plain) → passes_by (no_fifo new.files) (no_lock new.files) which told ≡ true → gives_number which ≡ false → Tells (machine script old pid which) old told new
       → (fd : ℤ) → target_at new.files pid fd ≡ target_at old.files pid fd
   passed_so which turned.Sleep new e f tells fd = unchanged new (ap (λ (plain : Plain). plain.files) (slept _ new tells)) fd
   passed_so which turned.Gone new e f tells fd = unchanged new (ap (λ (plain : Plain). plain.files) (gone _ new tells)) fd
   passed_so which (turned.Done (reply.Fail errno)) new e f tells fd = unchanged new (failed which _ errno new refl tells) fd
-  passed_so which (turned.Done (reply.Val value)) new e f tells fd = quietly which _ new e f tells fd
-  passed_so which (turned.Done said) new e f tells fd = quietly which (turned.Done said) new e f tells fd
+  passed_so which (turned.Done (reply.Val value)) new e f tells fd = quietly which _ new (both_true (no_lock new.files) (wakes_nobody (no_fifo new.files) which) e).1 f tells fd
+  passed_so which (turned.Done said) new e f tells fd = quietly which (turned.Done said) new (both_true (no_lock new.files) (wakes_nobody (no_fifo new.files) which) e).1 f tells fd
   passed_so which (turned.Part moved) new e f tells fd = cc
   passed_so which (turned.Ended status) new e f tells fd = cc
 
 pub own_passed : (script : Script) (old new : World) (pid : ℕ) (fd : ℤ) (which : Call) (told : Turned) → IsReached script old.plain
-    → TurnsTo script old pid which told new → passes_by (no_fifo new.plain.files) which told ≡ true → gives_number which ≡ false
+    → TurnsTo script old pid which told new → passes_by (no_fifo new.plain.files) (no_lock new.plain.files) which told ≡ true → gives_number which ≡ false
     → target_at new.plain.files pid fd ≡ target_at old.plain.files pid fd
 own_passed script old new pid fd which told reached turns passes none = go (is_alive old.plain.table pid) refl turns
   where

@@ -44,6 +44,7 @@ pub record IsMoved (target : Option Target) (pid who : ℕ) (old new : Plain) : 
   pub sockets : (place : ℕ) → meet target (Some (OnSocket place)) ≡ false → SameSockets old.files.sockets new.files.sockets
   pub kin : SameKin who old.table new.table
   pub opens : (place : ℕ) (writing : Bool) → opens_of (pipe_at new.files place) writing ≡ opens_of (pipe_at old.files place) writing
+  pub locks : new.files.locks ≡ old.files.locks
 
 -- an answer that doesn't end its caller leads to what has this
 abbrev pub LastsTo : (Plain → Type 0) → Answer → Type 0
@@ -104,6 +105,7 @@ module _ (script : Script) (plain : Plain) (pid who : ℕ) (apart : who ≢ pid)
     sockets = λ place e. subst (λ (it : Files). SameSockets plain.files.sockets it.sockets) (sym files) (same_sockets plain.files.sockets);
     kin = subst (λ (it : Table). SameKin who plain.table it) (sym table) family;
     opens = λ place writing. ap (λ (it : Files). opens_of (pipe_at it place) writing) files;
+    locks = ap (λ (it : Files). it.locks) files;
   }
 
   -- queues are kept, whatever the target is
@@ -116,6 +118,7 @@ module _ (script : Script) (plain : Plain) (pid who : ℕ) (apart : who ≢ pid)
     sockets = λ place e. kept.sockets;
     kin = kin;
     opens = λ place writing. ap (λ pipe. opens_of pipe writing) (kept.pipes place);
+    locks = kept.locks;
   }
 
   either : (target : Option Target) (b : Bool) (one two : Answer) → Moved target one → Moved target two → Moved target (cond b one two)
@@ -146,6 +149,7 @@ module _ (script : Script) (plain : Plain) (pid who : ℕ) (apart : who ≢ pid)
     sockets = λ place e. subst (λ (it : Files). SameSockets plain.files.sockets it.sockets) (sym files) (same_sockets plain.files.sockets);
     kin = kin;
     opens = λ place writing. ap (λ (it : Files). opens_of (pipe_at it place) writing) files ∙ same_opens plain.files at place pipe writing (same writing);
+    locks = ap (λ (it : Files). it.locks) files;
   }
 
   -- sockets have changed
@@ -157,6 +161,7 @@ module _ (script : Script) (plain : Plain) (pid who : ℕ) (apart : who ≢ pid)
     sockets = λ place e. absurd (never e);
     kin = kin;
     opens = λ place writing. ap (λ (it : Files). opens_of (pipe_at it place) writing) files;
+    locks = ap (λ (it : Files). it.locks) files;
   }
     where
       never : true ≡ false → ⊥
@@ -206,6 +211,7 @@ module _ (script : Script) (plain : Plain) (pid who : ℕ) (apart : who ≢ pid)
         sockets = λ place e. subst (λ (it : Files). SameSockets plain.files.sockets it.sockets) (sym files) (moved.sockets place e);
         kin = subst (λ (it : Table). SameKin who plain.table it) (sym table) moved.kin;
         opens = λ place writing. ap (λ (it : Files). opens_of (pipe_at it place) writing) files ∙ moved.opens place writing;
+        locks = ap (λ (it : Files). it.locks) files ∙ moved.locks;
       }
 
       go : (all early : Bool)

@@ -11,6 +11,8 @@ use Rattle.machine_laws.proofs.SharedOffsets.{stay_open}
 use Rattle.machine_laws.specs.FileSteps.{LeadsTo}
 use Rattle.posix_defs.specs.Answer.{Answer}
 use Rattle.posix_defs.specs.Calls.OnFiles.{fstat, ftruncate, greatest_offset, is_between_entries, lseek, origin, resized_to, seek_target, seek_to, truncate_target}
+use Rattle.posix_defs.specs.Calls.OnLocks.{file_of, getlk, request_of}
+use Rattle.posix_defs.specs.Calls.OnLocks as on_locks
 use Rattle.posix_defs.specs.Calls.OnNames.{chdir, freed_in, is_busy, link, made_node, mkdir, mkfifo, rename, retreed, rmdir, stat, told_of, unlink, works_from}
 use Rattle.posix_defs.specs.Calls.OnSockets.{bind, bind_at, bound_to, socket_target, unless_fault}
 use Rattle.posix_defs.specs.Calls.Opened.{Opened, answer_on, on_open, opened_at}
@@ -201,6 +203,14 @@ module _ (script : Script) (plain : Plain) (pid : ℕ) (made : pid ≤ length pl
       on (OnPipe place) = refl
       on (OnSocket place) = free place (bind_fault (socket_at plain.files.sockets place))
 
+  tells_lock : (fd kind start size : ℤ) → Leaves (getlk script plain pid fd kind start size)
+  unfolding getlk
+  tells_lock fd kind start size = opened_leaves fd _ (λ opened. go (file_of plain.files.tree opened.is.target))
+    where
+      go : (o : Option ℕ) → Leaves (on_locks.told_of script plain pid (request_of kind start size) o)
+      go None = refl
+      go (Some number) = refl
+
   polls : (timeout : ℤ) (entries : List PollEntry) → Leaves (poll script plain pid timeout entries)
   unfolding poll
   polls timeout entries = either ((hits_of (revents_of plain.files pid entries) == 0) && is_minus_one timeout) _ _ tt refl
@@ -228,6 +238,7 @@ module _ (script : Script) (plain : Plain) (pid : ℕ) (made : pid ≤ length pl
   right none_open (call.Link old new) e f = links old new
   right none_open (call.Rename old new) e f = renames old new
   right none_open (call.Mkfifo path) e f = makes_fifo path
+  right none_open (call.Getlk fd kind start size) e f = tells_lock fd kind start size
   right none_open (call.Bind fd path) e f = binds fd path
   right none_open (call.Poll timeout entries) e f = polls timeout entries
   right none_open (call.Signal which disposition) e f = refl

@@ -19,6 +19,8 @@ use Rattle.machine_laws.proofs.Stepping.{end_at}
 use Rattle.posix_defs.specs.Answer.{Answer, Blocked, Done, Ended, Part}
 use Rattle.posix_defs.specs.Calls.OnDescriptors.{dup, duplicated, shared_at}
 use Rattle.posix_defs.specs.Calls.OnFiles.{description_for, end_opened, fifo_at, fifo_fault, fifo_pipe, fifo_waits, fstat, ftruncate, greatest_offset, is_between_entries, is_met, lseek, open_at, open_by, open_end, open_file, opened_node_as, opening_of, origin, resized_to, seek_target, seek_to, truncate_target}
+use Rattle.posix_defs.specs.Calls.OnLocks.{file_of, getlk, request_of}
+use Rattle.posix_defs.specs.Calls.OnLocks as on_locks
 use Rattle.posix_defs.specs.Calls.OnNames.{chdir, freed_in, is_busy, link, made_node, mkdir, mkfifo, rename, renamed, retreed, rmdir, stat, told_of, unlink, works_from}
 use Rattle.posix_defs.specs.Calls.OnPipes.{pipe, piped, piped_under}
 use Rattle.posix_defs.specs.Calls.OnSockets.{bind, bind_at, description_of, bound_to, socket, socket_target, socketed, socketed_under, unless_fault}
@@ -70,10 +72,10 @@ abbrev pub QuietIf : ℕ → Plain → Call → Plain → Type 0
 QuietIf who old which new = wakes_nobody (no_fifo new.files) which ≡ true → IsQuiet who old new
 
 pub same_files : (files : Files) → KeepsQueues files files
-same_files files = keeps files files refl refl (same_sockets files.sockets)
+same_files files = keeps files files refl refl refl (same_sockets files.sockets)
 
 pub with_another_tree : (files : Files) (tree : Tree) → KeepsQueues files (with_tree files tree)
-with_another_tree files tree = keeps files (with_tree files tree) refl refl (same_sockets files.sockets)
+with_another_tree files tree = keeps files (with_tree files tree) refl refl refl (same_sockets files.sockets)
 
 -- what holds of all machines holds of what an answer leads to
 any_leads : (P : Plain → Type 0) → ((next : Plain) → P next) → (given : Answer) → LeadsTo P given
@@ -156,7 +158,7 @@ module _ (script : Script) (plain : Plain) (pid who : ℕ) (apart : who ≢ pid)
 
   forks : Quiet (fork script plain pid)
   forks = either (is_full plain) _ _ (record { files = still; kin = family }) (record {
-    files = keeps plain.files (with_heir plain.files pid) refl refl (same_sockets plain.files.sockets);
+    files = keeps plain.files (with_heir plain.files pid) refl refl refl (same_sockets plain.files.sockets);
     kin = same_beside_child who pid plain.table (process_at plain.table pid) apart made;
   })
 
@@ -194,7 +196,7 @@ module _ (script : Script) (plain : Plain) (pid who : ℕ) (apart : who ≢ pid)
     where
       go : (opened : Opened) (o : Option ℕ) → Quiet (duplicated script plain pid opened o)
       go opened None = record { files = still; kin = family }
-      go opened (Some fd) = record { files = keeps plain.files (shared_at plain.files pid opened fd) refl refl (same_sockets plain.files.sockets); kin = family }
+      go opened (Some fd) = record { files = keeps plain.files (shared_at plain.files pid opened fd) refl refl refl (same_sockets plain.files.sockets); kin = family }
 
   moves_offset : (fd : ℤ) (opened : Opened) (offset : ℕ) → opened_at plain.files pid fd ≡ Some opened
       → KeepsQueues plain.files (described_as plain.files opened.place (at_offset opened.is offset))
@@ -308,7 +310,7 @@ module _ (script : Script) (plain : Plain) (pid who : ℕ) (apart : who ≢ pid)
   links old new = another_tree (link_path plain.files.tree (directory_of plain.table pid) old new)
 
   frees : (r : Result (Option ℕ × Tree) Errno) → Quiet (freed_in script plain pid r)
-  frees (Ok left) = record { files = keeps plain.files (renamed plain.files left.0 left.1) refl refl (frees_names plain.files.sockets left.0); kin = family }
+  frees (Ok left) = record { files = keeps plain.files (renamed plain.files left.0 left.1) refl refl refl (frees_names plain.files.sockets left.0); kin = family }
   frees (Err e) = record { files = still; kin = family }
 
   unlinks : (path : List ℕ) → Quiet (unlink script plain pid path)
@@ -343,7 +345,7 @@ module _ (script : Script) (plain : Plain) (pid who : ℕ) (apart : who ≢ pid)
       go (Some fd) =
           let more : Files = with_sockets plain.files (with_new plain.files.sockets (length plain.files.sockets)) in
           record {
-            files = keeps_on plain.files more (socketed plain.files pid fd) (keeps plain.files more refl refl (makes_socket plain.files.sockets))
+            files = keeps_on plain.files more (socketed plain.files pid fd) (keeps plain.files more refl refl refl (makes_socket plain.files.sockets))
                 (opens_one pid fd more false (description_of (length plain.files.sockets)));
             kin = family;
           }
@@ -353,7 +355,7 @@ module _ (script : Script) (plain : Plain) (pid who : ℕ) (apart : who ≢ pid)
   binds fd path = opened_quiet fd _ (λ opened is. on opened opened.is.target)
     where
       there : (place : ℕ) (r : Result (ℕ × Tree) Errno) → Quiet (bound_to script plain pid place r)
-      there place (Ok found) = record { files = keeps plain.files (with_sockets (with_tree plain.files found.1) (with_name plain.files.sockets place (Some found.0))) refl refl (names_socket plain.files.sockets place (Some found.0)); kin = family }
+      there place (Ok found) = record { files = keeps plain.files (with_sockets (with_tree plain.files found.1) (with_name plain.files.sockets place (Some found.0))) refl refl refl (names_socket plain.files.sockets place (Some found.0)); kin = family }
       there place (Err e) = record { files = still; kin = family }
 
       free : (place : ℕ) (fault : Option Errno) → Quiet (unless_fault script plain pid fault (bound_to script plain pid place (bind_path plain.files.tree (directory_of plain.table pid) path)))
@@ -364,6 +366,14 @@ module _ (script : Script) (plain : Plain) (pid who : ℕ) (apart : who ≢ pid)
       on opened (OnNode number) = record { files = still; kin = family }
       on opened (OnPipe place) = record { files = still; kin = family }
       on opened (OnSocket place) = free place (bind_fault (socket_at plain.files.sockets place))
+
+  tells_lock : (fd kind start size : ℤ) → Quiet (getlk script plain pid fd kind start size)
+  unfolding getlk
+  tells_lock fd kind start size = opened_quiet fd _ (λ opened is. go (file_of plain.files.tree opened.is.target))
+    where
+      go : (o : Option ℕ) → Quiet (on_locks.told_of script plain pid (request_of kind start size) o)
+      go None = record { files = still; kin = family }
+      go (Some number) = record { files = still; kin = family }
 
   polls : (timeout : ℤ) (entries : List PollEntry) → Quiet (poll script plain pid timeout entries)
   unfolding poll
@@ -399,6 +409,7 @@ module _ (script : Script) (plain : Plain) (pid who : ℕ) (apart : who ≢ pid)
   right (call.Bind fd path) o e = binds fd path
   right (call.Poll timeout entries) o e = polls timeout entries
   right (call.Mkfifo path) o e = makes_fifo path
+  right (call.Getlk fd kind start size) o e = tells_lock fd kind start size
   right (call.Signal which disposition) o e = disposes which disposition
   right _ o e = cc
 
@@ -444,7 +455,7 @@ module _ (script : Script) (plain : Plain) (pid who : ℕ) (apart : who ≢ pid)
       begins : (o : Option HalfOpen) → QuietOpen path flags (open_by script plain pid path flags o)
       begins None = go (lowest_free (descriptors_of plain.files pid))
       begins (Some opening) = choose (is_met plain.files pid opening) _ _
-          (λ met none. record { files = keeps plain.files (with_opening plain.files pid None) refl refl (same_sockets plain.files.sockets); kin = family }) (λ not_yet. tt)
+          (λ met none. record { files = keeps plain.files (with_opening plain.files pid None) refl refl refl (same_sockets plain.files.sockets); kin = family }) (λ not_yet. tt)
 
   open_answer : (path : List ℕ) (flags : ℤ) → QuietOpen path flags (machine script plain pid (call.OpenFile path flags))
   open_answer path flags = go (argument_fault (call.OpenFile path flags))

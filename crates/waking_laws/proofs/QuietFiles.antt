@@ -23,20 +23,22 @@ KeepsDescribed old new =
     (place : ℕ) (was : Description) → description_at old.descriptions place ≡ Some was
     → (now : Description) × (description_at new.descriptions place ≡ Some now) × IsAlike was now
 
--- The same, and pipes and sockets are as they were.
+-- The same, and pipes, sockets and locks are as they were.
 pub record KeepsQueues (old new : Files) : Type 0 where
   pub described : KeepsDescribed old new
   pub pipes : (place : ℕ) → pipe_at new place ≡ pipe_at old place
   pub sockets : SameSockets old.sockets new.sockets
+  pub locks : new.locks ≡ old.locks
 
 pub same_sockets : (sockets : Sockets) → SameSockets sockets sockets
 same_sockets sockets = record { stage = λ place. refl; bytes = λ place. refl }
 
-pub keeps : (old new : Files) → new.descriptions ≡ old.descriptions → new.pipes ≡ old.pipes → SameSockets old.sockets new.sockets → KeepsQueues old new
-keeps old new descriptions pipes sockets = record {
+pub keeps : (old new : Files) → new.descriptions ≡ old.descriptions → new.pipes ≡ old.pipes → new.locks ≡ old.locks → SameSockets old.sockets new.sockets → KeepsQueues old new
+keeps old new descriptions pipes locks sockets = record {
   described = λ place was is. (was, ap (λ list. description_at list place) descriptions ∙ is, (refl, refl, refl));
   pipes = λ place. ap (λ list. unwrap_or (slice_index_or list place None) new_pipe) pipes;
   sockets = sockets;
+  locks = locks;
 }
 
 pub keeps_on : (old between new : Files) → KeepsQueues old between → KeepsQueues between new → KeepsQueues old new
@@ -50,6 +52,7 @@ keeps_on old between new one two = record {
     stage = λ place. behind.stage place ∙ before.stage place;
     bytes = λ place. behind.bytes place ∙ before.bytes place;
   });
+  locks = two.locks ∙ one.locks;
 }
 
 -- ---- descriptions
@@ -61,6 +64,7 @@ opens_one pid fd files cloexec description = record {
       (was, get_or_append_left files.descriptions (Some description ∷ []) None place (there_within files.descriptions place was is) ∙ is, (refl, refl, refl));
   pipes = λ place. refl;
   sockets = same_sockets files.sockets;
+  locks = refl;
 }
 
 -- one becomes another that is alike
@@ -72,6 +76,7 @@ redescribes files at was now there alike = record {
   ];
   pipes = λ place. refl;
   sockets = same_sockets files.sockets;
+  locks = refl;
 }
   where
     some_of : {one other : Description} → Some one ≡ Some other → one ≡ other
@@ -88,7 +93,7 @@ redescribes files at was now there alike = record {
 
 -- one more is made, which is as one that isn't there
 pub pipes_one : (files : Files) → KeepsQueues files (with_pipes files (files.pipes ++ Some new_pipe ∷ []))
-pipes_one files = record { described = λ place was is. (was, is, (refl, refl, refl)); pipes = λ place. go files.pipes place; sockets = same_sockets files.sockets }
+pipes_one files = record { described = λ place was is. (was, is, (refl, refl, refl)); pipes = λ place. go files.pipes place; sockets = same_sockets files.sockets; locks = refl }
   where
     go : (pipes : List (Option Pipe)) (place : ℕ) → unwrap_or (slice_index_or (pipes ++ Some new_pipe ∷ []) place None) new_pipe ≡ unwrap_or (slice_index_or pipes place None) new_pipe
     go [] zero = refl

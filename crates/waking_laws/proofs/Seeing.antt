@@ -12,6 +12,7 @@ use Rattle.kabi_types.specs.declared.short_lists.PollEntry.{PollEntry}
 use Rattle.kabi_types.specs.declared.scripts.Script.{Script}
 use Rattle.answer_laws.specs.Shapes.{may_block}
 use Rattle.answer_laws.proofs.Blocking.{blocked_may}
+use Rattle.machine_laws.proofs.LockLess.{nothing_in_way}
 use Rattle.posix_defs.proofs.SignalLemmas.{write_blocks}
 use Rattle.posix_defs.specs.Answer.{Answer, Blocked, failed, replied}
 use Rattle.posix_defs.specs.Control as program
@@ -50,7 +51,7 @@ pub record SameSockets (old new : Sockets) : Type 0 where
   pub stage : (place : ℕ) → stage_at new place ≡ stage_at old place
   pub bytes : (place : ℕ) → (socket_at new place).bytes ≡ (socket_at old place).bytes
 
--- All that the next call of a process may wait for, but for queues.
+-- All that the next call of a process may wait for, but for queues; nobody holds a lock.
 pub record SeesSame (who : ℕ) (old new : Plain) : Type 0 where
   pub control : control_of new who ≡ control_of old who
   pub memory : memory_of new.table who ≡ memory_of old.table who
@@ -60,6 +61,7 @@ pub record SeesSame (who : ℕ) (old new : Plain) : Type 0 where
   pub opened : (fd : ℤ) → SameOpened (opened_at old.files who fd) (opened_at new.files who fd)
   pub waits : opening_at new.files who ≡ opening_at old.files who
   pub opens : (place : ℕ) (writing : Bool) → opens_of (pipe_at new.files place) writing ≡ opens_of (pipe_at old.files place) writing
+  pub unlocked : (old.files.locks ≡ []) × (new.files.locks ≡ [])
 
 -- of what a number is open on, where that is a queue: it is the same, or all sockets are
 abbrev pub SeesQueue : Files → Files → Option Target → Type 0
@@ -422,6 +424,10 @@ module _ (script : Script) (who : ℕ) (old new : Plain) (same : SeesSame who ol
   quiet : (which : Call) → may_block which ≡ false → Agree (machine script new who which) (machine script old who which)
   quiet which never = goes_on_in new which never ∙ sym (goes_on_in old which never)
 
+  -- where nobody holds a lock nobody waits for one
+  waits_for_none : (plain : Plain) (fd kind start size : ℤ) → plain.files.locks ≡ [] → blocks (machine script plain who (call.Setlkw fd kind start size)) ≡ false
+  waits_for_none plain fd kind start size none = ap blocks (nothing_in_way script plain who fd kind start size none) ∙ goes_on_in plain (call.Setlk fd kind start size) refl
+
   all_agree : (which : Call) → SeesQueues who old.files new.files (awaited which) → Agree (machine script new who which) (machine script old who which)
   all_agree (call.Waitpid child options) sees = right_or_wrong (argument_fault (call.Waitpid child options)) _ _ (child_waits child options)
   all_agree (call.Read fd addr n) sees = right_or_wrong (argument_fault (call.Read fd addr n)) _ _ (read_waits fd addr n sees.0)
@@ -429,6 +435,7 @@ module _ (script : Script) (who : ℕ) (old new : Plain) (same : SeesSame who ol
   all_agree (call.Accept fd) sees = right_or_wrong (argument_fault (call.Accept fd)) _ _ (accept_waits fd sees.0)
   all_agree (call.Poll timeout entries) sees = right_or_wrong (argument_fault (call.Poll timeout entries)) _ _ (poll_waits timeout entries sees)
   all_agree (call.OpenFile path flags) sees = right_or_wrong (argument_fault (call.OpenFile path flags)) _ _ (open_waits path flags)
+  all_agree (call.Setlkw fd kind start size) sees = waits_for_none new fd kind start size same.unlocked.1 ∙ sym (waits_for_none old fd kind start size same.unlocked.0)
   all_agree which sees = quiet which refl
 
   -- its next call blocks in both or in neither, where what that waits for is the same

@@ -59,8 +59,8 @@ module _ (who : ℕ) (old new : Plain) (described : AreDescribed old.files) (con
     (numbers : descriptors_of new.files who ≡ descriptors_of old.files who) (kept : KeepsDescribed old.files new.files) (kin : SameKin who old.table new.table)
     (waits : opening_at new.files who ≡ opening_at old.files who) (opens : (place : ℕ) (writing : Bool) → opens_of (pipe_at new.files place) writing ≡ opens_of (pipe_at old.files place) writing) where
   -- what a process keeps by itself, and what it may wait for beside queues
-  pub sees : SeesSame who old new
-  sees = record {
+  pub sees : (old.files.locks ≡ []) × (new.files.locks ≡ []) → SeesSame who old new
+  sees unlocked = record {
     control = control;
     memory = ap memory_in kin.itself;
     exited = kin.exited;
@@ -69,6 +69,7 @@ module _ (who : ℕ) (old new : Plain) (described : AreDescribed old.files) (con
     opened = opened_alike who old.files new.files numbers kept described;
     waits = waits;
     opens = opens;
+    unlocked = unlocked;
   }
 
   pub itself : (script : Script) → StaysItself script who old new

@@ -1,5 +1,5 @@
 -- Which turns leave another process's call as likely to block as it was.
-use Rattle.std.specs.Prelude.{ℕ, ◌≡◌, ◌==◌, ℤ, not, Bool, true, false, List, [], ◌∷◌, map, Option, None, Some}
+use Rattle.std.specs.Prelude.{ℕ, ◌≡◌, ◌==◌, ◌&&◌, ℤ, not, Bool, true, false, List, [], ◌∷◌, length, map, Option, None, Some}
 use Rattle.std.specs.List.{list_any}
 use Rattle.std.specs.Option.{option_map}
 use Rattle.kabi_types.specs.declared.calls.Call.{Call}
@@ -25,6 +25,10 @@ is_fifos (Some pipe) = not (pipe.node == 0)
 -- no FIFO is open
 abbrev pub no_fifo : Files → Bool
 no_fifo files = not (list_any is_fifos files.pipes)
+
+-- nobody holds a lock
+abbrev pub no_lock : Files → Bool
+no_lock files = length files.locks == 0
 
 -- The calls that change nothing that another process's call may wait for: no queue, no child that is there, and of a description nothing but
 -- its offset. An open may have opened a FIFO, unless none is open behind it.
@@ -58,6 +62,7 @@ wakes_nobody no_fifo (call.Bind fd path) = true
 wakes_nobody no_fifo (call.Poll timeout entries) = true
 wakes_nobody no_fifo (call.Signal signal disposition) = true
 wakes_nobody no_fifo (call.Mkfifo path) = true
+wakes_nobody no_fifo (call.Getlk fd kind start size) = true
 wakes_nobody no_fifo _ = false
 
 -- what a call that failed was told
@@ -65,14 +70,14 @@ abbrev pub is_failure : Reply → Bool
 is_failure (reply.Fail errno) = true
 is_failure _ = false
 
--- A turn that came to this wakes nobody: it did nothing, it failed, or its call is one that changes nothing of the kind. It counts
--- whether a FIFO is open behind it.
-abbrev pub passes_by : Bool → Call → Turned → Bool
-passes_by no_fifo which turned.Sleep = true
-passes_by no_fifo which turned.Gone = true
-passes_by no_fifo which (turned.Done (reply.Fail errno)) = true
-passes_by no_fifo which (turned.Done told) = wakes_nobody no_fifo which
-passes_by no_fifo which _ = false
+-- A turn that came to this wakes nobody: it did nothing, it failed, or its call is one that changes nothing of the kind. It counts whether
+-- a FIFO is open behind it, and whether a lock is held: who waits for one waits by what others call next, so each that goes on may wake it.
+abbrev pub passes_by : Bool → Bool → Call → Turned → Bool
+passes_by no_fifo no_lock which turned.Sleep = true
+passes_by no_fifo no_lock which turned.Gone = true
+passes_by no_fifo no_lock which (turned.Done (reply.Fail errno)) = no_lock
+passes_by no_fifo no_lock which (turned.Done told) = no_lock && wakes_nobody no_fifo which
+passes_by no_fifo no_lock which _ = false
 
 -- the call didn't end its caller
 abbrev pub Lasts : Turned → Type 0

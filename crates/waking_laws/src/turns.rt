@@ -9,13 +9,14 @@ ghost use Rattle.posix_defs.specs.Plain.{Plain};
 ghost use Rattle.posix_defs.specs.Process.{is_alive};
 ghost use Rattle.posix_defs.specs.Turn.{TurnsTo};
 ghost use Rattle.posix_defs.specs.World.{World};
-ghost use Rattle.waking_laws.specs.Waking.{Lasts, StaysAsItWas, StaysItself, gives_number, is_apart, moves_through, no_fifo, passes_by, target_at};
+ghost use Rattle.waking_laws.specs.Waking.{Lasts, StaysAsItWas, StaysItself, gives_number, is_apart, moves_through, no_fifo, no_lock, passes_by, target_at};
 
-/// Behind a turn that did nothing, that failed, or whose call changes nothing that others wait for, as an open behind which no FIFO is
-/// open, each other process that lived before it lives, and its next call would block exactly where it would have before.
+/// Behind a turn that did nothing, and, where no lock is held behind it, behind one that failed or whose call changes nothing that others
+/// wait for, as an open behind which no FIFO is open, each other process that lived before it lives, and its next call would block exactly
+/// where it would have before.
 pub fn a_turn_that_passes_by_wakes_nobody()
     ensures { (script : Script) (old new : World) (pid who : ℕ) (call : Call) (told : Turned) → IsReached script old.plain
-        → TurnsTo script old pid call told new → passes_by (no_fifo new.plain.files) call told ≡ true → who ≢ pid → is_alive old.plain.table who ≡ true
+        → TurnsTo script old pid call told new → passes_by (no_fifo new.plain.files) (no_lock new.plain.files) call told ≡ true → who ≢ pid → is_alive old.plain.table who ≡ true
         → StaysAsItWas script who old.plain new.plain }
 {}
 
@@ -27,12 +28,12 @@ pub fn a_turn_leaves_others_themselves()
         → StaysItself script who old.plain new.plain }
 {}
 
-/// A turn that moves bytes, and doesn't end its process, wakes only those who wait for what its number is open on: whose next call has
-/// nothing to do with that would block exactly where it would have before.
+/// A turn that moves bytes, doesn't end its process, and leaves no lock held, wakes only those who wait for what its number is open on:
+/// whose next call has nothing to do with that would block exactly where it would have before.
 pub fn a_turn_that_moves_bytes_wakes_who_waits_there()
     ensures { (script : Script) (old new : World) (pid who : ℕ) (fd : ℤ) (call : Call) (told : Turned) → IsReached script old.plain
-        → TurnsTo script old pid call told new → moves_through call ≡ Some fd → Lasts told → who ≢ pid → is_alive old.plain.table who ≡ true
-        → is_apart script old.plain who pid fd ≡ true → StaysAsItWas script who old.plain new.plain }
+        → TurnsTo script old pid call told new → moves_through call ≡ Some fd → Lasts told → no_lock new.plain.files ≡ true → who ≢ pid
+        → is_alive old.plain.table who ≡ true → is_apart script old.plain who pid fd ≡ true → StaysAsItWas script who old.plain new.plain }
 {}
 
 /// A turn that moves bytes, and doesn't end its process, leaves its own numbers open on what they were open on.
@@ -45,7 +46,7 @@ pub fn a_turn_that_moves_bytes_leaves_its_numbers()
 /// So does one that wakes nobody and gives its process no number.
 pub fn a_turn_that_passes_by_leaves_its_numbers()
     ensures { (script : Script) (old new : World) (pid : ℕ) (fd : ℤ) (call : Call) (told : Turned) → IsReached script old.plain
-        → TurnsTo script old pid call told new → passes_by (no_fifo new.plain.files) call told ≡ true → gives_number call ≡ false
+        → TurnsTo script old pid call told new → passes_by (no_fifo new.plain.files) (no_lock new.plain.files) call told ≡ true → gives_number call ≡ false
         → target_at new.plain.files pid fd ≡ target_at old.plain.files pid fd }
 {}
 

@@ -2,12 +2,13 @@
 use Rattle.std.specs.Prelude.{ℕ, ◌∷◌, [], if◌then◌else◌, List, length, Option, None, Some}
 use Rattle.std.specs.List.{filter, range_with_len}
 use Rattle.kabi_types.specs.Arguments.{most_descriptors}
+use Rattle.posix_defs.specs.Locks.{Locks}
 use Rattle.posix_defs.specs.Pipe.{after_close as pipe_after_close}
 use Rattle.posix_defs.specs.Sockets.{after_close as sockets_after_close}
 use Rattle.posix_defs.specs.TreeChanges.{closed}
 use Rattle.posix_defs.specs.Files.Descriptors.{Descriptor, descriptor_at, is_named, is_cloexec}
 use Rattle.posix_defs.specs.Files.Descriptions.{Target, OnNode, OnPipe, OnSocket, Access, Description, description_at, with_description, may_write}
-use Rattle.posix_defs.specs.Files.State.{Files, with_descriptions, with_tree, with_sockets, with_open, descriptors_of, node_of, opens, pipe_at, with_opening, with_pipe}
+use Rattle.posix_defs.specs.Files.State.{Files, with_descriptions, with_tree, with_sockets, with_open, descriptors_of, let_go, node_of, opened_file, opens, pipe_at, with_locks, with_opening, with_pipe}
 
 -- no description opens a node any more: a file without links goes, and so does a FIFO
 abbrev pub left_node : Files → ℕ → Files
@@ -40,10 +41,17 @@ description_gone files place = gone_in files place (description_at files.descrip
 abbrev pub released : Files → ℕ → Files
 released files place = if is_named files.descriptors place then files else description_gone files place
 
--- this descriptor goes, and with the last that names it its description; nothing changes where it isn't open
+-- a process has no lock any more of the file that a description opens, if it opens one
+abbrev pub unlocked_by : Files → ℕ → Option Description → Locks
+unlocked_by files pid description = let_go files.locks pid (opened_file description)
+
+-- This descriptor goes, and with the last that names it its description; nothing changes where it isn't open. The process's locks of
+-- what it was open on go with it, whatever else has that open (POSIX fcntl, on closing).
 abbrev pub close_in : Files → ℕ → ℕ → Option Descriptor → Files
 close_in files pid fd None = files
-close_in files pid fd (Some descriptor) = released (with_open files pid fd None) descriptor.description
+close_in files pid fd (Some descriptor) =
+    with_locks (released (with_open files pid fd None) descriptor.description)
+    (unlocked_by files pid (description_at files.descriptions descriptor.description))
 
 -- after a process has closed a descriptor; one that isn't open changes nothing
 abbrev pub after_close : Files → ℕ → ℕ → Files

@@ -1,9 +1,10 @@
 -- What the plain machine knows of files: what each process has open and in which open of a FIFO it sleeps, and what there is of
--- descriptions, pipes, sockets and the tree. Each part changes by one named update.
+-- descriptions, pipes, sockets, locks and the tree. Each part changes by one named update.
 use Rattle.std.specs.Prelude.{ℕ, ◌==◌, Bool, false, List, [], ◌∷◌, ◌++◌, length, Option, None, Some, unwrap_or, slice_index_or, slice_set}
 use Rattle.std.specs.List.{list_any}
 use Rattle.std.specs.Option.{option_and_then}
 use Rattle.posix_defs.specs.ByPid.{at_pid, with_pid}
+use Rattle.posix_defs.specs.Locks.{Locks, without}
 use Rattle.posix_defs.specs.Pipe.{Pipe, fifo_of, new_pipe}
 use Rattle.posix_defs.specs.Sockets.{Sockets}
 use Rattle.posix_defs.specs.Tree.{Tree, new_tree}
@@ -16,7 +17,7 @@ pub record HalfOpen : Type 0 where
   pub fd : ℕ
   pub seen : ℕ
 
--- What each process has open, and what there is of descriptions, the tree, pipes and sockets.
+-- What each process has open, and what there is of descriptions, the tree, pipes, sockets and locks.
 pub record Files : Type 0 where
   -- of each process ever made; one that has ended has none open
   pub descriptors : List Descriptors
@@ -27,6 +28,7 @@ pub record Files : Type 0 where
   -- every pipe that was made, by its place; none once all its ends are closed
   pub pipes : List (Option Pipe)
   pub sockets : Sockets
+  pub locks : Locks
 
 -- ---- one part
 
@@ -53,6 +55,10 @@ with_pipes files pipes = record files { pipes = pipes }
 -- the files with other sockets
 abbrev pub with_sockets : Files → Sockets → Files
 with_sockets files sockets = record files { sockets = sockets }
+
+-- the files with other locks
+abbrev pub with_locks : Files → Locks → Files
+with_locks files locks = record files { locks = locks }
 
 -- ---- descriptors
 
@@ -91,6 +97,17 @@ node_of files (OnSocket place) = None
 abbrev pub opened_node : Files → Option Description → Option ℕ
 opened_node files None = None
 opened_node files (Some description) = node_of files description.target
+
+-- the node of a file or a directory that a description is open on; none of a pipe's end and of a socket
+abbrev pub file_of_target : Target → Option ℕ
+file_of_target (OnNode number) = Some number
+file_of_target (OnPipe place) = None
+file_of_target (OnSocket place) = None
+
+-- the same of a description that may be there
+abbrev pub opened_file : Option Description → Option ℕ
+opened_file None = None
+opened_file (Some description) = file_of_target description.target
 
 -- there is a number, and it is this one
 abbrev pub is_number : ℕ → Option ℕ → Bool
@@ -135,14 +152,21 @@ opening_at files pid = unwrap_or (at_pid files.openings pid) None
 abbrev pub with_opening : Files → ℕ → Option HalfOpen → Files
 with_opening files pid opening = with_openings files (with_pid files.openings pid opening)
 
+-- ---- record locks
+
+-- the locks without those of a process of a file, if it is one
+abbrev pub let_go : Locks → ℕ → Option ℕ → Locks
+let_go locks pid None = locks
+let_go locks pid (Some number) = without locks pid number
+
 -- ---- at the beginning
 
--- the first process has nothing open, and the tree is that of a new disk
+-- the first process has nothing open, nobody holds a lock, and the tree is that of a new disk
 abbrev pub boot_files : ℕ → Files
 boot_files blocks =
-    record { descriptors = none_open ∷ []; openings = None ∷ []; descriptions = []; tree = new_tree blocks; pipes = []; sockets = [] }
+    record { descriptors = none_open ∷ []; openings = None ∷ []; descriptions = []; tree = new_tree blocks; pipes = []; sockets = []; locks = [] }
 
--- a child has open what its parent has open; the descriptions are the same ones, and it sleeps in no open
+-- a child has open what its parent has open; the descriptions are the same ones, it sleeps in no open and holds no lock
 abbrev pub with_heir : Files → ℕ → Files
 with_heir files parent =
     with_openings (with_descriptors files (files.descriptors ++ descriptors_of files parent ∷ [])) (files.openings ++ None ∷ [])

@@ -1,10 +1,12 @@
 -- What every machine that is reached keeps of files.
 use Rattle.std.specs.Prelude.{ℕ, ◌+◌, ◌<◌, ◌≤◌, ◌^◌, ◌≡◌, ◌≢◌, ◌==◌, ◌&&◌, ◌||◌, pos, Bool, true, false, not, List, [], ◌∷◌, length, Option, None, Some, is_some}
-use Rattle.std.specs.List.{All, count_by}
+use Rattle.std.specs.List.{All, count_by, list_any}
 use Rattle.kabi_types.specs.Arguments.{most_descriptors}
 use Rattle.kabi_types.specs.declared.calls.Call.{Call}
 use Rattle.kabi_types.specs.declared.calls.Call.TheVariants as call
 use Rattle.kabi_types.specs.declared.scripts.Script.{Script}
+use Rattle.lock_ranges.specs.Ranges.{AreApart, IsCanonical}
+use Rattle.posix_defs.specs.Locks.{ranges_of}
 use Rattle.posix_defs.specs.Pipe.{Pipe, capacity, opens_of}
 use Rattle.posix_defs.specs.SocketLinks.{AreLinked, AreHeld, NoneTwice}
 use Rattle.posix_defs.specs.Sockets.{sock_at, socket_at}
@@ -13,9 +15,9 @@ use Rattle.posix_defs.specs.IsTree.{IsTree}
 use Rattle.posix_defs.specs.PathCalls.{is_fifo, is_socket}
 use Rattle.posix_defs.specs.Process.{is_alive, directory_of}
 use Rattle.posix_defs.specs.Plain.{Plain, call_of, control_of, last_pid}
-use Rattle.posix_defs.specs.Files.Descriptors.{is_named, none_open}
+use Rattle.posix_defs.specs.Files.Descriptors.{Descriptor, is_named, none_open}
 use Rattle.posix_defs.specs.Files.Descriptions.{Target, OnNode, OnPipe, OnSocket, Access, ReadOnly, ReadWrite, Description, Descriptions, description_at, may_read, may_write}
-use Rattle.posix_defs.specs.Files.State.{Files, HalfOpen, beside, descriptors_of, opening_at, opens, pipe_at, pipe_there}
+use Rattle.posix_defs.specs.Files.State.{Files, HalfOpen, beside, descriptors_of, is_number, opened_file, opening_at, opens, pipe_at, pipe_there}
 use Rattle.posix_defs.specs.Calls.Opened.{Opened, opened_at}
 
 -- ---- ends of pipes
@@ -99,6 +101,25 @@ pub record IsHalfOpen (files : Files) (pid : ℕ) (opening : HalfOpen) : Type 0 
   pub fifo : (pipe_at files place).node ≢ 0
   pub seen : opening.seen ≤ opens_of (pipe_at files place) (not (may_write opened.is.access))
 
+-- ---- record locks
+
+-- the descriptor is open on this file
+abbrev pub opens_by : Files → ℕ → Option Descriptor → Bool
+opens_by files number None = false
+opens_by files number (Some descriptor) = is_number number (opened_file (description_at files.descriptions descriptor.description))
+
+-- a process has this file open
+abbrev pub has_open : Files → ℕ → ℕ → Bool
+has_open files pid number = list_any (opens_by files number) (descriptors_of files pid)
+
+-- Of locks: what a process holds of a file lies apart, and is one range where it touches; no two processes hold a place that they can't
+-- both hold so; who holds some of a file has it open, and it is no directory.
+pub record AreLocks (held : Files) : Type 0 where
+  pub canonical : (pid number : ℕ) → IsCanonical (ranges_of held.locks pid number)
+  pub apart : (pid other number : ℕ) → pid ≢ other → AreApart (ranges_of held.locks pid number) (ranges_of held.locks other number)
+  pub opened : (pid number : ℕ) → ranges_of held.locks pid number ≢ [] → has_open held pid number ≡ true
+  pub files : (pid number : ℕ) → ranges_of held.locks pid number ≢ [] → is_directory held.tree number ≡ false
+
 -- ---- half-done writes
 
 -- it is a pipe or a socket, in which a write may put a part
@@ -149,6 +170,7 @@ pub record IsWhole (script : Script) (plain : Plain) : Type 0 where
   pub pipes : (place : ℕ) (pipe : Pipe) → pipe_there plain.files place ≡ Some pipe → IsPipeOf plain.files.descriptions place pipe
   pub sockets : AreSockets plain.files
   pub fifos : AreFifos plain.files
+  pub locks : AreLocks plain.files
   -- who stands at an open that it has begun waits for the other side
   pub openings : (pid : ℕ) (opening : HalfOpen) → is_alive plain.table pid ≡ true → 0 < (control_of plain pid).done
       → is_open (call_of script plain pid) ≡ true → opening_at plain.files pid ≡ Some opening → IsHalfOpen plain.files pid opening

@@ -1124,3 +1124,67 @@ returns-in-Mkfifo-clause-does c = reaches_that (c.in-Mkfifo.is ∙ ap call.Mkfif
 
 pub returns-in-Mkfifo-clause-cached : goal.returns-in-Mkfifo-clause-cached
 returns-in-Mkfifo-clause-cached c = cached_that _ _ _ _ c.in-Mkfifo.is tt
+
+-- ---- Setlk
+
+pub setlk-requires-clause-right : goal.setlk-requires-clause-right
+setlk-requires-clause-right c =
+    right_that c.requires.right (named_four c.named_by-named.ensures.number call.Setlk c.in-Setlk.is refl (search (rules, to_z-of_z)) (search (rules, to_z-of_z)) (search (rules, to_z-of_z)))
+
+pub setlk-requires-clause-pays : goal.setlk-requires-clause-pays
+setlk-requires-clause-pays c = pays c.args.objects.now.heap c.purse_for-paid.result c.args.call.now (c.purse_for-paid.ensures.within c.args.call.now c.requires.needed) c.requires.room
+
+pub setlk-requires-clause-left : goal.setlk-requires-clause-left
+setlk-requires-clause-left c =
+    subst (λ (n : Need). 2 ≤ n.lock)
+    (sym (has_left c.purse_for-paid.ensures.value (c.target_of-target.ensures.other (ap is_moving c.in-Setlk.is)) c.requires.needed c.requires.right c.in-Setlk.is)) (omega arith)
+
+pub returns-in-Setlk-clause-uses : goal.returns-in-Setlk-clause-uses
+returns-in-Setlk-clause-uses c = uses_paid _ _ _ _ _ _ c.setlk.ensures.paid (c.purse_for-paid.ensures.within c.args.call.now c.requires.needed)
+
+pub returns-in-Setlk-clause-does : goal.returns-in-Setlk-clause-does
+returns-in-Setlk-clause-does c =
+    serves_that (named_four c.named_by-named.ensures.number call.Setlk c.in-Setlk.is refl (search (rules, to_z-of_z)) (search (rules, to_z-of_z)) (search (rules, to_z-of_z))) c.setlk.ensures.does
+
+pub returns-in-Setlk-clause-cached : goal.returns-in-Setlk-clause-cached
+returns-in-Setlk-clause-cached c = cached_that _ _ _ _ c.in-Setlk.is tt
+
+-- ---- Setlkw
+
+pub setlkw-requires-clause-right : goal.setlkw-requires-clause-right
+setlkw-requires-clause-right c =
+    right_that c.requires.right (named_four c.named_by-named.ensures.number call.Setlkw c.in-Setlkw.is refl (search (rules, to_z-of_z)) (search (rules, to_z-of_z)) (search (rules, to_z-of_z)))
+
+pub setlkw-requires-clause-pays : goal.setlkw-requires-clause-pays
+setlkw-requires-clause-pays c = pays c.args.objects.now.heap c.purse_for-paid.result c.args.call.now (c.purse_for-paid.ensures.within c.args.call.now c.requires.needed) c.requires.room
+
+pub setlkw-requires-clause-left : goal.setlkw-requires-clause-left
+setlkw-requires-clause-left c =
+    subst (λ (n : Need). 2 ≤ n.lock)
+    (sym (has_left c.purse_for-paid.ensures.value (c.target_of-target.ensures.other (ap is_moving c.in-Setlkw.is)) c.requires.needed c.requires.right c.in-Setlkw.is)) (omega arith)
+
+pub returns-in-Setlkw-clause-uses : goal.returns-in-Setlkw-clause-uses
+returns-in-Setlkw-clause-uses c = uses_paid _ _ _ _ _ _ c.setlkw.ensures.paid (c.purse_for-paid.ensures.within c.args.call.now c.requires.needed)
+
+pub returns-in-Setlkw-clause-does : goal.returns-in-Setlkw-clause-does
+returns-in-Setlkw-clause-does c =
+    serves_that (named_four c.named_by-named.ensures.number call.Setlkw c.in-Setlkw.is refl (search (rules, to_z-of_z)) (search (rules, to_z-of_z)) (search (rules, to_z-of_z))) c.setlkw.ensures.does
+
+pub returns-in-Setlkw-clause-cached : goal.returns-in-Setlkw-clause-cached
+returns-in-Setlkw-clause-cached c = cached_that _ _ _ _ c.in-Setlkw.is tt
+
+-- ---- Getlk
+
+pub getlk-requires-clause-right : goal.getlk-requires-clause-right
+getlk-requires-clause-right c =
+    right_that c.requires.right (named_four c.named_by-named.ensures.number call.Getlk c.in-Getlk.is refl (search (rules, to_z-of_z)) (search (rules, to_z-of_z)) (search (rules, to_z-of_z)))
+
+pub returns-in-Getlk-clause-uses : goal.returns-in-Getlk-clause-uses
+returns-in-Getlk-clause-uses c = uses_nothing _ _ _ _ c.getlk.ensures.takes
+
+pub returns-in-Getlk-clause-does : goal.returns-in-Getlk-clause-does
+returns-in-Getlk-clause-does c =
+    serves_that (named_four c.named_by-named.ensures.number call.Getlk c.in-Getlk.is refl (search (rules, to_z-of_z)) (search (rules, to_z-of_z)) (search (rules, to_z-of_z))) c.getlk.ensures.does
+
+pub returns-in-Getlk-clause-cached : goal.returns-in-Getlk-clause-cached
+returns-in-Getlk-clause-cached c = cached_that _ _ _ _ c.in-Getlk.is tt

@@ -10,9 +10,10 @@ loop-place-init c = record {
   within = omega (arith, c.len-place.ensures);
   rising = c.requires.rising;
   truly =
-      subst (AreTrulyTold c.args.script.now c.args.objects.now) (sym (drop_all c.len-place.result c.args.told.now.items (omega (arith, c.len-place.ensures)))) (λ world stands. tt);
+      subst (AreTrulyTold c.args.script.now c.args.objects.now) (sym (drop_all c.len-place.result c.args.told.now.items (omega (arith, c.len-place.ensures)))) (λ world stands reached. tt);
   fewer = λ who none. none;
   named = names_same c.args.told.now.items c.args.stirred.now.items;
+  known = tt;
   room = omega (arith, c.len-place.ensures);
 }
 
@@ -46,6 +47,7 @@ loop-place-preserved c =
       fewer = λ who none.
           looked_fewer c.args.script.now c.args.objects.now _ _ _ within c.loop-place.invariant.rising c.look_at.ensures.looked who (c.loop-place.invariant.fewer who none);
       named = names_then _ _ _ _ _ _ c.loop-place.invariant.named c.look_at.ensures.named;
+      known = c.look_at.ensures.known;
       room =
           let room : length c.loop-place.stirred.items + c.loop-place.place ≤ length c.args.stirred.now.items + 64 = c.loop-place.invariant.room in
           omega (arith, c.look_at.ensures.room);

@@ -1,4 +1,5 @@
 use Rattle.std.proofs.Common.{◌≤◌, ◌+◌, drop, length}
+use Rattle.lock_calls.specs.Waiting.{AreKnown}
 use Rattle.call_run.specs.Sleepers.{AreFewer, AreRising, AreTrulyTold, NamesMore}
 use Rattle.call_run.proofs.sleepers.ask_each.Given as goal
 
@@ -10,6 +11,7 @@ invariant-loop-place l = record {
   truly : AreTrulyTold l.script l.objects (drop l.place l.told.items);
   fewer : AreFewer l.fn.told.items l.told.items;
   named : NamesMore l.fn.told.items l.fn.stirred.items l.told.items l.stirred.items;
+  known : AreKnown l.script l.objects l.waits;
   room : length l.stirred.items + l.place ≤ length l.fn.stirred.items + 64;
 }
 

@@ -23,12 +23,12 @@ ask-requires-clause-alive c =
 pub returns-then-runs-clause-looked : goal.returns-then-runs-clause-looked
 returns-then-runs-clause-looked c =
     asked_looked c.args.told.now.items c.deref_mut.result.now c.args.place c.ask.new.sleeper c.deref_mut.ensures.value c.requires.within c.args.script.now c.args.objects.now
-    (ap (λ (s : Sleeper). s.pid) c.ask.ensures.same) (λ world stands.
+    (ap (λ (s : Sleeper). s.pid) c.ask.ensures.same) (λ world stands reached.
     let alive =
     alive_is c.args.script.now c.args.objects.now world.plain (slice_index_or c.deref_mut.result.now c.args.place blank).pid stands.processes
     ∙ ap (λ (list : List Sleeper). is_running (procs_of c.args.objects.now) (slice_index_or list c.args.place blank).pid) (c.deref_mut.ensures.value ∙ sym c.deref.ensures.0)
     ∙ sym c.runs.ensures ∙ c.if-runs.true in
-    (alive, c.ask.ensures.blocks world stands alive))
+    (alive, c.ask.ensures.blocks world stands reached alive))
 
 pub returns-then-runs-clause-named : goal.returns-then-runs-clause-named
 returns-then-runs-clause-named c =

@@ -2,7 +2,8 @@ use Rattle.std.proofs.Common.{◌∙◌, ap, option_copied, sym}
 use Rattle.proc_table.specs.Procs.{proc_of}
 use Rattle.store_objects.specs.Objects.{procs_of}
 use Rattle.store_objects.proofs.RunningProcs.{alive_runs}
-use Rattle.call_run.proofs.Turning.{missing, next_is, up_at_call}
+use Rattle.store_objects.proofs.NextCalls.{next_is, up_at_call}
+use Rattle.call_run.proofs.Turning.{missing}
 use Rattle.call_run.proofs.turns.next.Goals as goal
 
 pub proc_at-requires : goal.proc_at-requires

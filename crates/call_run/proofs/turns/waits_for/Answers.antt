@@ -3,7 +3,8 @@ use Rattle.prog_ctl.specs.Waits.{wait_of}
 use Rattle.proc_table.specs.Procs.{proc_of}
 use Rattle.store_objects.specs.Objects.{procs_of}
 use Rattle.store_objects.proofs.RunningProcs.{alive_runs}
-use Rattle.call_run.proofs.Turning.{missing, next_is, up_at_call}
+use Rattle.store_objects.proofs.NextCalls.{next_is, up_at_call}
+use Rattle.call_run.proofs.Turning.{missing}
 use Rattle.call_run.proofs.turns.waits_for.Goals as goal
 
 pub proc-requires : goal.proc-requires

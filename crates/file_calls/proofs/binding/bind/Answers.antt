@@ -1,4 +1,5 @@
 use Rattle.std.proofs.Common.{◌≡◌, ℕ, ℤ, List, [], Option, Result, length, refl, subst, sym}
+use Rattle.answer_laws.proofs.KeptLocks.{leaves_locks}
 use Rattle.kabi_types.specs.declared.calls.Call.TheVariants as call
 use Rattle.kabi_types.specs.declared.scripts.Script.{Script}
 use Rattle.kabi_types.specs.declared.errnos.Errno.{Errno}
@@ -83,3 +84,4 @@ returns-clause-does c =
     (call.Bind c.args.on.now.fd c.args.path.now) c.args.purse.now c.bind_number-done.new.purse c.go_on.result c.go_on.new.objects c.bind_number-done.ensures.paid c.requires.needed c.bind_number-done.ensures.reads c.go_on.ensures.told c.go_on.ensures.goes
     (no_frames (call.Bind c.args.on.now.fd c.args.path.now) (λ frames pid value. refl) c.args.caller.now.place.pid c.zero.result)
     (λ world stands files then. bind_cached c.args.objects.now _ world c.args.caller.now.place.pid c.args.on.now.fd c.args.path.now c.zero.result (with_files world.plain files) c.requires.right)
+    (λ plain. leaves_locks c.args.script.now plain c.args.caller.now.place.pid (call.Bind c.args.on.now.fd c.args.path.now) refl)

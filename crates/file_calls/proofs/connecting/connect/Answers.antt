@@ -1,4 +1,5 @@
 use Rattle.std.proofs.Common.{◌≡◌, ℕ, ℤ, List, [], Option, Result, length, refl, ap, subst, sym}
+use Rattle.answer_laws.proofs.KeptLocks.{leaves_locks}
 use Rattle.kabi_types.specs.declared.calls.Call.TheVariants as call
 use Rattle.kabi_types.specs.declared.scripts.Script.{Script}
 use Rattle.kabi_types.specs.declared.errnos.Errno.{Errno}
@@ -92,3 +93,4 @@ returns-clause-does c =
     subst (λ said. LeavesCached c.args.objects.now (mid_of c.args.objects.now m.new.heap m.new.tree c.args.objects.now.names) world c.args.caller.now.place.pid (call.Connect c.args.on.now.fd c.args.path.now) said (with_files world.plain files)) (sym c.zero.ensures)
     (connect_cached c.args.script.now c.args.objects.now (mid_of c.args.objects.now m.new.heap m.new.tree c.args.objects.now.names) c.args.caller.now.place.pid c.args.caller.now.control c.requires.runs c.args.on.now.fd c.args.path.now c.args.purse.now m.result
     c.requires.right m.ensures.bytes m.ensures.saved m.ensures.kept m.ensures.found world stands files then))
+    (λ plain. leaves_locks c.args.script.now plain c.args.caller.now.place.pid (call.Connect c.args.on.now.fd c.args.path.now) refl)

@@ -1,5 +1,6 @@
 use Rattle.std.proofs.Common.{◌≡◌, ℕ, ℤ, [], None, Result, refl, ap, subst, sym, w64}
 use Rattle.std.proofs.lemmas.Int.{to_z-of_z}
+use Rattle.answer_laws.proofs.KeptLocks.{leaves_locks}
 use Rattle.kabi_types.specs.Arguments.{argument_fault}
 use Rattle.kabi_types.specs.declared.calls.Call.TheVariants as call
 use Rattle.kabi_types.specs.declared.scripts.Script.{Script}
@@ -30,7 +31,7 @@ changed : {X : Type 0} (script : Script) (old : Objects) (heap : Heap) (fs : Tre
 changed script old heap fs pid fd size as_size is said same_size tells beside world well listed owners right stays answers = record {
   world = world;
   well = well;
-  others = leaves_others old.heap heap (record old.heap { vnodes = heap.vnodes; names = heap.names; blocks = heap.blocks; high = heap.high }) beside refl refl refl refl;
+  others = leaves_others old.heap heap (record old.heap { vnodes = heap.vnodes; names = heap.names; blocks = heap.blocks; high = heap.high }) beside refl refl refl refl refl;
   nodes = ap (λ (h : Heap). h.nodes) beside;
   pages = ap (λ (h : Heap). h.pages) beside;
   listed = listed;
@@ -80,3 +81,4 @@ returns-clause-does c =
     (within_paid c.args.objects.now (mid_of c.args.objects.now c.size_number-done.new.heap c.size_number-done.new.tree) c.args.purse.now c.size_number-done.new.purse (call.Ftruncate c.args.on.now.fd c.args.size) c.size_number-done.ensures.pays.paid
     (ap (λ need. need.name) c.requires.needed) (ap (λ need. need.block) c.requires.needed) (ap (λ need. need.vnode) c.requires.needed) c.size_number-done.ensures.pays.reads)
     c.go_on.ensures.told c.go_on.ensures.goes (no_frames (call.Ftruncate c.args.on.now.fd c.args.size) (λ frames pid value. refl) c.args.caller.now.place.pid c.zero.result)
+    (λ plain. leaves_locks c.args.script.now plain c.args.caller.now.place.pid (call.Ftruncate c.args.on.now.fd c.args.size) refl)

@@ -1,5 +1,6 @@
 use Rattle.std.proofs.Common.{◌≡◌, ℕ, ◌≤◌, ℤ, [], None, Result, refl, ap, subst, sym, w64, arith}
 use Rattle.std.proofs.lemmas.Int.{to_z-of_z}
+use Rattle.answer_laws.proofs.KeptLocks.{leaves_locks}
 use Rattle.kabi_types.specs.Arguments.{argument_fault}
 use Rattle.kabi_types.specs.declared.calls.Call.TheVariants as call
 use Rattle.kabi_types.specs.declared.scripts.Script.{Script}
@@ -37,7 +38,7 @@ changed : (script : Script) (old : Objects) (heap : Heap) (fs : TreeView) (pid :
 changed script old heap fs pid fd distance whence as_distance as_whence is said same_distance same_whence tells beside world well listed owners right stays answers = record {
   world = world;
   well = well;
-  others = leaves_others old.heap heap (record old.heap { descs = heap.descs }) beside refl refl refl refl;
+  others = leaves_others old.heap heap (record old.heap { descs = heap.descs }) beside refl refl refl refl refl;
   nodes = ap (λ (h : Heap). h.nodes) beside;
   pages = ap (λ (h : Heap). h.pages) beside;
   listed = listed;
@@ -91,3 +92,4 @@ returns-clause-does c =
     c.go_on.result c.go_on.new.objects
     (within_nothing c.args.objects.now (mid_of c.args.objects.now c.seek_number-sought.new.heap c.seek_number-sought.new.tree) (call.Lseek c.args.on.now.fd c.args.distance c.args.whence) c.seek_number-sought.ensures.takes (reads_used c.args.objects.now.tree c.seek_number-sought.new.tree c.seek_number-sought.ensures.used))
     c.go_on.ensures.told c.go_on.ensures.goes (no_frames (call.Lseek c.args.on.now.fd c.args.distance c.args.whence) (λ frames pid value. refl) c.args.caller.now.place.pid c.offset.result)
+    (λ plain. leaves_locks c.args.script.now plain c.args.caller.now.place.pid (call.Lseek c.args.on.now.fd c.args.distance c.args.whence) refl)

@@ -1,5 +1,6 @@
 use Rattle.std.proofs.Common.{◌≡◌, ℕ, false, None, Some, ap, refl, subst, sym, w64}
 use Rattle.std.proofs.lemmas.Int.{to_z-of_z}
+use Rattle.answer_laws.proofs.KeptLocks.{open_leaves}
 use Rattle.kabi_types.specs.Arguments.{argument_fault}
 use Rattle.kabi_types.specs.declared.calls.Call.TheVariants as call
 use Rattle.kabi_types.specs.declared.classes.Need.{Need}
@@ -16,7 +17,7 @@ use Rattle.store_objects.specs.Objects.{procs_of}
 use Rattle.store_objects.proofs.StoreFiles.{works_somewhere}
 use Rattle.store_objects.proofs.Keeping.{listed_in}
 use Rattle.store_objects.proofs.Within.{within_paid}
-use Rattle.file_calls.proofs.CallingOpens.{alive_who_runs, bound_still, kept_mid, mid, runs_mid, serves_opening}
+use Rattle.file_calls.proofs.CallingOpens.{alive_who_runs, bound_still, kept_mid, locked_still, mid, runs_mid, serves_opening}
 use Rattle.file_calls.proofs.Opens.{leaf_left, leaves_open, one_left, pipe_left}
 use Rattle.file_calls.proofs.opening.open_anew.Goals as goal
 
@@ -51,15 +52,15 @@ pub go_on_opened-requires-clause-kept : goal.go_on_opened-requires-clause-kept
 go_on_opened-requires-clause-kept c =
     let n = c.open_path-came in
     let kept = c.requires.stands.1.kept in
-    kept_mid c.args.script.now c.args.objects.now n.new.heap n.new.tree c.args.objects.now.names n.new.fifos c.args.caller.now.place.pid c.args.caller.now.control kept c.requires.runs n.ensures.changes n.ensures.listed n.ensures.owners
-    n.ensures.chain (bound_still c.args.script.now c.args.objects.now n.new.heap kept n.ensures.socks) refl n.ensures.hold
+    kept_mid c.args.script.now c.args.objects.now n.new.heap n.new.tree c.args.objects.now.names n.new.fifos c.args.objects.now.locks c.args.caller.now.place.pid c.args.caller.now.control kept c.requires.runs n.ensures.changes n.ensures.listed n.ensures.owners
+    n.ensures.chain (locked_still c.args.objects.now n.new.heap n.ensures.locks kept.locked) (bound_still c.args.script.now c.args.objects.now n.new.heap kept n.ensures.socks) refl n.ensures.hold
 
 pub go_on_opened-requires-clause-runs : goal.go_on_opened-requires-clause-runs
 go_on_opened-requires-clause-runs c =
     let n = c.open_path-came in
     let kept = c.requires.stands.1.kept in
-    runs_mid c.args.script.now c.args.objects.now n.new.heap n.new.tree c.args.objects.now.names n.new.fifos c.args.caller.now.place.pid c.args.caller.now.control kept c.requires.runs n.ensures.changes n.ensures.listed n.ensures.owners
-    n.ensures.chain (bound_still c.args.script.now c.args.objects.now n.new.heap kept n.ensures.socks) refl n.ensures.hold
+    runs_mid c.args.script.now c.args.objects.now n.new.heap n.new.tree c.args.objects.now.names n.new.fifos c.args.objects.now.locks c.args.caller.now.place.pid c.args.caller.now.control kept c.requires.runs n.ensures.changes n.ensures.listed n.ensures.owners
+    n.ensures.chain (locked_still c.args.objects.now n.new.heap n.ensures.locks kept.locked) (bound_still c.args.script.now c.args.objects.now n.new.heap kept n.ensures.socks) refl n.ensures.hold
 
 pub returns-clause-paid : goal.returns-clause-paid
 returns-clause-paid c =
@@ -78,12 +79,13 @@ returns-clause-does c =
     let which = call.OpenFile path c.args.flags in
     let flags = to_z-of_z w64 c.args.flags c.ranges.flags in
     let bound = bound_still script old n.new.heap kept n.ensures.socks in
-    let then = mid script old n.new.heap n.new.tree old.names n.new.fifos pid c.args.caller.now.control kept c.requires.runs n.ensures.changes n.ensures.listed n.ensures.owners n.ensures.chain bound refl n.ensures.hold in
-    serves_opening script old n.new.heap n.new.tree old.names n.new.fifos pid c.args.caller.now.control kept c.requires.runs n.ensures.changes n.ensures.listed n.ensures.owners n.ensures.chain bound refl n.ensures.hold
+    let then = mid script old n.new.heap n.new.tree old.names n.new.fifos old.locks pid c.args.caller.now.control kept c.requires.runs n.ensures.changes n.ensures.listed n.ensures.owners n.ensures.chain (locked_still old n.new.heap n.ensures.locks kept.locked) bound refl n.ensures.hold in
+    serves_opening script old n.new.heap n.new.tree old.names n.new.fifos old.locks pid c.args.caller.now.control kept c.requires.runs n.ensures.changes n.ensures.listed n.ensures.owners n.ensures.chain (locked_still old n.new.heap n.ensures.locks kept.locked) bound refl n.ensures.hold
     which c.go_on_opened.result c.go_on_opened.new.objects (λ plain. open_by script plain pid path c.args.flags None) c.heap_is_well_formed.ensures
     (within_paid old then c.args.purse.now n.new.purse which n.ensures.paid
     (ap (λ (need : Need). need.name) c.requires.needed) (ap (λ (need : Need). need.block) c.requires.needed) (ap (λ (need : Need). need.vnode) c.requires.needed) n.ensures.reads)
-    n.ensures.queues (λ frames said. no_frames which (λ frames pid value. refl) pid said frames) n.result c.go_on_opened.ensures.told c.go_on_opened.ensures.goes
+    n.ensures.queues (λ frames said. no_frames which (λ frames pid value. refl) pid said frames)
+    (record { shelf = n.ensures.locks; first = refl }) (λ plain. open_leaves script plain pid path c.args.flags None) n.result c.go_on_opened.ensures.told c.go_on_opened.ensures.goes
     (λ numbers others plain table hold.
     subst (λ z. AnswersOpening numbers others old.heap n.new.heap old.procs n.new.tree script plain pid (open_by script plain pid path z None) n.result) flags
     (n.ensures.answers numbers others script plain table hold))

@@ -1,5 +1,6 @@
 use Rattle.std.proofs.Common.{◌≡◌, ℕ, ℤ, None, Result, refl, ap, subst, sym, w64}
 use Rattle.std.proofs.lemmas.Int.{to_z-of_z}
+use Rattle.answer_laws.proofs.KeptLocks.{leaves_locks}
 use Rattle.kabi_types.specs.Arguments.{argument_fault}
 use Rattle.kabi_types.specs.declared.calls.Call.TheVariants as call
 use Rattle.kabi_types.specs.declared.scripts.Script.{Script}
@@ -31,7 +32,7 @@ moved : (script : Script) (old : Objects) (heap : Heap) (fs : TreeView) (pid : �
 moved script old heap fs pid fd addr n as_addr as_n count said same_addr same_n tells beside world well is right stays leads = record {
   world = world;
   well = well;
-  others = leaves_others old.heap heap (record old.heap { nodes = heap.nodes; pages = heap.pages; descs = heap.descs; blocks = heap.blocks; high = heap.high }) beside refl refl refl refl;
+  others = leaves_others old.heap heap (record old.heap { nodes = heap.nodes; pages = heap.pages; descs = heap.descs; blocks = heap.blocks; high = heap.high }) beside refl refl refl refl refl;
   is = is;
   names = record { right = right; paths = refl; numbers = refl; leaves = λ plain pid. refl; walks = refl };
   stays = stays;
@@ -82,7 +83,7 @@ returns-clause-does c =
     c.go_on.result c.go_on.new.objects
     (within_paid c.args.objects.now (mid_of c.args.objects.now c.read_entries-moved.new.heap c.read_entries-moved.new.tree) c.args.purse.now c.read_entries-moved.new.purse (call.Readdir c.args.on.now.fd c.args.addr c.args.n) c.read_entries-moved.ensures.paid
     (ap (λ need. need.name) c.requires.needed) (ap (λ need. need.block) c.requires.needed) (ap (λ need. need.vnode) c.requires.needed) c.read_entries-moved.ensures.reads)
-    c.go_on.ensures.told c.go_on.ensures.goes (λ plain. readdir_kin c.args.script.now plain c.args.caller.now.place.pid c.args.on.now.fd c.args.addr c.args.n)
+    c.go_on.ensures.told c.go_on.ensures.goes (λ plain. readdir_kin c.args.script.now plain c.args.caller.now.place.pid c.args.on.now.fd c.args.addr c.args.n) (λ plain. leaves_locks c.args.script.now plain c.args.caller.now.place.pid (call.Readdir c.args.on.now.fd c.args.addr c.args.n) refl)
 
 pub returns-clause-cached : goal.returns-clause-cached
 returns-clause-cached c =

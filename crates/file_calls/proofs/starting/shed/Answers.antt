@@ -14,6 +14,9 @@ close_at_exec-requires-clause-owners c = c.requires.stands.1.kept.owners
 pub close_at_exec-requires-clause-chain : goal.close_at_exec-requires-clause-chain
 close_at_exec-requires-clause-chain c = c.requires.stands.1.kept.chain
 
+pub close_at_exec-requires-clause-locked : goal.close_at_exec-requires-clause-locked
+close_at_exec-requires-clause-locked c = c.requires.stands.1.kept.locked
+
 pub close_at_exec-requires-clause-hold : goal.close_at_exec-requires-clause-hold
 close_at_exec-requires-clause-hold c =
     holds_some_names c.args.script.now c.args.objects.now c.requires.stands.0 c.requires.stands.1 c.requires.stands.2 c.heap_is_well_formed.ensures
@@ -28,14 +31,14 @@ returns-clause-kept c =
     let n = c.close_at_exec in
     let kept = c.requires.stands.1.kept in
     kept_turned c.args.script.now c.args.objects.now _ kept
-    (moves_shed c.args.script.now c.args.objects.now n.new.heap n.new.tree n.new.names n.new.fifos c.args.place.pid kept c.requires.alive n.ensures.changes n.ensures.listed n.ensures.owners n.ensures.chain n.ensures.places n.ensures.hold)
+    (moves_shed c.args.script.now c.args.objects.now n.new.heap n.new.tree n.new.names n.new.fifos n.new.locks c.args.place.pid kept c.requires.alive n.ensures.changes n.ensures.listed n.ensures.owners n.ensures.chain n.ensures.locked n.ensures.places n.ensures.hold)
 
 pub returns-clause-runs : goal.returns-clause-runs
 returns-clause-runs c = λ control runs.
     let n = c.close_at_exec in
     let kept = c.requires.stands.1.kept in
     runs_turned c.args.objects.now _ c.args.place.pid control
-    (moves_shed c.args.script.now c.args.objects.now n.new.heap n.new.tree n.new.names n.new.fifos c.args.place.pid kept c.requires.alive n.ensures.changes n.ensures.listed n.ensures.owners n.ensures.chain n.ensures.places n.ensures.hold) runs
+    (moves_shed c.args.script.now c.args.objects.now n.new.heap n.new.tree n.new.names n.new.fifos n.new.locks c.args.place.pid kept c.requires.alive n.ensures.changes n.ensures.listed n.ensures.owners n.ensures.chain n.ensures.locked n.ensures.places n.ensures.hold) runs
 
 pub returns-clause-uses : goal.returns-clause-uses
 returns-clause-uses c =
@@ -51,5 +54,5 @@ pub returns-clause-closed : goal.returns-clause-closed
 returns-clause-closed c = λ world stands sound.
     let n = c.close_at_exec in
     let kept = c.requires.stands.1.kept in
-    stands_shed c.args.script.now c.args.objects.now n.new.heap n.new.tree n.new.names n.new.fifos c.args.place.pid kept c.requires.alive n.ensures.changes n.ensures.listed n.ensures.owners n.ensures.chain n.ensures.places n.ensures.hold
-    n.ensures.queues c.heap_is_well_formed.ensures n.ensures.closed world stands sound
+    stands_shed c.args.script.now c.args.objects.now n.new.heap n.new.tree n.new.names n.new.fifos n.new.locks c.args.place.pid kept c.requires.alive n.ensures.changes n.ensures.listed n.ensures.owners n.ensures.chain n.ensures.locked n.ensures.places n.ensures.hold
+    n.ensures.queues c.heap_is_well_formed.ensures n.ensures.closed n.ensures.locks world stands sound

@@ -18,7 +18,7 @@ forget_memory-requires-clause-alive c = alive_who_runs c.args.objects.now c.args
 pub shed-requires-clause-stands : goal.shed-requires-clause-stands
 shed-requires-clause-stands c =
     let some = c.requires.stands in
-    (forgotten_in some.0 c.args.caller.now.place.pid, c.forget_memory.ensures.forgotten c.args.script.now some.0 some.1, record { nodes = some.2.nodes; names = some.2.names })
+    (forgotten_in some.0 c.args.caller.now.place.pid, c.forget_memory.ensures.forgotten c.args.script.now some.0 some.1, record { nodes = some.2.nodes; names = some.2.names; locks = some.2.locks })
 
 pub shed-requires-clause-alive : goal.shed-requires-clause-alive
 shed-requires-clause-alive c = alive_who_runs c.forget_memory.new.objects c.args.caller.now.place.pid c.args.caller.now.control (c.forget_memory.ensures.runs c.args.caller.now.control c.requires.runs)
@@ -51,7 +51,7 @@ returns-clause-starts c = λ world stands sound.
     let first = forgotten_in world pid in
     subst (λ (fs : TreeView). StandsFor script c.begin.new.objects (started_in script fs world pid c.args.program)) (sym c.begin.ensures.tree)
     (c.begin.ensures.begins (shed_in c.shed.new.objects.tree first pid)
-    (c.shed.ensures.closed first (c.forget_memory.ensures.forgotten script world stands) (record { nodes = sound.nodes; names = sound.names })))
+    (c.shed.ensures.closed first (c.forget_memory.ensures.forgotten script world stands) (record { nodes = sound.nodes; names = sound.names; locks = sound.locks })))
 
 pub shed-requires-clause-placed : goal.shed-requires-clause-placed
 shed-requires-clause-placed c = placed_on c.args.objects.now c.forget_memory.new.objects c.args.caller.now.place c.forget_memory.ensures.procs c.requires.placed

@@ -50,6 +50,9 @@ listed kind.Shutdown = (39, lit< tt, refl)
 listed kind.Poll = (40, lit< tt, refl)
 listed kind.Signal = (41, lit< tt, refl)
 listed kind.Mkfifo = (42, lit< tt, refl)
+listed kind.Setlk = (43, lit< tt, refl)
+listed kind.Setlkw = (44, lit< tt, refl)
+listed kind.Getlk = (45, lit< tt, refl)
 
 pub returns-clause-listed : goal.returns-clause-listed
 returns-clause-listed c = listed

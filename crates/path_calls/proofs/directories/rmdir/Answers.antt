@@ -1,4 +1,4 @@
-use Rattle.std.proofs.Common.{◌≡◌, ◌∙◌, rules}
+use Rattle.std.proofs.Common.{◌≡◌, ◌∙◌, rules, sym}
 use Rattle.kabi_types.specs.declared.calls.Call.TheVariants as call
 use Rattle.posix_defs.specs.Calls.OnNames.{rmdir}
 use Rattle.store_objects.specs.Trees.{pins_in}
@@ -6,11 +6,17 @@ use Rattle.path_calls.specs.Nodes.{has_node}
 use Rattle.path_calls.proofs.Changed.{kept_mid, leads, paid_on}
 use Rattle.path_calls.proofs.Led.{at_directory, led_keeps, rmdir_changes, rmdir_leads}
 use Rattle.path_calls.proofs.HeldBy.{told_held}
+use Rattle.path_calls.proofs.NoFifo.{no_nodes}
 use Rattle.store_objects.proofs.Keeping.{listed_in}
 use Rattle.path_calls.proofs.directories.rmdir.Goals as goal
 
 pub add_all_held-requires-clause-listed : goal.add_all_held-requires-clause-listed
 add_all_held-requires-clause-listed c = listed_in c.args.script.now c.args.objects.now (let some = c.requires.stands in some.1.kept)
+
+pub add_all_held-requires-clause-fifos : goal.add_all_held-requires-clause-fifos
+add_all_held-requires-clause-fifos c =
+    let some = c.requires.stands in
+    λ none. no_nodes c.args.objects.now.heap c.args.objects.now.fifos some.1.kept.chain (sym c.is_empty-no_fifo.ensures ∙ none)
 
 pub remove_dir-gone-requires-clause-stands : goal.remove_dir-gone-requires-clause-stands
 remove_dir-gone-requires-clause-stands c =

@@ -1,4 +1,4 @@
-use Rattle.std.proofs.Common.{◌≡◌, ◌∙◌, refl, rules}
+use Rattle.std.proofs.Common.{◌≡◌, ◌∙◌, refl, rules, sym}
 use Rattle.kabi_types.specs.declared.calls.Call.TheVariants as call
 use Rattle.kheap_laws.proofs.PaidLemmas.{TakesNothing-trans}
 use Rattle.posix_defs.specs.Calls.OnNames.{rename}
@@ -9,12 +9,18 @@ use Rattle.path_calls.proofs.Busy.{holds_no_socket}
 use Rattle.path_calls.proofs.Changed.{kept_mid, paid_on}
 use Rattle.path_calls.proofs.Freeing.{kept_gone, runs_gone, serves}
 use Rattle.path_calls.proofs.HeldBy.{told_held}
+use Rattle.path_calls.proofs.NoFifo.{no_nodes}
 use Rattle.store_objects.proofs.Keeping.{listed_in}
 use Rattle.path_calls.proofs.Led.{at_directory, freed_keeps, rename_changes, rename_leads}
 use Rattle.path_calls.proofs.names.rename.Goals as goal
 
 pub add_all_held-requires-clause-listed : goal.add_all_held-requires-clause-listed
 add_all_held-requires-clause-listed c = listed_in c.args.script.now c.args.objects.now (let some = c.requires.stands in some.1.kept)
+
+pub add_all_held-requires-clause-fifos : goal.add_all_held-requires-clause-fifos
+add_all_held-requires-clause-fifos c =
+    let some = c.requires.stands in
+    λ none. no_nodes c.args.objects.now.heap c.args.objects.now.fifos some.1.kept.chain (sym c.is_empty-no_fifo.ensures ∙ none)
 
 pub rename_name-renamed-requires-clause-stands : goal.rename_name-renamed-requires-clause-stands
 rename_name-renamed-requires-clause-stands c =

@@ -93,5 +93,5 @@ returns-in-Err-clause-does c =
 
 pub go_on-requires-clause-placed : goal.go_on-requires-clause-placed
 go_on-requires-clause-placed c =
-    placed_on (record { heap = c.enter.new.heap; procs = c.args.objects.now.procs; tree = c.enter.new.self; names = c.args.objects.now.names; fifos = c.args.objects.now.fifos }) c.work_in.new.objects
+    placed_on (record { heap = c.enter.new.heap; procs = c.args.objects.now.procs; tree = c.enter.new.self; names = c.args.objects.now.names; fifos = c.args.objects.now.fifos; locks = c.args.objects.now.locks }) c.work_in.new.objects
     c.args.caller.now.place c.work_in.ensures.procs c.requires.placed

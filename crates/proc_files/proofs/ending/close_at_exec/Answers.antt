@@ -1,4 +1,5 @@
 use Rattle.std.proofs.Common.{◌∙◌, ap, subst}
+use Rattle.lock_table.specs.Chain.{HoldsLocks}
 use Rattle.posix_defs.specs.Files.Closing.{after_exec_of}
 use Rattle.posix_defs.specs.Files.State.{Files}
 use Rattle.proc_files.specs.Ending.{OnlyGoes, is_marked}
@@ -14,6 +15,13 @@ returns-clause-closed c = λ numbers others files hold.
     (exec_rest (is_marked c.marks_of-marks.result) numbers c.args.heap.now c.args.procs.now files c.args.place.pid c.reach_of-below.result c.reach_of-below.ensures.within c.marks_of-marks.ensures.below c.marks_of-marks.ensures.behind
     c.reach_of-below.ensures.rest hold.held.opened)
     (c.close_marked.ensures.closed numbers others files hold)
+
+pub returns-clause-locks : goal.returns-clause-locks
+returns-clause-locks c = λ numbers others files hold held.
+    subst (λ (f : Files). HoldsLocks c.close_marked.new.heap.locks c.close_marked.new.locks f.locks)
+    (exec_rest (is_marked c.marks_of-marks.result) numbers c.args.heap.now c.args.procs.now files c.args.place.pid c.reach_of-below.result c.reach_of-below.ensures.within c.marks_of-marks.ensures.below c.marks_of-marks.ensures.behind
+    c.reach_of-below.ensures.rest hold.held.opened)
+    (c.close_marked.ensures.locks numbers others files hold held)
 
 pub returns-clause-stays : goal.returns-clause-stays
 returns-clause-stays c = λ numbers others files hold none.

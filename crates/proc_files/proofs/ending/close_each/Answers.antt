@@ -1,4 +1,5 @@
 use Rattle.std.proofs.Common.{is_some, ap, ◌∙◌, refl, subst, sym}
+use Rattle.lock_table.specs.Chain.{HoldsLocks}
 use Rattle.posix_defs.specs.Files.State.{Files}
 use Rattle.proc_numbers.proofs.Fronts.{queues_same}
 use Rattle.proc_files.specs.Ending.{OnlyGoes, closed_each, is_marked}
@@ -18,6 +19,13 @@ returns-then-has_none_open-clause-closed c =
     subst (HoldNames numbers others c.args.heap.now c.args.procs.now c.args.tree.now c.args.names.now)
     (sym (ends_same numbers c.args.heap.now c.args.procs.now files c.args.place.pid it (c.has_none_open.ensures c.if-has_none_open.true it.proc it.found) hold.held.opened)) hold
 
+pub returns-then-has_none_open-clause-locks : goal.returns-then-has_none_open-clause-locks
+returns-then-has_none_open-clause-locks c =
+    λ numbers others files hold held.
+    let it = (is_at c.args.heap.now c.args.procs.now c.args.place.pid c.requires.listed (ap is_some c.requires.there)) in
+    subst (λ (f : Files). HoldsLocks c.args.heap.now.locks c.args.locks.now f.locks)
+    (sym (ends_same numbers c.args.heap.now c.args.procs.now files c.args.place.pid it (c.has_none_open.ensures c.if-has_none_open.true it.proc it.found) hold.held.opened)) held
+
 pub returns-then-has_none_open-clause-closes : goal.returns-then-has_none_open-clause-closes
 returns-then-has_none_open-clause-closes c =
     let it = (is_at c.args.heap.now c.args.procs.now c.args.place.pid c.requires.listed (ap is_some c.requires.there)) in
@@ -35,6 +43,14 @@ returns-clause-closed c =
     (end_rest numbers c.args.heap.now c.close_marked.new.heap c.args.procs.now files c.args.place.pid c.reach_of-below.result (is_marked c.all_marks-marks.result) c.all_marks-marks.ensures c.reach_of-below.ensures.within c.requires.listed c.close_marked.ensures.listed
     c.reach_of-below.ensures.rest c.close_marked.ensures.closes (c.close_marked.ensures.closed numbers others files hold).held.opened)
     (c.close_marked.ensures.closed numbers others files hold)
+
+pub returns-clause-locks : goal.returns-clause-locks
+returns-clause-locks c =
+    λ numbers others files hold held.
+    subst (λ (f : Files). HoldsLocks c.close_marked.new.heap.locks c.close_marked.new.locks f.locks)
+    (end_rest numbers c.args.heap.now c.close_marked.new.heap c.args.procs.now files c.args.place.pid c.reach_of-below.result (is_marked c.all_marks-marks.result) c.all_marks-marks.ensures c.reach_of-below.ensures.within c.requires.listed c.close_marked.ensures.listed
+    c.reach_of-below.ensures.rest c.close_marked.ensures.closes (c.close_marked.ensures.closed numbers others files hold).held.opened)
+    (c.close_marked.ensures.locks numbers others files hold held)
 
 pub returns-clause-closes : goal.returns-clause-closes
 returns-clause-closes c =

@@ -1,4 +1,5 @@
 use Rattle.std.proofs.Common.{is_some, ap, ◌≡◌, ℕ, cond, refl, subst, sym}
+use Rattle.lock_table.specs.Chain.{HoldsLocks}
 use Rattle.memfs_ops.proofs.CachedLemmas.{cached_still}
 use Rattle.posix_defs.specs.Files.Closing.{after_close}
 use Rattle.proc_numbers.proofs.Fronts.{queues_same}
@@ -14,6 +15,10 @@ pub returns-then-not-marked-clause-closed : goal.returns-then-not-marked-clause-
 returns-then-not-marked-clause-closed c = λ numbers others files hold.
     subst (λ b. HoldNames numbers others c.args.heap.now c.args.procs.now c.args.tree.now c.args.names.now (cond b (after_close files c.args.place.pid c.args.fd) files)) (sym c.if-not-marked.true) hold
 
+pub returns-then-not-marked-clause-locks : goal.returns-then-not-marked-clause-locks
+returns-then-not-marked-clause-locks c = λ numbers others files hold held.
+    subst (λ b. HoldsLocks c.args.heap.now.locks c.args.locks.now (cond b (after_close files c.args.place.pid c.args.fd) files).locks) (sym c.if-not-marked.true) held
+
 pub returns-then-not-marked-clause-closes : goal.returns-then-not-marked-clause-closes
 returns-then-not-marked-clause-closes c =
     subst (ClosesIf c.args.heap.now c.args.heap.now c.args.procs.now c.args.place.pid c.args.fd) (sym c.if-not-marked.true)
@@ -26,6 +31,11 @@ pub returns-clause-closed : goal.returns-clause-closed
 returns-clause-closed c = λ numbers others files hold.
     subst (λ b. HoldNames numbers others c.close_at.new.heap c.args.procs.now c.close_at.new.tree c.close_at.new.names (cond b (after_close files c.args.place.pid c.args.fd) files)) (sym c.if-not-marked.false)
     (c.close_at.ensures.closed numbers others files hold)
+
+pub returns-clause-locks : goal.returns-clause-locks
+returns-clause-locks c = λ numbers others files hold held.
+    subst (λ b. HoldsLocks c.close_at.new.heap.locks c.close_at.new.locks (cond b (after_close files c.args.place.pid c.args.fd) files).locks) (sym c.if-not-marked.false)
+    (c.close_at.ensures.locks numbers others files hold held)
 
 pub returns-clause-closes : goal.returns-clause-closes
 returns-clause-closes c =

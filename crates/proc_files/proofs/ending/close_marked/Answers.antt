@@ -1,4 +1,5 @@
 use Rattle.std.proofs.Common.{is_some, ap, ◌≡◌, ◌+◌, ◌∙◌, ℕ, cond, suc, refl, sym, subst, arith}
+use Rattle.lock_table.specs.Chain.{HoldsLocks}
 use Rattle.memfs_ops.proofs.CachedLemmas.{cached_still, cached_then}
 use Rattle.kheap_laws.proofs.PaidLemmas.{IsPaid-refl, IsPaid-trans}
 use Rattle.posix_defs.specs.Files.Closing.{after_close}
@@ -14,9 +15,11 @@ use Rattle.proc_files.proofs.ending.close_marked.Goals as goal
 pub loop-fd-init : goal.loop-fd-init
 loop-fd-init c = record {
   closed = λ numbers others files hold. hold;
+  locks = λ numbers others files hold held. held;
   listed = c.requires.listed;
   owners = c.requires.owners;
   chain = c.requires.chain;
+  locked = c.requires.locked;
   hold = c.requires.hold;
   closes = marked_begins c.args.heap.now c.args.procs.now c.args.place.pid (is_marked c.args.marks.now) (is_at c.args.heap.now c.args.procs.now c.args.place.pid c.requires.listed (ap is_some c.requires.there));
   queues = queues_same c.args.heap.now c.args.heap.now refl refl;
@@ -45,9 +48,15 @@ loop-fd-preserved c =
           subst (λ n. HoldNames numbers others new c.args.procs.now c.close_if.new.tree c.close_if.new.names (closed_where (is_marked c.args.marks.now) files c.args.place.pid n)) (next_one fd)
           (subst (λ b. HoldNames numbers others new c.args.procs.now c.close_if.new.tree c.close_if.new.names (cond b (after_close before c.args.place.pid fd) before)) c.mark_at-marked.ensures
           (c.close_if.ensures.closed numbers others before (was.closed numbers others files hold)));
+      locks = λ numbers others files hold held.
+          let before = closed_where (is_marked c.args.marks.now) files c.args.place.pid fd in
+          subst (λ n. HoldsLocks new.locks c.close_if.new.locks (closed_where (is_marked c.args.marks.now) files c.args.place.pid n).locks) (next_one fd)
+          (subst (λ b. HoldsLocks new.locks c.close_if.new.locks (cond b (after_close before c.args.place.pid fd) before).locks) c.mark_at-marked.ensures
+          (c.close_if.ensures.locks numbers others before (was.closed numbers others files hold) (was.locks numbers others files hold held)));
       listed = c.close_if.ensures.listed;
       owners = c.close_if.ensures.owners;
       chain = c.close_if.ensures.chain;
+      locked = c.close_if.ensures.locked;
       hold = c.close_if.ensures.hold;
       closes =
           subst (ClosesMarked c.args.heap.now new c.args.procs.now c.args.place.pid (is_marked c.args.marks.now)) (next_one fd)
@@ -83,6 +92,11 @@ pub returns-clause-closed : goal.returns-clause-closed
 returns-clause-closed c = λ numbers others files hold.
     subst (λ n. HoldNames numbers others c.loop-fd.heap c.args.procs.now c.loop-fd.tree c.loop-fd.names (closed_where (is_marked c.args.marks.now) files c.args.place.pid n)) (let e : c.loop-fd.fd ≡ c.args.below = omega arith in e)
     (c.loop-fd.invariant.closed numbers others files hold)
+
+pub returns-clause-locks : goal.returns-clause-locks
+returns-clause-locks c = λ numbers others files hold held.
+    subst (λ n. HoldsLocks c.loop-fd.heap.locks c.loop-fd.locks (closed_where (is_marked c.args.marks.now) files c.args.place.pid n).locks) (let e : c.loop-fd.fd ≡ c.args.below = omega arith in e)
+    (c.loop-fd.invariant.locks numbers others files hold held)
 
 pub returns-clause-closes : goal.returns-clause-closes
 returns-clause-closes c =

@@ -1,5 +1,6 @@
 use Rattle.std.proofs.Common.{◌≡◌, ◌≤◌, ℕ, [], length}
 use Rattle.fifo_nodes.specs.Chain.{IsChain}
+use Rattle.lock_table.specs.Chain.{HoldsLocks, IsLockTable}
 use Rattle.memfs_ops.specs.Closing.{KeepsCached}
 use Rattle.kheap_slabs.specs.Paid.{IsPaid}
 use Rattle.open_laws.specs.Owned.{HasItsOwners}
@@ -18,9 +19,12 @@ abbrev pub invariant-loop-fd : goal.invariant-loop-fd
 invariant-loop-fd l = record {
   closed : (numbers : Numbers) (others : ℕ → ℕ) (files : Files) → HoldNames numbers others l.fn.heap l.procs l.fn.tree l.fn.names files
       → HoldNames numbers others l.heap l.procs l.tree l.names (closed_where (is_marked l.marks) files l.place.pid l.fd);
+  locks : (numbers : Numbers) (others : ℕ → ℕ) (files : Files) → HoldNames numbers others l.fn.heap l.procs l.fn.tree l.fn.names files → HoldsLocks l.fn.heap.locks l.fn.locks files.locks
+      → HoldsLocks l.heap.locks l.locks (closed_where (is_marked l.marks) files l.place.pid l.fd).locks;
   listed : AreListed l.heap l.procs;
   owners : HasItsOwners l.heap [];
   chain : IsChain l.heap l.fifos;
+  locked : IsLockTable l.heap.locks l.locks;
   hold : HoldSomeNames l.heap l.procs l.tree l.names;
   closes : ClosesMarked l.fn.heap l.heap l.procs l.place.pid (is_marked l.marks) l.fd;
   queues : QueuesStand l.fn.heap l.heap;

@@ -132,6 +132,9 @@ returns-in-Some-clause-queues c =
 pub returns-in-Some-clause-socks : goal.returns-in-Some-clause-socks
 returns-in-Some-clause-socks c = c.open_new.ensures.socks ∙ ap (λ (h : Heap). h.socks) c.open_end-pipe.ensures.opens.others.kept
 
+pub returns-in-Some-clause-locks : goal.returns-in-Some-clause-locks
+returns-in-Some-clause-locks c = c.open_new.ensures.locks ∙ ap (λ (h : Heap). h.locks) c.open_end-pipe.ensures.opens.others.kept
+
 pub returns-in-Some-clause-paid : goal.returns-in-Some-clause-paid
 returns-in-Some-clause-paid c =
     IsPaid-trans c.args.heap.now c.args.purse.now c.open_end-pipe.new.heap c.open_end-pipe.new.purse c.open_new.new.heap c.open_new.new.purse c.open_end-pipe.ensures.paid c.open_new.ensures.paid
@@ -191,6 +194,9 @@ returns-in-None-clause-queues c =
 
 pub returns-in-None-clause-socks : goal.returns-in-None-clause-socks
 returns-in-None-clause-socks c = c.open_new.ensures.socks ∙ ap (λ (h : Heap). h.socks) c.open_end-pipe.ensures.opens.others.kept
+
+pub returns-in-None-clause-locks : goal.returns-in-None-clause-locks
+returns-in-None-clause-locks c = c.open_new.ensures.locks ∙ ap (λ (h : Heap). h.locks) c.open_end-pipe.ensures.opens.others.kept
 
 pub returns-in-None-clause-paid : goal.returns-in-None-clause-paid
 returns-in-None-clause-paid c =

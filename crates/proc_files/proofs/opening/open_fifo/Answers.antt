@@ -10,7 +10,7 @@ use Rattle.proc_numbers.proofs.Changes.{changes_nothing}
 use Rattle.proc_numbers.proofs.Fronts.{queues_same}
 use Rattle.proc_files.specs.Holders.{holders}
 use Rattle.proc_files.specs.Opening.{HaveAnew, end_came, opened_answer}
-use Rattle.proc_files.proofs.Beside.{listed_beside, owners_beside, same_pipes, same_socks}
+use Rattle.proc_files.proofs.Beside.{listed_beside, owners_beside, same_locks, same_pipes, same_socks}
 use Rattle.proc_files.proofs.Changing.{caches_before, holding_of}
 use Rattle.proc_files.proofs.FifoOpens.{end_answers, end_fault, end_leaves, fault_leaves, less_more, linked, positive}
 use Rattle.proc_files.proofs.Holding.{stands_on}
@@ -86,6 +86,9 @@ returns-in-Some-clause-queues c =
 
 pub returns-in-Some-clause-socks : goal.returns-in-Some-clause-socks
 returns-in-Some-clause-socks c = same_socks c.args.heap.now c.close_node.new.heap c.close_node.ensures.pays.only
+
+pub returns-in-Some-clause-locks : goal.returns-in-Some-clause-locks
+returns-in-Some-clause-locks c = same_locks c.args.heap.now c.close_node.new.heap c.close_node.ensures.pays.only
 
 pub returns-in-Some-clause-disk : goal.returns-in-Some-clause-disk
 returns-in-Some-clause-disk c =

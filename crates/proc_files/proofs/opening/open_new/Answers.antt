@@ -97,6 +97,9 @@ returns-clause-fills c =
 pub returns-clause-socks : goal.returns-clause-socks
 returns-clause-socks c = ap (λ (h : Heap). h.socks) c.open_one.ensures.names.after ∙ ap (λ (h : Heap). h.socks) c.describe-desc.ensures.makes.kept
 
+pub returns-clause-locks : goal.returns-clause-locks
+returns-clause-locks c = ap (λ (h : Heap). h.locks) c.open_one.ensures.names.after ∙ ap (λ (h : Heap). h.locks) c.describe-desc.ensures.makes.kept
+
 pub open_one-requires-clause-pays : goal.open_one-requires-clause-pays
 open_one-requires-clause-pays c = CanPay-kept c.args.heap.now c.describe-desc.new.heap c.args.purse.now c.describe-desc.new.purse c.describe-desc.ensures.paid c.requires.pays
 

@@ -20,7 +20,7 @@ use Rattle.proc_numbers.proofs.Changes.{changes_nothing}
 use Rattle.proc_numbers.proofs.Lowest.{IsLowest}
 use Rattle.proc_files.specs.Holders.{holders}
 use Rattle.proc_files.specs.Opening.{AnswersOpening, HasLed}
-use Rattle.proc_files.proofs.Beside.{listed_beside, owners_beside, same_pipes, same_socks}
+use Rattle.proc_files.proofs.Beside.{listed_beside, owners_beside, same_locks, same_pipes, same_socks}
 use Rattle.proc_files.proofs.Changing.{caches_before, holding_of}
 use Rattle.proc_files.proofs.HoldMade.{may_hold}
 use Rattle.proc_files.proofs.OpenAnswers.{answers_before, fault_holds, keeps_last, led_by, on_any, open_full, open_walks, reads_same, right_open}
@@ -247,5 +247,11 @@ returns-in-Ok-clause-kept c = λ proc plain pins found stands.
 pub returns-in-Err-clause-socks : goal.returns-in-Err-clause-socks
 returns-in-Err-clause-socks c = same_socks c.args.heap.now c.open_node.new.heap c.open_node.ensures.pays.only
 
+pub returns-in-Err-clause-locks : goal.returns-in-Err-clause-locks
+returns-in-Err-clause-locks c = same_locks c.args.heap.now c.open_node.new.heap c.open_node.ensures.pays.only
+
 pub returns-in-Ok-clause-socks : goal.returns-in-Ok-clause-socks
 returns-in-Ok-clause-socks c = c.open_found.ensures.socks ∙ same_socks c.args.heap.now c.open_node.new.heap c.open_node.ensures.pays.only
+
+pub returns-in-Ok-clause-locks : goal.returns-in-Ok-clause-locks
+returns-in-Ok-clause-locks c = c.open_found.ensures.locks ∙ same_locks c.args.heap.now c.open_node.new.heap c.open_node.ensures.pays.only

@@ -1,4 +1,4 @@
-use Rattle.std.proofs.Common.{◌≡◌, ◌∙◌, [], None, Some, true, false, cond, ne_eqb, ap, is_some, refl, pos, subst, sym, w64, arith}
+use Rattle.std.proofs.Common.{◌≡◌, ◌∙◌, List, [], Option, None, Some, true, false, cond, ne_eqb, ap, is_some, refl, pos, subst, sym, w64, arith}
 use Rattle.std.proofs.lemmas.Int.{to_z-of_z}
 use Rattle.kabi_types.specs.Arguments.{count_of, may_be_descriptor}
 use Rattle.kabi_types.specs.declared.replies.Reply.TheVariants.{Val}
@@ -22,6 +22,10 @@ use Rattle.proc_numbers.proofs.Answered.{dup2_beyond, dup2_other, dup2_same, on_
 use Rattle.proc_numbers.proofs.Changes.{changes_nothing, closed_names_nothing, others_stay}
 use Rattle.proc_files.proofs.Changing.{holding_closed, holding_of, holding_then}
 use Rattle.proc_files.proofs.Shares.{hold_named, can_pay_beside}
+use Rattle.kheap_slabs.specs.declared.objects.Lock.{Lock as HeldLock}
+use Rattle.lock_table.specs.Chain.{HoldsLocks, IsLockTable}
+use Rattle.proc_files.proofs.Unlocking.{listed_locked}
+use Rattle.proc_files.specs.Closing.{with_locks_of}
 use Rattle.proc_files.proofs.sharing.dup_number.Goals as goal
 use Rattle.proc_table.proofs.NumberLemmas.{numbers_all}
 use Rattle.proc_numbers.specs.Found.{held_in}
@@ -33,9 +37,12 @@ pub returns-in_default-clause-answers : goal.returns-in_default-clause-answers
 unfolding dup2
 returns-in_default-clause-answers c = λ numbers others script plain hold.
     record {
-      files = plain.files;
-      replies = on_nothing numbers c.args.heap.now c.args.procs.now script plain c.args.place.pid hold.held.opened c.args.on.now.fd _ (is_none c.args.heap.now c.args.procs.now c.args.place.pid c.args.on.now c.requires.opened (no_some c.args.on.now.found c.in_default.not-Some));
-      holds = hold;
+      answers = record {
+        files = plain.files;
+        replies = on_nothing numbers c.args.heap.now c.args.procs.now script plain c.args.place.pid hold.held.opened c.args.on.now.fd _ (is_none c.args.heap.now c.args.procs.now c.args.place.pid c.args.on.now c.requires.opened (no_some c.args.on.now.found c.in_default.not-Some));
+        holds = hold;
+      };
+      locks = λ held. held;
     }
 
 pub returns-in_default-clause-changes : goal.returns-in_default-clause-changes
@@ -54,9 +61,12 @@ returns-then-not-may_be_descriptor-clause-answers c = λ numbers others script p
     let beyond : may_be_descriptor c.args.to ≡ false =
     sym (subst (λ z. c.may_be_descriptor.result ≡ may_be_descriptor z) (to_z-of_z w64 c.args.to c.ranges.to) c.may_be_descriptor.ensures) ∙ c.if-not-may_be_descriptor.true in
     record {
-      files = plain.files;
-      replies = dup2_beyond numbers c.args.heap.now c.args.procs.now script plain c.args.place.pid hold.held.opened c.args.on.now.fd (held_in c.in-Some.found) c.in-Some.found.desc is there c.args.to beyond;
-      holds = hold;
+      answers = record {
+        files = plain.files;
+        replies = dup2_beyond numbers c.args.heap.now c.args.procs.now script plain c.args.place.pid hold.held.opened c.args.on.now.fd (held_in c.in-Some.found) c.in-Some.found.desc is there c.args.to beyond;
+        holds = hold;
+      };
+      locks = λ held. held;
     }
 
 pub returns-then-not-may_be_descriptor-clause-changes : goal.returns-then-not-may_be_descriptor-clause-changes
@@ -88,12 +98,15 @@ returns-then-found-number-clause-answers c = λ numbers others script plain hold
     let from_is = is_counted c.args.heap.now c.args.procs.now c.args.place.pid c.args.on.now c.requires.opened c.in-Some.found c.in-Some.is in
     let number_is : c.count_of-number.result ≡ count_of c.args.to = subst (λ z. c.count_of-number.result ≡ count_of z) to c.count_of-number.ensures in
     record {
-      files = plain.files;
-      replies =
-          dup2_same numbers c.args.heap.now c.args.procs.now script plain c.args.place.pid hold.held.opened c.args.on.now.fd (held_in c.in-Some.found) c.in-Some.found.desc is there c.args.to within
-          (sym from_is ∙ c.if-found-number.true ∙ number_is)
-          ∙ ap (λ n. replied script plain c.args.place.pid (Val (pos n))) (sym number_is);
-      holds = hold;
+      answers = record {
+        files = plain.files;
+        replies =
+            dup2_same numbers c.args.heap.now c.args.procs.now script plain c.args.place.pid hold.held.opened c.args.on.now.fd (held_in c.in-Some.found) c.in-Some.found.desc is there c.args.to within
+            (sym from_is ∙ c.if-found-number.true ∙ number_is)
+            ∙ ap (λ n. replied script plain c.args.place.pid (Val (pos n))) (sym number_is);
+        holds = hold;
+      };
+      locks = λ held. held;
     }
 
 pub returns-then-found-number-clause-changes : goal.returns-then-found-number-clause-changes
@@ -110,7 +123,8 @@ share_at-requires-clause-used c =
     let closes = c.close_at.ensures.closes in
     ap is_some (desc_named c.close_at.new.heap c.args.procs.now [] c.close_at.ensures.listed c.close_at.ensures.owners c.args.place.pid c.in-Some.found.number (held_in c.in-Some.found)
     (ap (λ (h : Heap). named_at h c.args.procs.now c.args.place.pid c.in-Some.found.number) closes.caches
-    ∙ others_stay c.args.heap.now closes.mid c.args.procs.now c.args.place.pid c.count_of-number.result c.in-Some.found.number c.requires.listed closes.closes c.if-found-number.false
+    ∙ others_stay (with_locks_of c.args.heap.now c.close_at.new.heap) closes.mid c.args.procs.now c.args.place.pid c.count_of-number.result c.in-Some.found.number
+    (listed_locked c.args.heap.now c.close_at.new.heap.locks c.args.procs.now c.requires.listed) closes.closes c.if-found-number.false
     ∙ is_held_at c.args.heap.now c.args.procs.now c.args.place.pid c.args.on.now c.requires.opened c.in-Some.found c.in-Some.is)).1
 
 pub share_at-requires-clause-free : goal.share_at-requires-clause-free
@@ -123,7 +137,8 @@ share_at-requires-clause-free c =
     let number_is : c.count_of-number.result ≡ count_of c.args.to = subst (λ z. c.count_of-number.result ≡ count_of z) to c.count_of-number.ensures in
     let few = within_most c.args.to within in
     ap (λ (h : Heap). named_at h c.args.procs.now c.args.place.pid c.count_of-number.result) closes.caches
-    ∙ closed_names_nothing c.args.heap.now closes.mid c.args.procs.now c.args.place.pid c.count_of-number.result c.requires.listed closes.closes (omega (arith, few, long, number_is))
+    ∙ closed_names_nothing (with_locks_of c.args.heap.now c.close_at.new.heap) closes.mid c.args.procs.now c.args.place.pid c.count_of-number.result
+    (listed_locked c.args.heap.now c.close_at.new.heap.locks c.args.procs.now c.requires.listed) closes.closes (omega (arith, few, long, number_is))
 
 pub share_at-requires-clause-number : goal.share_at-requires-clause-number
 share_at-requires-clause-number c =
@@ -144,18 +159,23 @@ returns-clause-answers c = λ numbers others script plain hold.
     let number_is : c.count_of-number.result ≡ count_of c.args.to = subst (λ z. c.count_of-number.result ≡ count_of z) to c.count_of-number.ensures in
     let closed = c.close_at.ensures.closed numbers others plain.files hold in
     record {
-      files = shared_at (after_close plain.files c.args.place.pid c.count_of-number.result) c.args.place.pid (record { place = numbers.descs c.in-Some.found.key; is = (counted_in numbers c.in-Some.found.desc).is }) c.count_of-number.result;
-      replies =
-          dup2_other numbers c.args.heap.now c.args.procs.now script plain c.args.place.pid hold.held.opened c.args.on.now.fd (held_in c.in-Some.found) c.in-Some.found.desc is there c.args.to within
-          (λ same. c.if-found-number.false (from_is ∙ same ∙ sym number_is))
-          ∙ ap
-          (λ n. replied script
-          (with_files plain (shared_at (after_close plain.files c.args.place.pid n) c.args.place.pid (record { place = numbers.descs c.in-Some.found.key; is = (counted_in numbers c.in-Some.found.desc).is }) n)) c.args.place.pid
-          (Val (pos n)))
-          (sym number_is);
-      holds = hold_named numbers others c.close_at.new.heap c.share_at.new.heap c.args.procs.now c.close_at.new.tree c.close_at.new.names (after_close plain.files c.args.place.pid c.count_of-number.result) c.args.place.pid c.count_of-number.result
-          (Some (record { description = numbers.descs c.in-Some.found.key; cloexec = false })) c.share_at.ensures.beside closed
-          (c.share_at.ensures.opened numbers (after_close plain.files c.args.place.pid c.count_of-number.result) closed.held.opened);
+      answers = record {
+        files = shared_at (after_close plain.files c.args.place.pid c.count_of-number.result) c.args.place.pid (record { place = numbers.descs c.in-Some.found.key; is = (counted_in numbers c.in-Some.found.desc).is }) c.count_of-number.result;
+        replies =
+            dup2_other numbers c.args.heap.now c.args.procs.now script plain c.args.place.pid hold.held.opened c.args.on.now.fd (held_in c.in-Some.found) c.in-Some.found.desc is there c.args.to within
+            (λ same. c.if-found-number.false (from_is ∙ same ∙ sym number_is))
+            ∙ ap
+            (λ n. replied script
+            (with_files plain (shared_at (after_close plain.files c.args.place.pid n) c.args.place.pid (record { place = numbers.descs c.in-Some.found.key; is = (counted_in numbers c.in-Some.found.desc).is }) n)) c.args.place.pid
+            (Val (pos n)))
+            (sym number_is);
+        holds = hold_named numbers others c.close_at.new.heap c.share_at.new.heap c.args.procs.now c.close_at.new.tree c.close_at.new.names (after_close plain.files c.args.place.pid c.count_of-number.result) c.args.place.pid c.count_of-number.result
+            (Some (record { description = numbers.descs c.in-Some.found.key; cloexec = false })) c.share_at.ensures.beside closed
+            (c.share_at.ensures.opened numbers (after_close plain.files c.args.place.pid c.count_of-number.result) closed.held.opened);
+      };
+      locks = λ locked.
+          subst (λ (shelf : List (Option HeldLock)). HoldsLocks shelf c.close_at.new.locks (after_close plain.files c.args.place.pid c.count_of-number.result).locks)
+          (sym (ap (λ (h : Heap). h.locks) c.share_at.ensures.beside)) (c.close_at.ensures.locks numbers others plain.files hold locked);
     }
 
 pub returns-clause-hold : goal.returns-clause-hold
@@ -218,3 +238,7 @@ share_at-requires-clause-pays c = can_pay_beside c.args.heap.now c.close_at.new.
 pub returns-clause-chain : goal.returns-clause-chain
 returns-clause-chain c =
     chain_kept c.close_at.new.heap c.share_at.new.heap c.close_at.new.fifos (links_same c.close_at.new.heap c.share_at.new.heap (ap (λ (h : Heap). h.pipes) c.share_at.ensures.beside)) c.close_at.ensures.chain
+
+pub returns-clause-locked : goal.returns-clause-locked
+returns-clause-locked c =
+    subst (λ (shelf : List (Option HeldLock)). IsLockTable shelf c.close_at.new.locks) (sym (ap (λ (h : Heap). h.locks) c.share_at.ensures.beside)) c.close_at.ensures.locked

@@ -36,10 +36,10 @@ key_there-key-requires-clause-stored c = c.fork.ensures.moves.holds.stored
 
 pub key_there-key-requires-clause-there : goal.key_there-key-requires-clause-there
 key_there-key-requires-clause-there c =
-    child_there c.args.script.now c.args.objects.now (record { heap = c.fork.new.heap; procs = c.fork.new.self; tree = c.args.objects.now.tree; names = c.args.objects.now.names; fifos = c.args.objects.now.fifos }) c.args.caller.now.place.pid c.in-Ok.child c.args.caller.now.control
-    c.requires.kept c.requires.runs c.fork.ensures.moves refl refl refl
+    child_there c.args.script.now c.args.objects.now (record { heap = c.fork.new.heap; procs = c.fork.new.self; tree = c.args.objects.now.tree; names = c.args.objects.now.names; fifos = c.args.objects.now.fifos; locks = c.args.objects.now.locks }) c.args.caller.now.place.pid c.in-Ok.child c.args.caller.now.control
+    c.requires.kept c.requires.runs c.fork.ensures.moves refl refl refl refl
     (record { can = can_share c.args.script.now c.args.objects.now c.args.caller.now.place.pid c.requires.runs.proc c.requires.kept c.heap_is_well_formed.ensures c.requires.runs.found; descs = c.in-Ok.ensures.shared c.requires.runs.proc c.requires.runs.found })
-    c.in-Ok.ensures.child (copied c.args.script.now c.args.objects.now (record { heap = c.fork.new.heap; procs = c.fork.new.self; tree = c.args.objects.now.tree; names = c.args.objects.now.names; fifos = c.args.objects.now.fifos }) c.args.caller.now.place.pid c.in-Ok.child c.requires.kept c.in-Ok.ensures.child (number_of _ _ c.in-Ok.child (sym c.in-Ok.is ∙ c.fork.ensures.answer)) c.in-Ok.ensures.copies)
+    c.in-Ok.ensures.child (copied c.args.script.now c.args.objects.now (record { heap = c.fork.new.heap; procs = c.fork.new.self; tree = c.args.objects.now.tree; names = c.args.objects.now.names; fifos = c.args.objects.now.fifos; locks = c.args.objects.now.locks }) c.args.caller.now.place.pid c.in-Ok.child c.requires.kept c.in-Ok.ensures.child (number_of _ _ c.in-Ok.child (sym c.in-Ok.is ∙ c.fork.ensures.answer)) c.in-Ok.ensures.copies)
 
 pub directory_of-directory-requires-clause-stored : goal.directory_of-directory-requires-clause-stored
 directory_of-directory-requires-clause-stored c = c.requires.kept.holds.stored
@@ -48,25 +48,25 @@ pub hold_directory-requires : goal.hold_directory-requires
 hold_directory-requires c = record {
   held = λ other.
       let some = c.requires.stands in
-      may_hold c.args.script.now c.args.objects.now (record { heap = c.fork.new.heap; procs = c.fork.new.self; tree = c.args.objects.now.tree; names = c.args.objects.now.names; fifos = c.args.objects.now.fifos }) c.move_on.new.self c.args.caller.now.place.pid c.in-Ok.child c.args.caller.now.control c.behind.result
-      c.requires.kept c.requires.runs c.fork.ensures.moves refl refl refl
+      may_hold c.args.script.now c.args.objects.now (record { heap = c.fork.new.heap; procs = c.fork.new.self; tree = c.args.objects.now.tree; names = c.args.objects.now.names; fifos = c.args.objects.now.fifos; locks = c.args.objects.now.locks }) c.move_on.new.self c.args.caller.now.place.pid c.in-Ok.child c.args.caller.now.control c.behind.result
+      c.requires.kept c.requires.runs c.fork.ensures.moves refl refl refl refl
       (record { can = can_share c.args.script.now c.args.objects.now c.args.caller.now.place.pid c.requires.runs.proc c.requires.kept c.heap_is_well_formed.ensures c.requires.runs.found; descs = c.in-Ok.ensures.shared c.requires.runs.proc c.requires.runs.found })
-      c.in-Ok.ensures.child (copied c.args.script.now c.args.objects.now (record { heap = c.fork.new.heap; procs = c.fork.new.self; tree = c.args.objects.now.tree; names = c.args.objects.now.names; fifos = c.args.objects.now.fifos }) c.args.caller.now.place.pid c.in-Ok.child c.requires.kept c.in-Ok.ensures.child (number_of _ _ c.in-Ok.child (sym c.in-Ok.is ∙ c.fork.ensures.answer)) c.in-Ok.ensures.copies) (number_of _ _ c.in-Ok.child (sym c.in-Ok.is ∙ c.fork.ensures.answer)) c.move_on.ensures
+      c.in-Ok.ensures.child (copied c.args.script.now c.args.objects.now (record { heap = c.fork.new.heap; procs = c.fork.new.self; tree = c.args.objects.now.tree; names = c.args.objects.now.names; fifos = c.args.objects.now.fifos; locks = c.args.objects.now.locks }) c.args.caller.now.place.pid c.in-Ok.child c.requires.kept c.in-Ok.ensures.child (number_of _ _ c.in-Ok.child (sym c.in-Ok.is ∙ c.fork.ensures.answer)) c.in-Ok.ensures.copies) (number_of _ _ c.in-Ok.child (sym c.in-Ok.is ∙ c.fork.ensures.answer)) c.move_on.ensures
       c.directory_of-directory.result (c.directory_of-directory.ensures c.requires.runs.proc c.requires.runs.found) other some.0 some.1 c.heap_is_well_formed.ensures;
 }
 
 pub go_on_anew-requires-clause-kept : goal.go_on_anew-requires-clause-kept
 go_on_anew-requires-clause-kept c =
-    kept_pinned c.args.script.now c.args.objects.now (record { heap = c.fork.new.heap; procs = c.fork.new.self; tree = c.args.objects.now.tree; names = c.args.objects.now.names; fifos = c.args.objects.now.fifos }) c.move_on.new.self c.hold_directory.new.objects c.args.caller.now.place.pid c.in-Ok.child c.directory_of-directory.result c.args.caller.now.control c.behind.result
-    c.requires.kept c.requires.runs c.fork.ensures.moves refl refl refl (record { can = can_share c.args.script.now c.args.objects.now c.args.caller.now.place.pid c.requires.runs.proc c.requires.kept c.heap_is_well_formed.ensures c.requires.runs.found; descs = c.in-Ok.ensures.shared c.requires.runs.proc c.requires.runs.found })
-    c.in-Ok.ensures.child (copied c.args.script.now c.args.objects.now (record { heap = c.fork.new.heap; procs = c.fork.new.self; tree = c.args.objects.now.tree; names = c.args.objects.now.names; fifos = c.args.objects.now.fifos }) c.args.caller.now.place.pid c.in-Ok.child c.requires.kept c.in-Ok.ensures.child (number_of _ _ c.in-Ok.child (sym c.in-Ok.is ∙ c.fork.ensures.answer)) c.in-Ok.ensures.copies) (number_of _ _ c.in-Ok.child (sym c.in-Ok.is ∙ c.fork.ensures.answer)) c.move_on.ensures
+    kept_pinned c.args.script.now c.args.objects.now (record { heap = c.fork.new.heap; procs = c.fork.new.self; tree = c.args.objects.now.tree; names = c.args.objects.now.names; fifos = c.args.objects.now.fifos; locks = c.args.objects.now.locks }) c.move_on.new.self c.hold_directory.new.objects c.args.caller.now.place.pid c.in-Ok.child c.directory_of-directory.result c.args.caller.now.control c.behind.result
+    c.requires.kept c.requires.runs c.fork.ensures.moves refl refl refl refl (record { can = can_share c.args.script.now c.args.objects.now c.args.caller.now.place.pid c.requires.runs.proc c.requires.kept c.heap_is_well_formed.ensures c.requires.runs.found; descs = c.in-Ok.ensures.shared c.requires.runs.proc c.requires.runs.found })
+    c.in-Ok.ensures.child (copied c.args.script.now c.args.objects.now (record { heap = c.fork.new.heap; procs = c.fork.new.self; tree = c.args.objects.now.tree; names = c.args.objects.now.names; fifos = c.args.objects.now.fifos; locks = c.args.objects.now.locks }) c.args.caller.now.place.pid c.in-Ok.child c.requires.kept c.in-Ok.ensures.child (number_of _ _ c.in-Ok.child (sym c.in-Ok.is ∙ c.fork.ensures.answer)) c.in-Ok.ensures.copies) (number_of _ _ c.in-Ok.child (sym c.in-Ok.is ∙ c.fork.ensures.answer)) c.move_on.ensures
     (c.directory_of-directory.ensures c.requires.runs.proc c.requires.runs.found) c.hold_directory.ensures.only c.hold_directory.ensures.stands c.behind.ensures.stands c.behind.ensures.rests
 
 pub go_on_anew-requires-clause-runs : goal.go_on_anew-requires-clause-runs
 go_on_anew-requires-clause-runs c =
-    runs_pinned c.args.script.now c.args.objects.now (record { heap = c.fork.new.heap; procs = c.fork.new.self; tree = c.args.objects.now.tree; names = c.args.objects.now.names; fifos = c.args.objects.now.fifos }) c.move_on.new.self c.hold_directory.new.objects c.args.caller.now.place.pid c.in-Ok.child c.directory_of-directory.result c.args.caller.now.control c.behind.result
-    c.requires.kept c.requires.runs c.fork.ensures.moves refl refl refl (record { can = can_share c.args.script.now c.args.objects.now c.args.caller.now.place.pid c.requires.runs.proc c.requires.kept c.heap_is_well_formed.ensures c.requires.runs.found; descs = c.in-Ok.ensures.shared c.requires.runs.proc c.requires.runs.found })
-    c.in-Ok.ensures.child (copied c.args.script.now c.args.objects.now (record { heap = c.fork.new.heap; procs = c.fork.new.self; tree = c.args.objects.now.tree; names = c.args.objects.now.names; fifos = c.args.objects.now.fifos }) c.args.caller.now.place.pid c.in-Ok.child c.requires.kept c.in-Ok.ensures.child (number_of _ _ c.in-Ok.child (sym c.in-Ok.is ∙ c.fork.ensures.answer)) c.in-Ok.ensures.copies) (number_of _ _ c.in-Ok.child (sym c.in-Ok.is ∙ c.fork.ensures.answer)) c.move_on.ensures
+    runs_pinned c.args.script.now c.args.objects.now (record { heap = c.fork.new.heap; procs = c.fork.new.self; tree = c.args.objects.now.tree; names = c.args.objects.now.names; fifos = c.args.objects.now.fifos; locks = c.args.objects.now.locks }) c.move_on.new.self c.hold_directory.new.objects c.args.caller.now.place.pid c.in-Ok.child c.directory_of-directory.result c.args.caller.now.control c.behind.result
+    c.requires.kept c.requires.runs c.fork.ensures.moves refl refl refl refl (record { can = can_share c.args.script.now c.args.objects.now c.args.caller.now.place.pid c.requires.runs.proc c.requires.kept c.heap_is_well_formed.ensures c.requires.runs.found; descs = c.in-Ok.ensures.shared c.requires.runs.proc c.requires.runs.found })
+    c.in-Ok.ensures.child (copied c.args.script.now c.args.objects.now (record { heap = c.fork.new.heap; procs = c.fork.new.self; tree = c.args.objects.now.tree; names = c.args.objects.now.names; fifos = c.args.objects.now.fifos; locks = c.args.objects.now.locks }) c.args.caller.now.place.pid c.in-Ok.child c.requires.kept c.in-Ok.ensures.child (number_of _ _ c.in-Ok.child (sym c.in-Ok.is ∙ c.fork.ensures.answer)) c.in-Ok.ensures.copies) (number_of _ _ c.in-Ok.child (sym c.in-Ok.is ∙ c.fork.ensures.answer)) c.move_on.ensures
     (c.directory_of-directory.ensures c.requires.runs.proc c.requires.runs.found) c.hold_directory.ensures.only c.hold_directory.ensures.stands
 
 pub go_on-requires-clause-kept : goal.go_on-requires-clause-kept
@@ -80,7 +80,7 @@ go_on-requires-clause-runs c =
 
 pub go_on-requires-clause-placed : goal.go_on-requires-clause-placed
 go_on-requires-clause-placed c =
-    placed_on c.args.objects.now (record { heap = c.fork.new.heap; procs = c.fork.new.self; tree = c.args.objects.now.tree; names = c.args.objects.now.names; fifos = c.args.objects.now.fifos })
+    placed_on c.args.objects.now (record { heap = c.fork.new.heap; procs = c.fork.new.self; tree = c.args.objects.now.tree; names = c.args.objects.now.names; fifos = c.args.objects.now.fifos; locks = c.args.objects.now.locks })
     c.args.caller.now.place c.in-Err.ensures.unchanged.1 c.requires.placed
 
 pub returns-in-Ok-clause-paid : goal.returns-in-Ok-clause-paid
@@ -99,13 +99,13 @@ returns-in-Err-clause-paid c =
 pub returns-in-Ok-clause-does : goal.returns-in-Ok-clause-does
 returns-in-Ok-clause-does c =
     let script = c.args.script.now in
-    let mid : Objects = record { heap = c.fork.new.heap; procs = c.fork.new.self; tree = c.args.objects.now.tree; names = c.args.objects.now.names; fifos = c.args.objects.now.fifos } in
+    let mid : Objects = record { heap = c.fork.new.heap; procs = c.fork.new.self; tree = c.args.objects.now.tree; names = c.args.objects.now.names; fifos = c.args.objects.now.fifos; locks = c.args.objects.now.locks } in
     let answer : Ok c.in-Ok.child ≡ forked_as _ c.args.objects.now.procs.last = sym c.in-Ok.is ∙ c.fork.ensures.answer in
     let value : _ ≡ pos c.in-Ok.child = to_z-of_z w64 c.from.result (record { sfits = c.from.type_inv }) ∙ c.from.ensures in
     does_fork script c.args.objects.now mid c.move_on.new.self c.hold_directory.new.objects c.args.caller.now.place.pid c.in-Ok.child c.directory_of-directory.result c.args.caller.now.control c.behind.result
-    c.requires.kept c.requires.runs c.fork.ensures.moves refl refl refl
+    c.requires.kept c.requires.runs c.fork.ensures.moves refl refl refl refl
     (record { can = can_share c.args.script.now c.args.objects.now c.args.caller.now.place.pid c.requires.runs.proc c.requires.kept c.heap_is_well_formed.ensures c.requires.runs.found; descs = c.in-Ok.ensures.shared c.requires.runs.proc c.requires.runs.found })
-    c.in-Ok.ensures.child (copied c.args.script.now c.args.objects.now (record { heap = c.fork.new.heap; procs = c.fork.new.self; tree = c.args.objects.now.tree; names = c.args.objects.now.names; fifos = c.args.objects.now.fifos }) c.args.caller.now.place.pid c.in-Ok.child c.requires.kept c.in-Ok.ensures.child (number_of _ _ c.in-Ok.child (sym c.in-Ok.is ∙ c.fork.ensures.answer)) c.in-Ok.ensures.copies) (number_of _ _ c.in-Ok.child answer) c.move_on.ensures
+    c.in-Ok.ensures.child (copied c.args.script.now c.args.objects.now (record { heap = c.fork.new.heap; procs = c.fork.new.self; tree = c.args.objects.now.tree; names = c.args.objects.now.names; fifos = c.args.objects.now.fifos; locks = c.args.objects.now.locks }) c.args.caller.now.place.pid c.in-Ok.child c.requires.kept c.in-Ok.ensures.child (number_of _ _ c.in-Ok.child (sym c.in-Ok.is ∙ c.fork.ensures.answer)) c.in-Ok.ensures.copies) (number_of _ _ c.in-Ok.child answer) c.move_on.ensures
     (c.directory_of-directory.ensures c.requires.runs.proc c.requires.runs.found) c.hold_directory.ensures.only c.hold_directory.ensures.stands
     c.go_on_anew.new.objects c.go_on_anew.result c.behind.ensures.stands c.behind.ensures.rests answer
     (λ table is. subst (λ r. IsTable c.fork.new.heap c.fork.new.self (forked_in table c.args.caller.now.place.pid r)) c.in-Ok.is (c.fork.ensures.table table is))

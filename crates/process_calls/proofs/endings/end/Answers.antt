@@ -47,6 +47,7 @@ returns-then-place-eq-INIT-clause-dies c = λ script world stands sound.
     let held = held_at_first script old world stands sound c.heap_is_well_formed.ensures in
     let numbers = stands.files.numbers in
     let then = c.end_one.ensures.holds numbers world.plain.files held in
+    let locked = c.end_one.ensures.locks numbers world.plain.files held stands.locks in
     dies_with_all script old world stands sound c.heap_is_well_formed.ensures mid new c.args.place.pid c.args.status c.if-place-eq-INIT.true
     (c.end_others.ensures.kept script (c.end_one.ensures.kept script stands.kept)) c.requires.alive
     (record {
@@ -54,6 +55,7 @@ returns-then-place-eq-INIT-clause-dies c = λ script world stands sound.
       table = c.end_one.ensures.table world.plain.table stands.processes.table;
       account = c.end_one.ensures.account world.account.frames stands.memory;
       held = then;
+      locks = locked;
       queues = c.end_one.ensures.queues;
       stays = c.end_one.ensures.stays numbers world.plain.files held;
       reads = c.end_one.ensures.reads;
@@ -63,6 +65,7 @@ returns-then-place-eq-INIT-clause-dies c = λ script world stands sound.
       table = c.end_others.ensures.table;
       account = c.end_others.ensures.account;
       held = c.end_others.ensures.holds numbers (after_end_of world.plain.files c.args.place.pid) then;
+      locks = c.end_others.ensures.locks numbers (after_end_of world.plain.files c.args.place.pid) then locked;
       queues = c.end_others.ensures.queues;
       stays = c.end_others.ensures.stays numbers (after_end_of world.plain.files c.args.place.pid) then;
       reads = c.end_others.ensures.reads;
@@ -78,7 +81,7 @@ returns-else-place-eq-INIT-clause-dies c = λ script world stands sound.
     dies_other script old world stands sound c.heap_is_well_formed.ensures new c.args.place.pid c.args.status
     (c.end_one.ensures.kept script stands.kept) c.requires.alive c.if-place-eq-INIT.false c.end_one.ensures.last c.end_one.ensures.ended
     (c.end_one.ensures.table world.plain.table stands.processes.table) (c.end_one.ensures.account world.account.frames stands.memory)
-    (c.end_one.ensures.holds stands.files.numbers world.plain.files held) c.end_one.ensures.queues
+    (c.end_one.ensures.holds stands.files.numbers world.plain.files held) (c.end_one.ensures.locks stands.files.numbers world.plain.files held stands.locks) c.end_one.ensures.queues
     (c.end_one.ensures.stays stands.files.numbers world.plain.files held) c.end_one.ensures.reads
     (counts_back old new c.kept_back-purse.result c.end_one.new.purse c.end_one.ensures.same c.end_one.ensures.paid)
 

@@ -5,9 +5,10 @@ use Rattle.posix_defs.specs.Memory.{after_clear}
 use Rattle.memfs_ops.specs.FileTree.{TreeView}
 use Rattle.proc_numbers.proofs.Fronts.{queues_then}
 use Rattle.proc_table.specs.Standing.{ends_in}
+use Rattle.store_objects.proofs.LockedOn.{holds_on}
 use Rattle.store_objects.specs.Objects.{procs_of}
 use Rattle.store_objects.specs.Trees.{kept_by}
-use Rattle.store_objects.proofs.Pinning.{kept_then, pinned_account, pinned_kept, pinned_procs, pinned_queues, pinned_stays, pinned_table}
+use Rattle.store_objects.proofs.Pinning.{kept_then, pinned_account, pinned_kept, pinned_locks, pinned_procs, pinned_queues, pinned_stays, pinned_table}
 use Rattle.process_calls.specs.Endings.{HoldFilesOf, workers_at}
 use Rattle.process_calls.proofs.EndingOne.{held_ended, may_let_go}
 use Rattle.process_calls.proofs.Holding.{keeps_some}
@@ -78,3 +79,8 @@ pub returns-clause-paid : goal.returns-clause-paid
 returns-clause-paid c =
     IsPaid-trans c.args.objects.now.heap c.args.purse.now c.shut_down.new.objects.heap c.shut_down.new.purse c.let_go.new.objects.heap c.shut_down.new.purse c.shut_down.ensures.paid
     (IsPaid-nothing c.shut_down.new.objects.heap c.let_go.new.objects.heap c.shut_down.new.purse c.shut_down.new.purse c.let_go.ensures.takes refl refl)
+
+pub returns-clause-locks : goal.returns-clause-locks
+returns-clause-locks c = λ numbers files hold held.
+    holds_on c.shut_down.new.objects c.let_go.new.objects (pinned_locks c.shut_down.new.objects c.let_go.new.objects c.let_go.ensures.only) (after_end_of files c.args.place.pid).locks
+    (c.shut_down.ensures.locks numbers (workers_at (procs_of c.args.objects.now)) files hold held)

@@ -5,7 +5,7 @@ use Rattle.posix_defs.specs.Memory.{after_clear}
 use Rattle.proc_numbers.proofs.Fronts.{queues_same, queues_then}
 use Rattle.store_objects.specs.Objects.{procs_of}
 use Rattle.process_calls.specs.Endings.{IsLowestBehind}
-use Rattle.process_calls.proofs.EndingOthers.{alive_made, begins, clears_one, closes_all, closes_first, closes_one, ends_all, ends_one, stays_all}
+use Rattle.process_calls.proofs.EndingOthers.{alive_made, begins, clears_one, closes_all, closes_first, closes_one, ends_all, ends_one, locks_all, stays_all}
 use Rattle.process_calls.proofs.Purses.{can_still}
 use Rattle.process_calls.proofs.endings.end_others.Goals as goal
 
@@ -70,7 +70,7 @@ loop-next-preserved c =
           let so_far = before.account frames has in
           (after_clear so_far.0 c.in-Some.next, c.end_one.ensures.account so_far.0 so_far.1, clears_one frames so_far.0 c.in-Some.next so_far.2);
       closes = λ numbers files hold. closes_one start mid new c.loop-next.pid c.in-Some.next numbers files holds before.last c.in-Some.ensures.lowest
-          (c.end_one.ensures.holds numbers) (c.end_one.ensures.stays numbers) (before.closes numbers files hold);
+          (c.end_one.ensures.holds numbers) (c.end_one.ensures.stays numbers) (c.end_one.ensures.locks numbers) (before.closes numbers files hold);
       queues = queues_then _ _ _ before.queues c.end_one.ensures.queues;
       reads = le_trans before.reads c.end_one.ensures.reads;
       same = c.end_one.ensures.same ∙ before.same;
@@ -92,3 +92,8 @@ pub returns-clause-stays : goal.returns-clause-stays
 returns-clause-stays c = λ numbers files hold.
     stays_all c.args.objects.now c.loop-next.objects c.loop-next.pid numbers files c.loop-next.invariant.some.1.holds (c.live_behind.ensures.none c.in_default.is)
     (c.loop-next.invariant.closes numbers files hold)
+
+pub returns-clause-locks : goal.returns-clause-locks
+returns-clause-locks c = λ numbers files hold held.
+    locks_all c.args.objects.now c.loop-next.objects c.loop-next.pid numbers files c.loop-next.invariant.some.1.holds (c.live_behind.ensures.none c.in_default.is)
+    (c.loop-next.invariant.closes numbers files hold) held

@@ -1,6 +1,8 @@
-use Rattle.std.proofs.Common.{◌≡◌, ◌≤◌, ◌∙◌, ℕ, ap, false, refl, subst, sym}
+use Rattle.std.proofs.Common.{◌≡◌, ◌≤◌, ◌∙◌, ℕ, List, Option, ap, false, refl, subst, sym}
 use Rattle.kheap_slabs.specs.Heap.{Heap}
 use Rattle.kheap_laws.proofs.PaidLemmas.{IsPaid-nothing, IsPaid-trans}
+use Rattle.kheap_slabs.specs.declared.objects.Lock.{Lock as HeldLock}
+use Rattle.lock_table.specs.Chain.{HoldsLocks}
 use Rattle.memfs_ops.specs.FileTree.{TreeView}
 use Rattle.posix_defs.specs.Files.Closing.{after_end_of}
 use Rattle.posix_defs.specs.Files.State.{Files}
@@ -30,6 +32,9 @@ close_each-requires-clause-owners c = c.requires.kept.1.owners
 pub close_each-requires-clause-chain : goal.close_each-requires-clause-chain
 close_each-requires-clause-chain c = c.requires.kept.1.chain
 
+pub close_each-requires-clause-locked : goal.close_each-requires-clause-locked
+close_each-requires-clause-locked c = c.requires.kept.1.locked
+
 pub close_each-requires-clause-hold : goal.close_each-requires-clause-hold
 close_each-requires-clause-hold c =
     let some = c.requires.holds in
@@ -54,11 +59,11 @@ end-requires-clause-holds c =
     let held = c.requires.holds in
     let old = c.args.objects.now in
     let hold = c.close_each.ensures.closed held.0 (workers_at (procs_of old)) held.1 held.2 in
-    let mid = with_heap old c.close_each.new.heap c.close_each.new.tree c.close_each.new.names c.close_each.new.fifos in
+    let mid = with_heap old c.close_each.new.heap c.close_each.new.tree c.close_each.new.names c.close_each.new.fifos c.close_each.new.locks in
     let between : AreKept some.0 mid =
-    kept_shut some.0 old mid.heap mid.tree mid.names mid.fifos c.args.place.pid some.1 c.close_each.ensures.closes c.close_each.ensures.listed c.close_each.ensures.owners hold.bound c.close_each.ensures.places
-    c.close_each.ensures.chain (keeps_some held.0 (workers_at (procs_of old)) mid (closed_each held.1 c.args.place.pid) hold) in
-    (kept_silent some.0 old mid.heap mid.tree mid.names mid.fifos c.args.place.pid c.wait_in.new.self some.1 c.close_each.ensures.closes c.requires.alive between c.wait_in.ensures).holds
+    kept_shut some.0 old mid.heap mid.tree mid.names mid.fifos mid.locks c.args.place.pid some.1 c.close_each.ensures.closes c.close_each.ensures.listed c.close_each.ensures.owners hold.bound c.close_each.ensures.places
+    c.close_each.ensures.chain c.close_each.ensures.locked (keeps_some held.0 (workers_at (procs_of old)) mid (closed_each held.1 c.args.place.pid) hold) in
+    (kept_silent some.0 old mid.heap mid.tree mid.names mid.fifos mid.locks c.args.place.pid c.wait_in.new.self some.1 c.close_each.ensures.closes c.requires.alive between c.wait_in.ensures).holds
 
 pub end-requires-clause-alive : goal.end-requires-clause-alive
 end-requires-clause-alive c =
@@ -66,11 +71,11 @@ end-requires-clause-alive c =
     let held = c.requires.holds in
     let old = c.args.objects.now in
     let hold = c.close_each.ensures.closed held.0 (workers_at (procs_of old)) held.1 held.2 in
-    let mid = with_heap old c.close_each.new.heap c.close_each.new.tree c.close_each.new.names c.close_each.new.fifos in
+    let mid = with_heap old c.close_each.new.heap c.close_each.new.tree c.close_each.new.names c.close_each.new.fifos c.close_each.new.locks in
     let between : AreKept some.0 mid =
-    kept_shut some.0 old mid.heap mid.tree mid.names mid.fifos c.args.place.pid some.1 c.close_each.ensures.closes c.close_each.ensures.listed c.close_each.ensures.owners hold.bound c.close_each.ensures.places
-    c.close_each.ensures.chain (keeps_some held.0 (workers_at (procs_of old)) mid (closed_each held.1 c.args.place.pid) hold) in
-    alive_silent some.0 old mid.heap mid.tree mid.names mid.fifos c.args.place.pid c.wait_in.new.self some.1 c.close_each.ensures.closes c.requires.alive between c.wait_in.ensures
+    kept_shut some.0 old mid.heap mid.tree mid.names mid.fifos mid.locks c.args.place.pid some.1 c.close_each.ensures.closes c.close_each.ensures.listed c.close_each.ensures.owners hold.bound c.close_each.ensures.places
+    c.close_each.ensures.chain c.close_each.ensures.locked (keeps_some held.0 (workers_at (procs_of old)) mid (closed_each held.1 c.args.place.pid) hold) in
+    alive_silent some.0 old mid.heap mid.tree mid.names mid.fifos mid.locks c.args.place.pid c.wait_in.new.self some.1 c.close_each.ensures.closes c.requires.alive between c.wait_in.ensures
 
 pub end-requires-clause-closed : goal.end-requires-clause-closed
 end-requires-clause-closed c =
@@ -78,11 +83,11 @@ end-requires-clause-closed c =
     let held = c.requires.holds in
     let old = c.args.objects.now in
     let hold = c.close_each.ensures.closed held.0 (workers_at (procs_of old)) held.1 held.2 in
-    let mid = with_heap old c.close_each.new.heap c.close_each.new.tree c.close_each.new.names c.close_each.new.fifos in
+    let mid = with_heap old c.close_each.new.heap c.close_each.new.tree c.close_each.new.names c.close_each.new.fifos c.close_each.new.locks in
     let between : AreKept some.0 mid =
-    kept_shut some.0 old mid.heap mid.tree mid.names mid.fifos c.args.place.pid some.1 c.close_each.ensures.closes c.close_each.ensures.listed c.close_each.ensures.owners hold.bound c.close_each.ensures.places
-    c.close_each.ensures.chain (keeps_some held.0 (workers_at (procs_of old)) mid (closed_each held.1 c.args.place.pid) hold) in
-    closed_silent some.0 old mid.heap mid.tree mid.names mid.fifos c.args.place.pid c.wait_in.new.self some.1 c.close_each.ensures.closes c.requires.alive between c.wait_in.ensures
+    kept_shut some.0 old mid.heap mid.tree mid.names mid.fifos mid.locks c.args.place.pid some.1 c.close_each.ensures.closes c.close_each.ensures.listed c.close_each.ensures.owners hold.bound c.close_each.ensures.places
+    c.close_each.ensures.chain c.close_each.ensures.locked (keeps_some held.0 (workers_at (procs_of old)) mid (closed_each held.1 c.args.place.pid) hold) in
+    closed_silent some.0 old mid.heap mid.tree mid.names mid.fifos mid.locks c.args.place.pid c.wait_in.new.self some.1 c.close_each.ensures.closes c.requires.alive between c.wait_in.ensures
 
 -- ---- and ends
 
@@ -92,15 +97,15 @@ returns-clause-kept c = λ script kept.
     let old = c.args.objects.now in
     let pid = c.args.place.pid in
     let hold = c.close_each.ensures.closed held.0 (workers_at (procs_of old)) held.1 held.2 in
-    let mid = with_heap old c.close_each.new.heap c.close_each.new.tree c.close_each.new.names c.close_each.new.fifos in
+    let mid = with_heap old c.close_each.new.heap c.close_each.new.tree c.close_each.new.names c.close_each.new.fifos c.close_each.new.locks in
     let now = c.wait_in.new.self in
-    let new : Objects = record { heap = c.end.new.heap; procs = c.end.new.self; tree = now.tree; names = now.names; fifos = now.fifos } in
+    let new : Objects = record { heap = c.end.new.heap; procs = c.end.new.self; tree = now.tree; names = now.names; fifos = now.fifos; locks = now.locks } in
     let between : AreKept script mid =
-    kept_shut script old mid.heap mid.tree mid.names mid.fifos pid kept c.close_each.ensures.closes c.close_each.ensures.listed c.close_each.ensures.owners hold.bound c.close_each.ensures.places
-    c.close_each.ensures.chain (keeps_some held.0 (workers_at (procs_of old)) mid (closed_each held.1 pid) hold) in
+    kept_shut script old mid.heap mid.tree mid.names mid.fifos mid.locks pid kept c.close_each.ensures.closes c.close_each.ensures.listed c.close_each.ensures.owners hold.bound c.close_each.ensures.places
+    c.close_each.ensures.chain c.close_each.ensures.locked (keeps_some held.0 (workers_at (procs_of old)) mid (closed_each held.1 pid) hold) in
     kept_ended script now new pid c.args.status
-    (kept_silent script old mid.heap mid.tree mid.names mid.fifos pid now kept c.close_each.ensures.closes c.requires.alive between c.wait_in.ensures) refl refl refl
-    (closed_silent script old mid.heap mid.tree mid.names mid.fifos pid now kept c.close_each.ensures.closes c.requires.alive between c.wait_in.ensures) c.end.ensures.moves c.end.ensures.ended
+    (kept_silent script old mid.heap mid.tree mid.names mid.fifos mid.locks pid now kept c.close_each.ensures.closes c.requires.alive between c.wait_in.ensures) refl refl refl refl
+    (closed_silent script old mid.heap mid.tree mid.names mid.fifos mid.locks pid now kept c.close_each.ensures.closes c.requires.alive between c.wait_in.ensures) c.end.ensures.moves c.end.ensures.ended
 
 pub returns-clause-last : goal.returns-clause-last
 returns-clause-last c = c.end.ensures.last ∙ ap (λ (view : TableView). view.last) c.wait_in.ensures.same
@@ -111,13 +116,13 @@ returns-clause-ended c =
     let held = c.requires.holds in
     let old = c.args.objects.now in
     let hold = c.close_each.ensures.closed held.0 (workers_at (procs_of old)) held.1 held.2 in
-    let mid = with_heap old c.close_each.new.heap c.close_each.new.tree c.close_each.new.names c.close_each.new.fifos in
+    let mid = with_heap old c.close_each.new.heap c.close_each.new.tree c.close_each.new.names c.close_each.new.fifos c.close_each.new.locks in
     let between : AreKept some.0 mid =
-    kept_shut some.0 old mid.heap mid.tree mid.names mid.fifos c.args.place.pid some.1 c.close_each.ensures.closes c.close_each.ensures.listed c.close_each.ensures.owners hold.bound c.close_each.ensures.places
-    c.close_each.ensures.chain (keeps_some held.0 (workers_at (procs_of old)) mid (closed_each held.1 c.args.place.pid) hold) in
+    kept_shut some.0 old mid.heap mid.tree mid.names mid.fifos mid.locks c.args.place.pid some.1 c.close_each.ensures.closes c.close_each.ensures.listed c.close_each.ensures.owners hold.bound c.close_each.ensures.places
+    c.close_each.ensures.chain c.close_each.ensures.locked (keeps_some held.0 (workers_at (procs_of old)) mid (closed_each held.1 c.args.place.pid) hold) in
     c.end.ensures.ended
     ∙ ap (ended c.args.place.pid c.args.status)
-    (silenced some.0 old mid.heap mid.tree mid.names mid.fifos c.args.place.pid c.wait_in.new.self some.1 c.close_each.ensures.closes c.requires.alive between c.wait_in.ensures)
+    (silenced some.0 old mid.heap mid.tree mid.names mid.fifos mid.locks c.args.place.pid c.wait_in.new.self some.1 c.close_each.ensures.closes c.requires.alive between c.wait_in.ensures)
 
 pub returns-clause-table : goal.returns-clause-table
 returns-clause-table c = λ table is.
@@ -125,12 +130,12 @@ returns-clause-table c = λ table is.
     let held = c.requires.holds in
     let old = c.args.objects.now in
     let hold = c.close_each.ensures.closed held.0 (workers_at (procs_of old)) held.1 held.2 in
-    let mid = with_heap old c.close_each.new.heap c.close_each.new.tree c.close_each.new.names c.close_each.new.fifos in
+    let mid = with_heap old c.close_each.new.heap c.close_each.new.tree c.close_each.new.names c.close_each.new.fifos c.close_each.new.locks in
     let between : AreKept some.0 mid =
-    kept_shut some.0 old mid.heap mid.tree mid.names mid.fifos c.args.place.pid some.1 c.close_each.ensures.closes c.close_each.ensures.listed c.close_each.ensures.owners hold.bound c.close_each.ensures.places
-    c.close_each.ensures.chain (keeps_some held.0 (workers_at (procs_of old)) mid (closed_each held.1 c.args.place.pid) hold) in
+    kept_shut some.0 old mid.heap mid.tree mid.names mid.fifos mid.locks c.args.place.pid some.1 c.close_each.ensures.closes c.close_each.ensures.listed c.close_each.ensures.owners hold.bound c.close_each.ensures.places
+    c.close_each.ensures.chain c.close_each.ensures.locked (keeps_some held.0 (workers_at (procs_of old)) mid (closed_each held.1 c.args.place.pid) hold) in
     c.end.ensures.table table
-    (table_silent some.0 old mid.heap mid.tree mid.names mid.fifos c.args.place.pid c.wait_in.new.self some.1 c.close_each.ensures.closes c.requires.alive between c.wait_in.ensures table is)
+    (table_silent some.0 old mid.heap mid.tree mid.names mid.fifos mid.locks c.args.place.pid c.wait_in.new.self some.1 c.close_each.ensures.closes c.requires.alive between c.wait_in.ensures table is)
 
 pub returns-clause-account : goal.returns-clause-account
 returns-clause-account c = λ frames has.
@@ -138,32 +143,43 @@ returns-clause-account c = λ frames has.
     let held = c.requires.holds in
     let old = c.args.objects.now in
     let hold = c.close_each.ensures.closed held.0 (workers_at (procs_of old)) held.1 held.2 in
-    let mid = with_heap old c.close_each.new.heap c.close_each.new.tree c.close_each.new.names c.close_each.new.fifos in
+    let mid = with_heap old c.close_each.new.heap c.close_each.new.tree c.close_each.new.names c.close_each.new.fifos c.close_each.new.locks in
     let between : AreKept some.0 mid =
-    kept_shut some.0 old mid.heap mid.tree mid.names mid.fifos c.args.place.pid some.1 c.close_each.ensures.closes c.close_each.ensures.listed c.close_each.ensures.owners hold.bound c.close_each.ensures.places
-    c.close_each.ensures.chain (keeps_some held.0 (workers_at (procs_of old)) mid (closed_each held.1 c.args.place.pid) hold) in
+    kept_shut some.0 old mid.heap mid.tree mid.names mid.fifos mid.locks c.args.place.pid some.1 c.close_each.ensures.closes c.close_each.ensures.listed c.close_each.ensures.owners hold.bound c.close_each.ensures.places
+    c.close_each.ensures.chain c.close_each.ensures.locked (keeps_some held.0 (workers_at (procs_of old)) mid (closed_each held.1 c.args.place.pid) hold) in
     c.end.ensures.account frames
-    (account_silent some.0 old mid.heap mid.tree mid.names mid.fifos c.args.place.pid c.wait_in.new.self some.1 c.close_each.ensures.closes c.requires.alive between c.wait_in.ensures frames has)
+    (account_silent some.0 old mid.heap mid.tree mid.names mid.fifos mid.locks c.args.place.pid c.wait_in.new.self some.1 c.close_each.ensures.closes c.requires.alive between c.wait_in.ensures frames has)
 
 pub returns-clause-holds : goal.returns-clause-holds
 returns-clause-holds c = λ numbers others files hold.
     let some = c.requires.kept in
     let old = c.args.objects.now in
     let pid = c.args.place.pid in
-    let mid = with_heap old c.close_each.new.heap c.close_each.new.tree c.close_each.new.names c.close_each.new.fifos in
+    let mid = with_heap old c.close_each.new.heap c.close_each.new.tree c.close_each.new.names c.close_each.new.fifos c.close_each.new.locks in
     let now = c.wait_in.new.self in
-    let new : Objects = record { heap = c.end.new.heap; procs = c.end.new.self; tree = now.tree; names = now.names; fifos = now.fifos } in
+    let new : Objects = record { heap = c.end.new.heap; procs = c.end.new.self; tree = now.tree; names = now.names; fifos = now.fifos; locks = now.locks } in
     let closed = c.close_each.ensures.closed numbers others files hold in
     let between : AreKept some.0 mid =
-    kept_shut some.0 old mid.heap mid.tree mid.names mid.fifos pid some.1 c.close_each.ensures.closes c.close_each.ensures.listed c.close_each.ensures.owners closed.bound c.close_each.ensures.places
-    c.close_each.ensures.chain (keeps_some numbers others mid (closed_each files pid) closed) in
+    kept_shut some.0 old mid.heap mid.tree mid.names mid.fifos mid.locks pid some.1 c.close_each.ensures.closes c.close_each.ensures.listed c.close_each.ensures.owners closed.bound c.close_each.ensures.places
+    c.close_each.ensures.chain c.close_each.ensures.locked (keeps_some numbers others mid (closed_each files pid) closed) in
     let silent : HoldBeside numbers others now (after_end_of files pid) =
-    held_shut some.0 old mid.heap mid.tree mid.names mid.fifos pid now some.1 c.close_each.ensures.closes c.requires.alive between c.wait_in.ensures numbers others files closed in
+    held_shut some.0 old mid.heap mid.tree mid.names mid.fifos mid.locks pid now some.1 c.close_each.ensures.closes c.requires.alive between c.wait_in.ensures numbers others files closed in
     held_moved numbers others now.heap new.heap now.procs new.procs now.tree now.names (after_end_of files pid) c.end.ensures.moves
     (opens_ended some.0 now new pid c.args.status numbers (after_end_of files pid)
-    (kept_silent some.0 old mid.heap mid.tree mid.names mid.fifos pid now some.1 c.close_each.ensures.closes c.requires.alive between c.wait_in.ensures)
-    (closed_silent some.0 old mid.heap mid.tree mid.names mid.fifos pid now some.1 c.close_each.ensures.closes c.requires.alive between c.wait_in.ensures)
+    (kept_silent some.0 old mid.heap mid.tree mid.names mid.fifos mid.locks pid now some.1 c.close_each.ensures.closes c.requires.alive between c.wait_in.ensures)
+    (closed_silent some.0 old mid.heap mid.tree mid.names mid.fifos mid.locks pid now some.1 c.close_each.ensures.closes c.requires.alive between c.wait_in.ensures)
     c.end.ensures.moves c.end.ensures.ended c.end.ensures.last silent.held.opened) silent
+
+locks_each : (shelf : List (Option HeldLock)) (first : Option ℕ) (files : Files) (pid : ℕ) → HoldsLocks shelf first (closed_each files pid).locks → HoldsLocks shelf first (after_end_of files pid).locks
+unfolding closed_each after_end_of
+locks_each shelf first files pid holds = holds
+
+pub returns-clause-locks : goal.returns-clause-locks
+returns-clause-locks c = λ numbers others files hold held.
+    let closed = locks_each c.close_each.new.heap.locks c.close_each.new.locks files c.args.place.pid (c.close_each.ensures.locks numbers others files hold held) in
+    let same : c.end.new.heap.locks ≡ c.close_each.new.heap.locks = ap (λ (h : Heap). h.locks) c.end.ensures.moves.kept ∙ ap (λ (h : Heap). h.locks) c.wait_in.ensures.turns.after in
+    subst (λ first. HoldsLocks c.end.new.heap.locks first (after_end_of files c.args.place.pid).locks) (sym c.wait_in.ensures.locks)
+    (subst (λ (shelf : List (Option HeldLock)). HoldsLocks shelf c.close_each.new.locks (after_end_of files c.args.place.pid).locks) (sym same) closed)
 
 pub returns-clause-queues : goal.returns-clause-queues
 returns-clause-queues c =

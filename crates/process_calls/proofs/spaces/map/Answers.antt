@@ -112,7 +112,7 @@ returns-clause-mapped c = λ script world first stands is.
     let known = c.map.ensures.found memory (memory_at-stands c.args.objects.now.heap c.space_of-space.result) in
     let some = was_some (lowest_run memory _) c.in_ok-first.first (sym c.in_ok-first.was ∙ known) in
     let within = run_within (is_mapped memory) _ c.in_ok-first.first some in
-    let new : Objects = record { heap = c.set_proc_nodes.new.self; procs = c.args.objects.now.procs; tree = c.args.objects.now.tree; names = c.args.objects.now.names; fifos = c.args.objects.now.fifos } in
+    let new : Objects = record { heap = c.set_proc_nodes.new.self; procs = c.args.objects.now.procs; tree = c.args.objects.now.tree; names = c.args.objects.now.names; fifos = c.args.objects.now.fifos; locks = c.args.objects.now.locks } in
     let whole : length memory ≡ 256 = length-memory_at c.args.objects.now.heap c.space_of-space.result in
     let count = (c.args.length + 4096 - 1) / 4096 in
     subst (λ n. StandsFor script new (remembered_in world c.args.place.pid (with_pages (memory_of world.plain.table c.args.place.pid) first n) (after_map world.account.frames c.args.place.pid first n))) (many c.args.length count refl)

@@ -1,5 +1,5 @@
 use Rattle.std.proofs.Common.{subst, sym}
-use Rattle.prog_ctl.specs.Runnable.{MovesBytes, TakesDescriptor, TakesMore, TakesSocket}
+use Rattle.prog_ctl.specs.Runnable.{MovesBytes, TakesDescriptor, TakesLock, TakesMore, TakesSocket}
 use Rattle.prog_ctl.proofs.made.made_on_files.Goals as goal
 
 pub returns-in-Close : goal.returns-in-Close
@@ -55,3 +55,12 @@ returns-in-Shutdown c = λ _. c.made_on_socket-in-Shutdown.ensures c.args.contro
 
 pub returns-in-Poll : goal.returns-in-Poll
 returns-in-Poll c = λ _. c.made_with_texts.ensures c.args.control.now.done (subst TakesMore (sym c.in-Poll.is) tt)
+
+pub returns-in-Setlk : goal.returns-in-Setlk
+returns-in-Setlk c = λ _. c.made_on_lock.ensures c.args.texts.now c.args.control.now.done (subst TakesLock (sym c.in-Setlk.is) tt)
+
+pub returns-in-Setlkw : goal.returns-in-Setlkw
+returns-in-Setlkw c = λ _. c.made_on_lock-in-Setlkw.ensures c.args.texts.now c.args.control.now.done (subst TakesLock (sym c.in-Setlkw.is) tt)
+
+pub returns-in-Getlk : goal.returns-in-Getlk
+returns-in-Getlk c = λ _. c.made_on_lock-in-Getlk.ensures c.args.texts.now c.args.control.now.done (subst TakesLock (sym c.in-Getlk.is) tt)

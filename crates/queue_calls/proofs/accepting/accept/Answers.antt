@@ -1,4 +1,5 @@
 use Rattle.std.proofs.Common.{◌∙◌, ap, refl, sym}
+use Rattle.answer_laws.proofs.KeptLocks.{leaves_locks}
 use Rattle.kabi_types.specs.declared.calls.Call.TheVariants as call
 use Rattle.kheap_laws.proofs.PaidLemmas.{IsPaid-nothing, IsPaid-trans}
 use Rattle.kheap_slabs.specs.Heap.{Heap}
@@ -66,6 +67,7 @@ returns-in-Some-clause-does c =
     c.go_on.new.objects which said c.go_on.result (λ plain. accept script plain pid c.args.on.now.fd)
     done.queues
     (λ plain. accept_stays script plain pid c.args.on.now.fd) c.go_on.ensures.told c.go_on.ensures.goes (no_frames which (λ frames pid value. refl) pid said)
+    (λ plain. leaves_locks script plain pid which refl)
     (λ numbers plain have.
     accepts_reply numbers old.heap heap old.procs script plain pid (accept script plain pid c.args.on.now.fd) taken said (sym c.told.ensures ∙ c.in-Some.is)
     (done.answers numbers script plain have))

@@ -1,4 +1,5 @@
 use Rattle.std.proofs.Common.{ap, refl, subst, sym}
+use Rattle.answer_laws.proofs.KeptLocks.{leaves_locks}
 use Rattle.kabi_types.specs.declared.calls.Call.TheVariants as call
 use Rattle.kheap_laws.proofs.PaidLemmas.{IsPaid-nothing, IsPaid-trans}
 use Rattle.kheap_slabs.specs.Heap.{Heap}
@@ -41,6 +42,7 @@ returns-clause-does c =
     c.go_on.new.objects which said c.go_on.result (λ plain. dup script plain pid c.args.on.now.fd)
     (queues_same old.heap heap (ap (λ (h : Heap). h.pipes) done.beside) (ap (λ (h : Heap). h.socks) done.beside))
     (λ plain. dup_stay script plain pid c.args.on.now.fd) c.go_on.ensures.told c.go_on.ensures.goes (no_frames which (λ frames pid value. refl) pid said)
+    (λ plain. leaves_locks script plain pid which refl)
     (λ numbers plain have.
     subst (Answers numbers heap old.procs script plain pid (dup script plain pid c.args.on.now.fd)) (sym c.value-reply.ensures)
     (done.answers numbers script plain have))

@@ -1,5 +1,6 @@
 use Rattle.std.proofs.Common.{ap, of_z, refl, subst, sym, to_z, w64}
 use Rattle.std.proofs.lemmas.Int.{to_z-of_z}
+use Rattle.answer_laws.proofs.KeptLocks.{leaves_locks}
 use Rattle.kabi_types.specs.declared.calls.Call.TheVariants as call
 use Rattle.kheap_laws.proofs.PaidLemmas.{IsPaid-nothing, IsPaid-trans}
 use Rattle.kheap_slabs.specs.Heap.{Heap}
@@ -42,6 +43,7 @@ returns-clause-does c =
     c.go_on.new.objects which said c.go_on.result (λ plain. fcntl script plain pid c.args.on.now.fd c.args.cmd c.args.arg)
     (queues_same old.heap heap (ap (λ (h : Heap). h.pipes) done.beside) (ap (λ (h : Heap). h.socks) done.beside))
     (λ plain. fcntl_stay script plain pid c.args.on.now.fd c.args.cmd c.args.arg) c.go_on.ensures.told c.go_on.ensures.goes (no_frames which (λ frames pid value. refl) pid said)
+    (λ plain. leaves_locks script plain pid which refl)
     (λ numbers plain have.
     subst (Answers numbers heap old.procs script plain pid (fcntl script plain pid c.args.on.now.fd c.args.cmd c.args.arg)) (sym c.value-reply.ensures)
     (subst (λ z. Answers numbers heap old.procs script plain pid (fcntl script plain pid c.args.on.now.fd z c.args.arg) (value_of c.control.result)) (to_z-of_z w64 c.args.cmd c.ranges.cmd)

@@ -1,4 +1,5 @@
 use Rattle.std.proofs.Common.{refl, subst, sym}
+use Rattle.answer_laws.proofs.KeptLocks.{leaves_locks}
 use Rattle.kabi_types.specs.declared.calls.Call.TheVariants as call
 use Rattle.kheap_laws.proofs.PaidLemmas.{IsPaid-nothing, IsPaid-trans}
 use Rattle.store_objects.proofs.Replying.{no_frames}
@@ -53,6 +54,7 @@ returns-clause-does c =
     c.go_on.new.objects call.Socket said c.go_on.result (λ plain. socket script plain pid)
     done.queues
     (λ plain. socket_stays script plain pid) c.go_on.ensures.told c.go_on.ensures.goes (no_frames call.Socket (λ frames pid value. refl) pid said)
+    (λ plain. leaves_locks script plain pid call.Socket refl)
     (λ numbers plain have.
     subst (AnswersAnew numbers old.heap heap old.procs script plain pid (socket script plain pid)) (sym c.value-reply.ensures)
     (done.answers numbers script plain have))

@@ -1,4 +1,5 @@
 use Rattle.std.proofs.Common.{refl, subst, sym}
+use Rattle.answer_laws.proofs.KeptLocks.{leaves_locks}
 use Rattle.kabi_types.specs.declared.calls.Call.TheVariants as call
 use Rattle.kheap_laws.proofs.PaidLemmas.{IsPaid-nothing, IsPaid-trans}
 use Rattle.store_objects.proofs.Replying.{no_frames}
@@ -53,6 +54,7 @@ returns-clause-does c =
     c.go_on.new.objects call.Socketpair said c.go_on.result (λ plain. socketpair script plain pid)
     done.queues
     (λ plain. socketpair_stays script plain pid) c.go_on.ensures.told c.go_on.ensures.goes (no_frames call.Socketpair (λ frames pid value. refl) pid said)
+    (λ plain. leaves_locks script plain pid call.Socketpair refl)
     (λ numbers plain have.
     subst (AnswersAnew numbers old.heap heap old.procs script plain pid (socketpair script plain pid)) (sym c.pair-reply.ensures)
     (done.answers numbers script plain have))

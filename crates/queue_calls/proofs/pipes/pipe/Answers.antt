@@ -1,4 +1,5 @@
 use Rattle.std.proofs.Common.{List, Option, ap, refl, subst, sym}
+use Rattle.answer_laws.proofs.KeptLocks.{leaves_locks}
 use Rattle.kabi_types.specs.declared.calls.Call.TheVariants as call
 use Rattle.kheap_laws.proofs.PaidLemmas.{IsPaid-nothing, IsPaid-trans}
 use Rattle.kheap_slabs.specs.declared.objects.Sock.{Sock}
@@ -44,6 +45,7 @@ returns-clause-does c =
     c.go_on.new.objects call.Pipe said c.go_on.result (λ plain. pipe script plain pid)
     done.queues
     (λ plain. pipe_stay script plain pid) c.go_on.ensures.told c.go_on.ensures.goes (no_frames call.Pipe (λ frames pid value. refl) pid said)
+    (λ plain. leaves_locks script plain pid call.Pipe refl)
     (λ numbers plain have.
     subst (AnswersAnew numbers old.heap heap old.procs script plain pid (pipe script plain pid)) (sym c.pair-reply.ensures)
     (done.answers numbers script plain have))

@@ -57,4 +57,4 @@ returns-clause-does c =
     of_three (λ fd addr n. Leads script numbers heap old.procs plain account pid (call.Read fd addr n) (read script plain pid fd addr n) told) _ _ _ c.args.on.now.fd c.args.addr c.args.n
     refl (to_z-of_z w64 c.args.addr c.ranges.addr) (to_z-of_z w64 c.args.n c.ranges.n) (c.read-told.ensures.leads script numbers plain account stands))
     (λ world stands. read_leaves (λ moved. ⊥) script world.plain pid c.args.on.now.fd (off_world script old world pid c.args.on.now.fd stands c.requires.off) c.args.addr c.args.n)
-    (follows_done script (record { heap = heap; procs = old.procs; tree = old.tree; names = old.names; fifos = old.fifos }) pid (λ moved. ⊥) told new c.go_on_done.ensures.goes (λ moved is never. never)))
+    (follows_done script (record { heap = heap; procs = old.procs; tree = old.tree; names = old.names; fifos = old.fifos; locks = old.locks }) pid (λ moved. ⊥) told new c.go_on_done.ensures.goes (λ moved is never. never)))

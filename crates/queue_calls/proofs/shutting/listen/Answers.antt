@@ -1,4 +1,5 @@
 use Rattle.std.proofs.Common.{refl, subst, sym}
+use Rattle.answer_laws.proofs.KeptLocks.{leaves_locks}
 use Rattle.kabi_types.specs.declared.calls.Call.TheVariants as call
 use Rattle.kheap_laws.proofs.PaidLemmas.{TakesNothing-trans}
 use Rattle.store_objects.proofs.Replying.{no_frames}
@@ -51,6 +52,7 @@ returns-clause-does c =
     c.go_on.new.objects which said c.go_on.result (λ plain. listen script plain pid c.args.on.now.fd)
     done.queues
     (λ plain. listen_stays script plain pid c.args.on.now.fd) c.go_on.ensures.told c.go_on.ensures.goes (no_frames which (λ frames pid value. refl) pid said)
+    (λ plain. leaves_locks script plain pid which refl)
     (λ numbers plain have.
     subst (Answers numbers heap old.procs script plain pid (listen script plain pid c.args.on.now.fd)) (sym c.zero-reply.ensures)
     (done.answers numbers script plain have))

@@ -1,5 +1,6 @@
 use Rattle.std.proofs.Common.{of_z, refl, subst, sym, to_z, w64}
 use Rattle.std.proofs.lemmas.Int.{to_z-of_z}
+use Rattle.answer_laws.proofs.KeptLocks.{leaves_locks}
 use Rattle.kabi_types.specs.declared.calls.Call.TheVariants as call
 use Rattle.kheap_laws.proofs.PaidLemmas.{TakesNothing-trans}
 use Rattle.store_objects.proofs.Replying.{no_frames}
@@ -52,6 +53,7 @@ returns-clause-does c =
     c.go_on.new.objects which said c.go_on.result (λ plain. shutdown script plain pid c.args.on.now.fd c.args.how)
     done.queues
     (λ plain. shutdown_stays script plain pid c.args.on.now.fd c.args.how) c.go_on.ensures.told c.go_on.ensures.goes (no_frames which (λ frames pid value. refl) pid said)
+    (λ plain. leaves_locks script plain pid which refl)
     (λ numbers plain have.
     subst (Answers numbers heap old.procs script plain pid (shutdown script plain pid c.args.on.now.fd c.args.how)) (sym c.zero-reply.ensures)
     (subst (λ z. Answers numbers heap old.procs script plain pid (shutdown script plain pid c.args.on.now.fd z) (zero_of c.shut_number.result)) (to_z-of_z w64 c.args.how c.ranges.how)

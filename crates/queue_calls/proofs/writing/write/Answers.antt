@@ -111,7 +111,7 @@ leads : (script : Script) (old new : Objects) (heap : Heap) (pid : ℕ) (fd addr
     → ((key : ℕ) → name_of heap.socks key ≡ name_of old.heap.socks key) → IsOffNodes old.heap old.procs pid fd
     → ((numbers : Numbers) (plain : Plain) (account : Account) → QueuesStandFor numbers old.heap old.procs plain account
     → Leads script numbers heap old.procs plain account pid (call.Write as_fd as_addr as_n done) (write_ignoring script plain pid as_fd as_addr as_n done) told)
-    → Follows script (record { heap = heap; procs = old.procs; tree = old.tree; names = old.names; fifos = old.fifos }) pid (λ moved. done + moved ≤ count_of n) told new
+    → Follows script (record { heap = heap; procs = old.procs; tree = old.tree; names = old.names; fifos = old.fifos; locks = old.locks }) pid (λ moved. done + moved ≤ count_of n) told new
     → Performs script old pid (call.Write fd addr n done) (λ plain. write_ignoring script plain pid fd addr n done) told new
 leads script old new heap pid fd addr n as_fd as_addr as_n done told first second third kept beside links names off each follows =
     performs script old heap kept (leaves_more old.heap heap beside links) names pid (call.Write fd addr n done) (λ moved. done + moved ≤ count_of n) new
@@ -136,7 +136,7 @@ returns-in-Part-clause-does c =
     (leads script old new c.write-told.new.heap pid c.args.on.now.fd c.args.addr c.args.n _ _ _ c.args.done c.write-told.result
     refl (to_z-of_z w64 c.args.addr c.ranges.addr) (to_z-of_z w64 c.args.n c.ranges.n) c.write-told.ensures.kept c.write-told.ensures.beside c.write-told.ensures.links names c.requires.off
     (c.write-told.ensures.leads script)
-    (follows_part script (record { heap = c.write-told.new.heap; procs = old.procs; tree = old.tree; names = old.names; fifos = old.fifos }) pid (λ moved. c.args.done + moved ≤ count_of c.args.n) c.write-told.result new c.in-Part.moved
+    (follows_part script (record { heap = c.write-told.new.heap; procs = old.procs; tree = old.tree; names = old.names; fifos = old.fifos; locks = old.locks }) pid (λ moved. c.args.done + moved ≤ count_of c.args.n) c.write-told.result new c.in-Part.moved
     c.in-Part.is (c.do_part.ensures.goes script)))
 
 pub returns-in_default-clause-does : goal.returns-in_default-clause-does
@@ -153,5 +153,5 @@ returns-in_default-clause-does c =
     (leads script old new c.write-told.new.heap pid c.args.on.now.fd c.args.addr c.args.n _ _ _ c.args.done c.write-told.result
     refl (to_z-of_z w64 c.args.addr c.ranges.addr) (to_z-of_z w64 c.args.n c.ranges.n) c.write-told.ensures.kept c.write-told.ensures.beside c.write-told.ensures.links names c.requires.off
     (c.write-told.ensures.leads script)
-    (follows_done script (record { heap = c.write-told.new.heap; procs = old.procs; tree = old.tree; names = old.names; fifos = old.fifos }) pid (λ moved. c.args.done + moved ≤ count_of c.args.n) c.write-told.result new
+    (follows_done script (record { heap = c.write-told.new.heap; procs = old.procs; tree = old.tree; names = old.names; fifos = old.fifos; locks = old.locks }) pid (λ moved. c.args.done + moved ≤ count_of c.args.n) c.write-told.result new
     c.go_on_done.ensures.goes (λ moved is some. c.in_default.not-Part moved is)))

@@ -48,9 +48,9 @@ returns c =
     let is_empty = c.in_ok-heap.ensures.empty in
     let root : KeepsRoot (new_root c.args.blocks) c.in_ok-heap.heap c.boot-3.new.heap = c.in-Ok.ensures.root in
     let fs = c.in-Ok.tree in
-    has_booted heap c.args.blocks c.args.control rooted fs (record { heap = c.boot-procs.new.heap; procs = c.boot-procs.result; tree = fs; names = c.in_ok-names.names; fifos = c.new.result }) c.move_on.new.self
+    has_booted heap c.args.blocks c.args.control rooted fs (record { heap = c.boot-procs.new.heap; procs = c.boot-procs.result; tree = fs; names = c.in_ok-names.names; fifos = c.new.result; locks = c.new-2.result }) c.move_on.new.self
     (no_pages heap inode empty rooted is_empty root) (no_procs heap inode empty rooted is_empty root) (rooted_owned heap inode empty rooted is_empty root)
     (rooted_bare heap inode empty rooted is_empty root) (rooted_owners heap inode empty rooted is_empty root) c.in-Ok.ensures.stands
-    (rooted_kept heap inode empty rooted is_empty root fs (new_tree c.args.blocks) root_alone c.in-Ok.ensures.stands) c.in-Ok.ensures.unread refl c.in_ok-names.ensures c.new.ensures
+    (rooted_kept heap inode empty rooted is_empty root fs (new_tree c.args.blocks) root_alone c.in-Ok.ensures.stands) c.in-Ok.ensures.unread refl c.in_ok-names.ensures c.new.ensures c.new-2.ensures
     (rooted_size heap inode empty rooted is_empty root)
     c.boot-procs.ensures.processes c.boot-procs.ensures.last c.boot-procs.ensures.moves c.boot-procs.ensures.table c.boot-procs.ensures.account c.move_on.ensures

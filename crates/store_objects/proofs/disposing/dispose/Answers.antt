@@ -11,7 +11,7 @@ returns-clause-kept c = λ script kept.
     let old = c.args.objects.now in
     let disposes = subst (λ z. Disposes old.heap c.dispose.new.heap old.procs c.args.place (count_of z) c.args.ignored c.dispose.result) (to_z-of_z w64 c.args.signal c.ranges.signal) c.dispose.ensures.disposes in
     kept_disposed script old (record old { heap = c.dispose.new.heap }) c.args.place.pid (count_of c.args.signal) c.args.ignored kept
-    (one_disposed old (record old { heap = c.dispose.new.heap }) c.args.place (count_of c.args.signal) c.args.ignored c.dispose.result disposes refl refl refl refl c.dispose.ensures.takes)
+    (one_disposed old (record old { heap = c.dispose.new.heap }) c.args.place (count_of c.args.signal) c.args.ignored c.dispose.result disposes refl refl refl refl refl c.dispose.ensures.takes)
 
 pub returns-clause-runs : goal.returns-clause-runs
 returns-clause-runs c =
@@ -19,7 +19,7 @@ returns-clause-runs c =
     let some = c.requires.kept in
     let disposes = subst (λ z. Disposes old.heap c.dispose.new.heap old.procs c.args.place (count_of z) c.args.ignored c.dispose.result) (to_z-of_z w64 c.args.signal c.ranges.signal) c.dispose.ensures.disposes in
     runs_disposed some.0 old (record old { heap = c.dispose.new.heap }) c.args.place.pid (count_of c.args.signal) c.args.ignored some.1
-    (one_disposed old (record old { heap = c.dispose.new.heap }) c.args.place (count_of c.args.signal) c.args.ignored c.dispose.result disposes refl refl refl refl c.dispose.ensures.takes)
+    (one_disposed old (record old { heap = c.dispose.new.heap }) c.args.place (count_of c.args.signal) c.args.ignored c.dispose.result disposes refl refl refl refl refl c.dispose.ensures.takes)
 
 pub returns-clause-before : goal.returns-clause-before
 returns-clause-before c = λ script world stands.
@@ -32,4 +32,4 @@ returns-clause-stands c = λ script world stands.
     let old = c.args.objects.now in
     let disposes = subst (λ z. Disposes old.heap c.dispose.new.heap old.procs c.args.place (count_of z) c.args.ignored c.dispose.result) (to_z-of_z w64 c.args.signal c.ranges.signal) c.dispose.ensures.disposes in
     stands_disposed script old (record old { heap = c.dispose.new.heap }) c.args.place.pid (count_of c.args.signal) c.args.ignored stands.kept
-    (one_disposed old (record old { heap = c.dispose.new.heap }) c.args.place (count_of c.args.signal) c.args.ignored c.dispose.result disposes refl refl refl refl c.dispose.ensures.takes) world stands
+    (one_disposed old (record old { heap = c.dispose.new.heap }) c.args.place (count_of c.args.signal) c.args.ignored c.dispose.result disposes refl refl refl refl refl c.dispose.ensures.takes) world stands

@@ -11,9 +11,9 @@ ask_each-requires-clause-room c =
     omega (arith, c.requires.room)
 
 pub returns-clause-minded : goal.returns-clause-minded
-returns-clause-minded c = λ world stands.
+returns-clause-minded c = λ world stands reached.
     minded_alone c.args.script.now world.plain c.ask_each.new.told.items c.self.inside.channels
-    (λ place. ap (λ (s : SleepersView). channel_at s.channels place) c.self.view_is ∙ c.forget_channels.ensures.channels place) (c.ask_each.ensures.truly world stands)
+    (λ place. ap (λ (s : SleepersView). channel_at s.channels place) c.self.view_is ∙ c.forget_channels.ensures.channels place) (c.ask_each.ensures.truly world stands reached)
 
 pub returns-clause-room : goal.returns-clause-room
 returns-clause-room c =

@@ -5,8 +5,8 @@ use Rattle.call_run.proofs.Minding.{alive_some, doubted_minded, lain_minded, par
 use Rattle.call_run.proofs.Telling.{names_all, names_then}
 use Rattle.call_run.proofs.sleepers.Sleepers.go_on_in_part.Goals as goal
 
-pub goes_on-requires : goal.goes_on-requires
-goes_on-requires c =
+pub goes_on-requires-clause-stands : goal.goes_on-requires-clause-stands
+goes_on-requires-clause-stands c =
     let b = c.requires.behind in
     (b.1, (let behind = b.3 in behind.stands), part_lives c.args.script.now c.args.objects.now b.0 b.1 c.args.pid c.args.call.now b.2 _ _ b.3 b.4)
 
@@ -26,7 +26,7 @@ returns-clause-minded c = λ old new told behind came.
     let script = c.args.script.now in
     let before = c.go_on.ensures.minded old new told behind came in
     let alive = part_lives script c.args.objects.now old new c.args.pid c.args.call.now told _ _ behind came in
-    let blocks : would_block script new.plain c.args.pid ≡ not c.goes_on.result = other_way _ _ (c.goes_on.ensures new behind.stands alive) in
+    let blocks : would_block script new.plain c.args.pid ≡ not c.goes_on.result = other_way _ _ (c.goes_on.ensures.goes new behind.stands behind.reaches alive) in
     elim c.lie_down.ensures.told [
       | inl lain ↦
           subst (λ ts. AreMinded script new.plain ts c.lie_down.new.self.channels) (sym lain)

@@ -10,6 +10,7 @@ use Rattle.call_run.specs.Stores.{SleepersView}
 use Rattle.call_run.proofs.Asking.{same_fewer}
 use Rattle.call_run.proofs.Channels.{channel_is}
 use Rattle.call_run.proofs.Minding.{begun_same, near_same, sleepers_live, touched_lives, touched_near, touched_passed}
+use Rattle.call_run.proofs.NoLock.{free_behind}
 use Rattle.call_run.proofs.Telling.{names_begun, names_then}
 use Rattle.call_run.proofs.sleepers.Sleepers.touch.Goals as goal
 
@@ -21,7 +22,7 @@ pub ask_all-requires-clause-stands : goal.ask_all-requires-clause-stands
 ask_all-requires-clause-stands c = let b = c.requires.behind in (b.1, let behind = b.4 in behind.stands)
 
 pub returns-then-len-le-FEW-clause-minded : goal.returns-then-len-le-FEW-clause-minded
-returns-then-len-le-FEW-clause-minded c = λ old new call told behind stirs. c.ask_all.ensures.minded new behind.stands
+returns-then-len-le-FEW-clause-minded c = λ old new call told behind stirs. c.ask_all.ensures.minded new behind.stands behind.reaches
 
 pub returns-then-is_passed-clause-minded : goal.returns-then-is_passed-clause-minded
 returns-then-is_passed-clause-minded c = λ old new call told behind stirs.
@@ -30,7 +31,7 @@ returns-then-is_passed-clause-minded c = λ old new call told behind stirs.
     let channels = c.args.self.now.channels in
     let view : c.self.inside.channels ≡ channels = ap (λ (s : SleepersView). s.channels) c.self.view_is in
     let place = c.channel_of-place.result in
-    touched_passed c.args.script.now c.args.objects.now old new c.args.pid call told sleepers channels behind c.requires.up c.args.fd stirs place
+    touched_passed c.args.script.now c.args.objects.now old new c.args.pid call told sleepers channels behind c.requires.up c.args.fd stirs (free_behind c.args.script.now c.args.objects.now new behind.stands c.requires.free) place
     (subst (IsPassed (channel_at channels place) c.args.pid) fd
     (subst (λ it. IsPassed it c.args.pid (to_z w64 (of_z w64 c.args.fd))) (channel_is c.self.inside.channels place ∙ ap (λ list. channel_at list place) view) (c.is_passed.ensures c.if-is_passed.true)))
 
@@ -59,7 +60,7 @@ returns-clause-minded c = λ old new call told behind stirs.
     let opened : Option Channel = Some (record { pid = c.args.pid; fd = to_z w64 (of_z w64 c.args.fd); all_apart = not near.0 }) in
     subst (AreMinded c.args.script.now new.plain c.ask_there.new.self.told) (sym (near.2 ∙ ap (λ channels. slice_set channels c.channel_of-place.result opened) same))
     (touched_near c.args.script.now c.args.objects.now old new c.args.pid call told c.args.self.now.told c.args.self.now.channels behind c.requires.up (to_z w64 (of_z w64 c.args.fd))
-    (stirs ∙ ap Through (sym fd)) c.channel_of-place.result near.0
+    (stirs ∙ ap Through (sym fd)) (free_behind c.args.script.now c.args.objects.now new behind.stands c.requires.free) c.channel_of-place.result near.0
     some.0 some.1 some.2 c.begin.new.self.told c.ask_there.new.self.told c.begin.ensures.told near.1
     (subst (λ n. c.channel_of-place.result < n) (sym long) c.channel_of-place.ensures))
 

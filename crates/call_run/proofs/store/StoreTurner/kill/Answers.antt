@@ -38,17 +38,17 @@ pub returns-clause-killed : goal.returns-clause-killed
 returns-clause-killed g c = λ world stands alive other.
     let killed =
     c.kill.ensures.killed c.self.inside.script world (subst (λ store. IsStoreOf store.script store.objects world) (sym c.self.view_is) stands.objects) alive other in
-    (killed.0, record { objects = killed.1; rests = c.kill.ensures.rests; told = c.killed.ensures.minded killed.0 killed.1.stands }, killed.2)
+    (killed.0, record { objects = killed.1; rests = c.kill.ensures.rests; told = c.killed.ensures.minded killed.0 killed.1.stands killed.1.reached }, killed.2)
 
 pub returns-clause-gone : goal.returns-clause-gone
 returns-clause-gone g c = λ world stands over.
     let gone = c.kill.ensures.gone c.self.inside.script world (subst (λ store. IsStoreOf store.script store.objects world) (sym c.self.view_is) stands.objects) over in
-    record { objects = gone; rests = c.kill.ensures.rests; told = c.killed.ensures.minded world gone.stands }
+    record { objects = gone; rests = c.kill.ensures.rests; told = c.killed.ensures.minded world gone.stands gone.reached }
 
 pub returns-clause-first : goal.returns-clause-first
 returns-clause-first g c = λ world stands first.
     let same = c.kill.ensures.first c.self.inside.script world (subst (λ store. IsStoreOf store.script store.objects world) (sym c.self.view_is) stands.objects) first in
-    record { objects = same; rests = c.kill.ensures.rests; told = c.killed.ensures.minded world same.stands }
+    record { objects = same; rests = c.kill.ensures.rests; told = c.killed.ensures.minded world same.stands same.reached }
 
 pub returns-clause-named : goal.returns-clause-named
 returns-clause-named g c =

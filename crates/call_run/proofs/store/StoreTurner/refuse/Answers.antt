@@ -15,7 +15,7 @@ returns-clause-refused g c = λ world stands alive.
     record {
       objects = c.refuse.ensures.refused world before.objects alive;
       rests = c.refuse.ensures.rests;
-      told = c.refused.ensures.minded c.self.inside.script world before.objects.reached before.told;
+      told = let after = c.refuse.ensures.refused world before.objects alive in c.refused.ensures.minded world before.objects.reached before.told after.stands after.reached;
     } in
     subst (λ store. Stands (record { script = c.self.inside.script; objects = c.refuse.new.objects; sleepers = c.refused.new.self }) (refused_in store.script world c.args.pid)) c.self.view_is refused
 
@@ -29,3 +29,10 @@ refuse-requires-clause-alive g c =
 
 pub refuse-requires-clause-rests : goal.refuse-requires-clause-rests
 refuse-requires-clause-rests g c = let some = c.requires in subst (λ store. IsAtRest store.objects) (sym c.self.view_is) some.1.rests
+
+-- it stands for some world behind it
+pub refused-requires : goal.refused-requires
+refused-requires g c =
+    let some = c.requires in
+    let after = c.refuse.ensures.refused some.0 (subst (λ store. IsStoreOf store.script store.objects some.0) (sym c.self.view_is) some.1.objects) some.2 in
+    (refused_in c.self.inside.script some.0 c.args.pid, after.stands)

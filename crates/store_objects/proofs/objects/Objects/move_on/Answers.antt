@@ -20,5 +20,6 @@ returns c =
       tree = refl;
       names = refl;
       fifos = refl;
+      locks = refl;
       takes = c.set_proc_control.ensures.takes;
     }

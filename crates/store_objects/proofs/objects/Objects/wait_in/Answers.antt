@@ -31,5 +31,6 @@ returns c =
       tree = refl;
       names = refl;
       fifos = refl;
+      locks = refl;
       takes = c.set_proc_opening.ensures.takes;
     }

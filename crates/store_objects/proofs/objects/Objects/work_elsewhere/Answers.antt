@@ -11,5 +11,6 @@ returns c = record {
   tree = refl;
   names = refl;
   fifos = refl;
+  locks = refl;
   takes = c.set_proc.ensures.takes;
 }

@@ -1,0 +1,12 @@
+pub mod Operands
+pub mod Claims
+pub mod Holders
+pub mod Circles
+pub mod Beside
+pub mod Granting
+pub mod Locking
+pub mod Rows
+pub mod Blocking
+pub mod WhoWaits
+pub mod NextWaits
+pub mod Trying

@@ -1,0 +1,5 @@
+pub mod Reordered
+pub mod Chain
+pub mod Holding
+pub mod Setting
+pub mod Walking
