@@ -7,4 +7,5 @@ pub mod Reply
 pub mod Call
 pub mod PathParts
 pub mod Arguments
+pub mod Ranges
 pub mod Words

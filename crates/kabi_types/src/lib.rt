@@ -16,6 +16,7 @@ mod long_lists;
 mod memory;
 mod open_flags;
 mod paths;
+pub mod ranges;
 mod replies;
 mod scripts;
 mod short_lists;

@@ -5,7 +5,7 @@ use Rattle.kabi_types.specs.declared.errnos.Errno.{Errno}
 use Rattle.kabi_types.specs.declared.errnos.Errno.TheVariants.{EBADF, EINVAL}
 use Rattle.kheap_slabs.specs.declared.objects.Target.{Target as HeldTarget}
 use Rattle.kheap_slabs.specs.declared.objects.Target.TheVariants as held
-use Rattle.lock_ranges.specs.declared.range.Kind.{Kind}
+use Rattle.kabi_types.specs.declared.ranges.Kind.{Kind}
 use Rattle.lock_table.specs.Holding.{asked_by}
 use Rattle.open_laws.specs.Described.{access_in, target_in}
 use Rattle.open_laws.specs.Placed.{Numbers}

@@ -8,7 +8,7 @@ use Rattle.kabi_types.specs.declared.scripts.Control.{Control}
 use Rattle.kabi_types.specs.declared.scripts.Script.{Script}
 use Rattle.kheap_slabs.specs.Heap.{Heap, IsWellFormed}
 use Rattle.kheap_slabs.specs.Objects.{count}
-use Rattle.lock_ranges.specs.declared.range.Kind.{Kind}
+use Rattle.kabi_types.specs.declared.ranges.Kind.{Kind}
 use Rattle.lock_table.specs.Chain.{HoldsLocks, IsLockTable}
 use Rattle.memfs_ops.specs.FileTree.{IsUsed}
 use Rattle.open_laws.specs.Placed.{Numbers}

@@ -7,7 +7,7 @@ use Rattle.kabi_types.specs.declared.errnos.Errno.{Errno}
 use Rattle.kabi_types.specs.declared.errnos.Errno.TheVariants.{EBADF, EINVAL}
 use Rattle.kheap_slabs.specs.declared.objects.Target.{Target as HeldTarget}
 use Rattle.kheap_slabs.specs.declared.objects.Target.TheVariants as held
-use Rattle.lock_ranges.specs.declared.range.Kind.{Kind}
+use Rattle.kabi_types.specs.declared.ranges.Kind.{Kind}
 use Rattle.lock_table.specs.Holding.{asked_by}
 use Rattle.posix_defs.specs.Calls.OnLocks.{Wanted, claimed, file_of, request_of}
 use Rattle.posix_defs.specs.Calls.Opened.{Opened}

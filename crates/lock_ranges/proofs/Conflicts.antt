@@ -3,10 +3,10 @@ use Rattle.std.proofs.Common.{◌≡◌, ℕ, ◌<◌, ◌≤◌, max, Bool, tru
 use Rattle.std.specs.List.{AllByRecursion}
 use Rattle.std.proofs.Math.Seq.{drop-cons}
 use Rattle.std.proofs.lemmas.Bool.{and_from, and_parts, cases_Bool, leb-true, le-leb}
-use Rattle.lock_ranges.specs.declared.range.Kind.{Kind}
-use Rattle.lock_ranges.specs.declared.range.Kind.TheVariants.{Shared, Exclusive}
-use Rattle.lock_ranges.specs.declared.range.Range.{Range}
-use Rattle.lock_ranges.specs.Ranges.{AreApart, IsCanonical, clashes, conflicts, covers, first_conflict, greatest, kind_at, set}
+use Rattle.kabi_types.specs.declared.ranges.Kind.{Kind}
+use Rattle.kabi_types.specs.declared.ranges.Kind.TheVariants.{Shared, Exclusive}
+use Rattle.kabi_types.specs.declared.ranges.Range.{Range}
+use Rattle.kabi_types.specs.Ranges.{AreApart, IsCanonical, clashes, conflicts, covers, first_conflict, greatest, kind_at, set}
 use Rattle.lock_ranges.proofs.Places.{cases_covers, covers-inside, kind_here, kind_later}
 use Rattle.lock_ranges.proofs.Shape.{BeginBehind, kind_at-set, later_behind}
 use Rattle.lock_ranges.proofs.Unique.{none_up_to}

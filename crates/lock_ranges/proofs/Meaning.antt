@@ -1,9 +1,9 @@
 -- What ranges say of each place, through cuts and joins.
 use Rattle.std.proofs.Common.{◌≡◌, ℕ, ◌+◌, ◌<◌, ◌≤◌, true, false, cond, List, [], ◌∷◌, ◌++◌, append_assoc, Option, None, Some, refl, ap, sym, subst, ◌∙◌, inl, inr, ◌⊎◌, arith}
 use Rattle.std.proofs.lemmas.Bool.{cases_lt, cases_Bool, lt-ltb, le-ltb}
-use Rattle.lock_ranges.specs.declared.range.Kind.{Kind}
-use Rattle.lock_ranges.specs.declared.range.Range.{Range}
-use Rattle.lock_ranges.specs.Ranges.{added, before, behind, beyond, covers, held, joined, kind_at, set, touch, until}
+use Rattle.kabi_types.specs.declared.ranges.Kind.{Kind}
+use Rattle.kabi_types.specs.declared.ranges.Range.{Range}
+use Rattle.kabi_types.specs.Ranges.{added, before, behind, beyond, covers, held, joined, kind_at, set, touch, until}
 use Rattle.lock_ranges.proofs.Places.{added_behind, added_grown, cases_covers, covers-inside, covers-outside, grown, kind_here, kind_later, touch_parts}
 
 -- ---- one list behind another

@@ -1,10 +1,10 @@
 -- Kinds, and whether a place is in a range.
 use Rattle.std.proofs.Common.{◌≡◌, ℕ, ◌+◌, ◌<◌, ◌≤◌, true, false, cond, eqb, leb, List, [], ◌∷◌, Some, ap, inl, inr, ◌⊎◌, refl}
 use Rattle.std.proofs.lemmas.Bool.{and_left, and_right, and_from, and_parts, cases_lt, le-leb, lt-leb, eqb-true}
-use Rattle.lock_ranges.specs.declared.range.Kind.{Kind}
-use Rattle.lock_ranges.specs.declared.range.Kind.TheVariants.{Shared, Exclusive}
-use Rattle.lock_ranges.specs.declared.range.Range.{Range}
-use Rattle.lock_ranges.specs.Ranges.{added, covers, kind_at, same_kind, touch}
+use Rattle.kabi_types.specs.declared.ranges.Kind.{Kind}
+use Rattle.kabi_types.specs.declared.ranges.Kind.TheVariants.{Shared, Exclusive}
+use Rattle.kabi_types.specs.declared.ranges.Range.{Range}
+use Rattle.kabi_types.specs.Ranges.{added, covers, kind_at, same_kind, touch}
 
 -- ---- kinds
 

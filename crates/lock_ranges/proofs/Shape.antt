@@ -3,9 +3,9 @@ use Rattle.std.proofs.Common.{◌≡◌, if◌then◌else◌, ℕ, ◌+◌, ◌<
 use Rattle.std.specs.List.{AllByRecursion}
 use Rattle.std.proofs.lemmas.Bool.{and_right, cases_eq, cases_lt, cases_Bool, ne_eqb}
 use Rattle.std.proofs.lemmas.List.{length-append}
-use Rattle.lock_ranges.specs.declared.range.Kind.{Kind}
-use Rattle.lock_ranges.specs.declared.range.Range.{Range}
-use Rattle.lock_ranges.specs.Ranges.{IsCanonical, LiesBefore, added, before, behind, covers, greatest, held, joined, kind_at, same_kind, set, touch, until}
+use Rattle.kabi_types.specs.declared.ranges.Kind.{Kind}
+use Rattle.kabi_types.specs.declared.ranges.Range.{Range}
+use Rattle.kabi_types.specs.Ranges.{IsCanonical, LiesBefore, added, before, behind, covers, greatest, held, joined, kind_at, same_kind, set, touch, until}
 use Rattle.lock_ranges.proofs.Places.{added_behind, added_grown}
 use Rattle.lock_ranges.proofs.Meaning.{AreFull, before_cut, before_out, behind_cut, behind_out, kind_set}
 

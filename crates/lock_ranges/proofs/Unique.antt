@@ -2,9 +2,9 @@
 use Rattle.std.proofs.Common.{◌≡◌, ℕ, ◌+◌, ◌<◌, ◌≤◌, Bool, true, false, cond, eqb, List, [], ◌∷◌, Option, None, Some, refl, ap, sym, ◌∙◌, inl, inr, arith}
 use Rattle.std.specs.List.{AllByRecursion}
 use Rattle.std.proofs.lemmas.Bool.{and_from, cases_lt, eq-eqb}
-use Rattle.lock_ranges.specs.declared.range.Kind.{Kind}
-use Rattle.lock_ranges.specs.declared.range.Range.{Range}
-use Rattle.lock_ranges.specs.Ranges.{IsCanonical, LiesBefore, covers, greatest, kind_at, same_kind, set, touch}
+use Rattle.kabi_types.specs.declared.ranges.Kind.{Kind}
+use Rattle.kabi_types.specs.declared.ranges.Range.{Range}
+use Rattle.kabi_types.specs.Ranges.{IsCanonical, LiesBefore, covers, greatest, kind_at, same_kind, set, touch}
 use Rattle.lock_ranges.proofs.Places.{cases_covers, covers-inside, kind_here, kind_itself, kind_later}
 use Rattle.lock_ranges.proofs.Shape.{BeginBehind, IsCanonical-set, kind_at-set, later_behind}
 

@@ -3,9 +3,9 @@ use Rattle.std.proofs.Common.{◌≡◌, ℕ, ◌+◌, ◌-◌, ◌<◌, ◌≤�
 use Rattle.std.specs.List.{AllByRecursion}
 use Rattle.std.proofs.lemmas.Bool.{and_from, and_parts, cases_Bool, cases_lt, eq-eqb, le-leb, leb-true}
 use Rattle.std.proofs.lemmas.List.{append-nil}
-use Rattle.lock_ranges.specs.declared.range.Kind.{Kind}
-use Rattle.lock_ranges.specs.declared.range.Range.{Range}
-use Rattle.lock_ranges.specs.Ranges.{IsCanonical, LiesBefore, added, before, behind, beyond, covers, greatest, joined, kind_at, same_kind, set, touch, until}
+use Rattle.kabi_types.specs.declared.ranges.Kind.{Kind}
+use Rattle.kabi_types.specs.declared.ranges.Range.{Range}
+use Rattle.kabi_types.specs.Ranges.{IsCanonical, LiesBefore, added, before, behind, beyond, covers, greatest, joined, kind_at, same_kind, set, touch, until}
 use Rattle.lock_ranges.specs.Widening.{Begins, Ends, IsAmong, IsWidened, reaches}
 use Rattle.lock_ranges.proofs.Meaning.{before_cut, before_out, behind_cut, behind_out}
 use Rattle.lock_ranges.proofs.Places.{added_behind, cases_covers, covers-inside, covers-outside, kind_here, kind_itself, kind_later, kinds_same, touch_parts}

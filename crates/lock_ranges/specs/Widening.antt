@@ -1,8 +1,8 @@
 -- A range that takes in what it touches of its kind, so that nothing is joined to it.
 use Rattle.std.specs.Prelude.{◌≡◌, ◌⊎◌, ℕ, ◌-◌, ◌≤◌, nat_le, Bool, true, ◌&&◌, List, [], ◌∷◌}
 use Rattle.std.specs.List.{AllByRecursion}
-use Rattle.lock_ranges.specs.declared.range.Range.{Range}
-use Rattle.lock_ranges.specs.Ranges.{same_kind}
+use Rattle.kabi_types.specs.declared.ranges.Range.{Range}
+use Rattle.kabi_types.specs.Ranges.{same_kind}
 
 -- a range shares a place with another, or stands right beside it, and is of its kind
 abbrev pub reaches : Range → Range → Bool

@@ -1,10 +1,10 @@
 //! Laws of setting ranges, and of what they say of places. Each is the contract of a function that does nothing.
 
 ghost use Rattle.std.specs.Prelude.{◌≡◌, ℕ, ◌+◌, ◌≤◌, List, [], ◌∷◌, ◌++◌, Option, None, Some, IsSome, IsTrue, ◌↔◌, if◌then◌else◌, length};
-ghost use Rattle.lock_ranges.specs.Ranges.{AreApart, IsCanonical, before, behind, clashes, covers, first_conflict, greatest, kind_at, set};
+ghost use Rattle.kabi_types.specs.Ranges.{AreApart, IsCanonical, before, behind, clashes, covers, first_conflict, greatest, kind_at, set};
 ghost use Rattle.lock_ranges.specs.Widening.{IsWidened};
-ghost use Rattle.lock_ranges.specs.declared.range.Kind.{Kind};
-ghost use Rattle.lock_ranges.specs.declared.range.Range.{Range};
+ghost use Rattle.kabi_types.specs.declared.ranges.Kind.{Kind};
+ghost use Rattle.kabi_types.specs.declared.ranges.Range.{Range};
 
 /// Two canonical lists that say the same of each place are one.
 pub fn a_canonical_list_is_the_only_one_that_says_so()

@@ -3,7 +3,6 @@
 
 mod laws;
 mod pieces;
-mod range;
 mod ranges;
 
 pub use laws::{
@@ -12,5 +11,4 @@ pub use laws::{
     setting_again_changes_nothing, setting_changes_the_places_inside,
     setting_makes_two_more_at_most,
 };
-pub use range::{Kind, Range};
 pub use ranges::Ranges;

@@ -1,7 +1,7 @@
 ghost use Rattle.std.specs.Prelude.{◌≡◌, IfOk, OnOk};
-ghost use Rattle.lock_ranges.specs.Ranges.{added, before, behind, joined, set};
+ghost use Rattle.kabi_types.specs.Ranges.{added, before, behind, joined, set};
 
-use crate::range::{Kind, Range};
+use kabi_types::ranges::{Kind, Range};
 use kabi_types::Memory;
 use std::alloc::Global;
 

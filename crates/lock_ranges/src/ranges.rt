@@ -1,9 +1,9 @@
 ghost use Rattle.std.specs.Prelude.{◌≡◌, ℕ, ◌≤◌, [], IfSome, IsTrue, OnOk, OnErr, if◌then◌else◌};
 ghost use Rattle.std.specs.List.{AllByRecursion};
-ghost use Rattle.lock_ranges.specs.Ranges.{IsCanonical, conflicts, covers, first_conflict, greatest, kind_at, set};
+ghost use Rattle.kabi_types.specs.Ranges.{IsCanonical, conflicts, covers, first_conflict, greatest, kind_at, set};
 
 use crate::pieces::after_setting;
-use crate::range::{Kind, Range};
+use kabi_types::ranges::{Kind, Range};
 use kabi_types::Memory;
 use std::alloc::Global;
 use std::marker::Model;
@@ -16,8 +16,8 @@ pub struct Ranges {
 
 impl Model for Ranges {
     ghost use Rattle.std.specs.Prelude.{List};
-    ghost use Rattle.lock_ranges.specs.Ranges.{IsCanonical};
-    ghost use Rattle.lock_ranges.specs.declared.range.Range.{Range};
+    ghost use Rattle.kabi_types.specs.Ranges.{IsCanonical};
+    ghost use Rattle.kabi_types.specs.declared.ranges.Range.{Range};
 
     ghost Value = { List Range };
 

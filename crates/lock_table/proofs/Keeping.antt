@@ -3,8 +3,8 @@ use Rattle.std.proofs.Common.{◌≡◌, ℕ, ◌+◌, ◌<◌, ◌≤◌, ◌&&
 use Rattle.std.specs.List.{AllByRecursion, filter}
 use Rattle.std.proofs.lemmas.Bool.{and_left, and_parts, cases_Bool, cases_lt, eqb-true, le-ltb, lt-ltb, ltb-true}
 use Rattle.std.proofs.lemmas.List.{append-nil, map-append}
-use Rattle.lock_ranges.specs.Ranges.{IsCanonical, LiesBefore, before, behind, beyond, greatest, until}
-use Rattle.lock_ranges.specs.declared.range.Range.{Range}
+use Rattle.kabi_types.specs.Ranges.{IsCanonical, LiesBefore, before, behind, beyond, greatest, until}
+use Rattle.kabi_types.specs.declared.ranges.Range.{Range}
 use Rattle.lock_ranges.proofs.Meaning.{before_cut, before_out, behind_cut, behind_out}
 use Rattle.posix_defs.specs.Locks.{Lock, Locks, is_of, lock_of, ranges_of, without}
 use Rattle.lock_table.specs.Reordered.{IsReordered, empty, more, swap, trans}

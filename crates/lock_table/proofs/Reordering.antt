@@ -3,7 +3,7 @@ use Rattle.std.proofs.Common.{◌≡◌, ℕ, ◌+◌, Bool, true, false, ◌||�
 use Rattle.std.specs.List.{AllByRecursion, filter, list_any}
 use Rattle.std.proofs.lemmas.List.{append-nil}
 use Rattle.lock_ranges.specs.Widening.{IsAmong}
-use Rattle.lock_ranges.specs.declared.range.Range.{Range}
+use Rattle.kabi_types.specs.declared.ranges.Range.{Range}
 use Rattle.lock_table.specs.Reordered.{IsReordered, empty, more, swap, trans}
 
 abbrev pub one_if : Bool → ℕ

@@ -3,10 +3,10 @@ use Rattle.std.proofs.Common.{◌≡◌, ◌≢◌, ℕ, ◌+◌, ◌-◌, ◌<�
 use Rattle.std.specs.List.{AllByRecursion, filter}
 use Rattle.std.proofs.lemmas.Bool.{and_from, and_left, and_right, and_parts, cases_Bool, cases_eq, cases_lt, eq-eqb, eqb-true, ne_eqb}
 use Rattle.std.proofs.lemmas.List.{append-nil, map-append}
-use Rattle.lock_ranges.specs.Ranges.{IsCanonical, before, behind, greatest, set}
+use Rattle.kabi_types.specs.Ranges.{IsCanonical, before, behind, greatest, set}
 use Rattle.lock_ranges.specs.Widening.{Begins, Ends, IsAmong, IsWidened, LiesWithin, reaches}
-use Rattle.lock_ranges.specs.declared.range.Kind.{Kind}
-use Rattle.lock_ranges.specs.declared.range.Range.{Range}
+use Rattle.kabi_types.specs.declared.ranges.Kind.{Kind}
+use Rattle.kabi_types.specs.declared.ranges.Range.{Range}
 use Rattle.lock_ranges.proofs.Shape.{IsCanonical-set, weaker}
 use Rattle.lock_ranges.proofs.Widening.{set_held, set_none}
 use Rattle.posix_defs.specs.Locks.{Lock, Locks, Request, after_set, is_of, lock_of, ranges_of, with_ranges, without}

@@ -12,9 +12,9 @@ use Rattle.kheap_slabs.specs.Paid.{CanPay, TakesNothing}
 use Rattle.kheap_slabs.specs.Purse.{Purse}
 use Rattle.kheap_slabs.specs.declared.objects.Lock.{Lock as HeldLock}
 use Rattle.kheap_slabs.proofs.ObjectLemmas.{object-none, object_of}
-use Rattle.lock_ranges.specs.Ranges.{greatest}
-use Rattle.lock_ranges.specs.declared.range.Kind.{Kind}
-use Rattle.lock_ranges.specs.declared.range.Range.{Range}
+use Rattle.kabi_types.specs.Ranges.{greatest}
+use Rattle.kabi_types.specs.declared.ranges.Kind.{Kind}
+use Rattle.kabi_types.specs.declared.ranges.Range.{Range}
 use Rattle.posix_defs.specs.Locks.{Locks, Request, after_set, first_in_way, is_in_way, stops, without}
 use Rattle.lock_table.specs.Chain.{Chained, HasLocks, HoldsLocks, IsLockChain, IsLockTable, plain_of}
 use Rattle.lock_table.specs.Holding.{earliest, info_of}

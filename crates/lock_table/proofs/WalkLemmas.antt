@@ -9,7 +9,7 @@ use Rattle.kheap_slabs.specs.Keys.{AreKeysOf}
 use Rattle.kheap_slabs.specs.Objects.{object, InUse, count, put, without}
 use Rattle.kheap_slabs.specs.declared.objects.Lock.{Lock as HeldLock}
 use Rattle.kheap_slabs.proofs.ObjectLemmas.{InUse-within, object-put, object-put_other, object-without_other}
-use Rattle.lock_ranges.specs.declared.range.Range.{Range}
+use Rattle.kabi_types.specs.declared.ranges.Range.{Range}
 use Rattle.posix_defs.specs.Locks.{Lock, Locks}
 use Rattle.lock_table.specs.Chain.{Chained, IsLockChain, held_of, plain_of}
 use Rattle.lock_table.specs.Setting.{cut, kept_by, over, over_by, stays}

@@ -3,7 +3,7 @@ use Rattle.std.specs.Prelude.{◌≡◌, ℕ, List, [], ◌∷◌, Option, None,
 use Rattle.kheap_slabs.specs.Keys.{AreKeysOf}
 use Rattle.kheap_slabs.specs.Objects.{object}
 use Rattle.kheap_slabs.specs.declared.objects.Lock.{Lock as HeldLock}
-use Rattle.lock_ranges.specs.Ranges.{IsCanonical}
+use Rattle.kabi_types.specs.Ranges.{IsCanonical}
 use Rattle.posix_defs.specs.Locks.{Lock, Locks, ranges_of}
 use Rattle.lock_table.specs.Reordered.{IsReordered}
 

@@ -1,8 +1,8 @@
 -- How places are let go and held, one lock after the other, in whatever order they stand.
 use Rattle.std.specs.Prelude.{ℕ, nat_lt, min, max, Bool, ◌&&◌, if◌then◌else◌, List, [], ◌∷◌, Option, None, Some}
-use Rattle.lock_ranges.specs.Ranges.{beyond, until}
+use Rattle.kabi_types.specs.Ranges.{beyond, until}
 use Rattle.lock_ranges.specs.Widening.{reaches}
-use Rattle.lock_ranges.specs.declared.range.Range.{Range}
+use Rattle.kabi_types.specs.declared.ranges.Range.{Range}
 use Rattle.posix_defs.specs.Locks.{Lock, Locks, is_of, lock_of}
 
 -- ---- the places that are to be held, with those that they reach

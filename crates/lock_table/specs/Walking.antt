@@ -3,7 +3,7 @@ use Rattle.std.specs.Prelude.{◌≡◌, ℕ, zero, suc, ◌≤◌, List, [], �
 use Rattle.kheap_slabs.specs.Keys.{AreKeysOf}
 use Rattle.kheap_slabs.specs.Objects.{object, count, put, without}
 use Rattle.kheap_slabs.specs.declared.objects.Lock.{Lock as HeldLock}
-use Rattle.lock_ranges.specs.declared.range.Range.{Range}
+use Rattle.kabi_types.specs.declared.ranges.Range.{Range}
 use Rattle.posix_defs.specs.Locks.{Locks}
 use Rattle.lock_table.specs.Chain.{Chained}
 use Rattle.lock_table.specs.Setting.{cut, over}

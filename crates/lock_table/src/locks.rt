@@ -10,7 +10,7 @@ ghost use Rattle.lock_table.specs.Holding.{asked_by, earlier, info_of};
 ghost use Rattle.lock_table.specs.Setting.{is_over, kept_by, left_of, over_by, widened_by};
 
 use kheap_slabs::Lock;
-use lock_ranges::{Kind, Range};
+use kabi_types::ranges::{Kind, Range};
 
 /// Places of a file, from a start to a last one, that are to be held or let go.
 #[derive(Clone, Copy)]

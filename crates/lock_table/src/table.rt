@@ -4,7 +4,7 @@ ghost use Rattle.kabi_types.specs.Counts.{with_count};
 ghost use Rattle.kabi_types.specs.declared.classes.Class.TheVariants as class;
 ghost use Rattle.kheap_slabs.specs.Objects.{object};
 ghost use Rattle.kheap_slabs.specs.Paid.{CanPay, IsPaid, TakesNothing};
-ghost use Rattle.lock_ranges.specs.Ranges.{greatest};
+ghost use Rattle.kabi_types.specs.Ranges.{greatest};
 ghost use Rattle.posix_defs.specs.Locks.{Lock as PlainLock, Locks, Request, after_set, first_in_way, is_in_way, lock_of, stops, without};
 ghost use Rattle.lock_table.specs.Chain.{HasLocks, HoldsLocks, IsLockChain, IsLockTable, plain_of};
 ghost use Rattle.lock_table.specs.Holding.{IsAsked, asked_by, earliest, info_of};
@@ -16,7 +16,7 @@ use crate::locks::{
 };
 use kabi_types::Class;
 use kheap_slabs::{KHeap, Lock, Purse};
-use lock_ranges::Range;
+use kabi_types::ranges::Range;
 use std::marker::Model;
 
 /// Which ranges of files processes hold: the key of the first Lock of the chain.

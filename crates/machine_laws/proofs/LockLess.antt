@@ -7,7 +7,7 @@ use Rattle.kabi_types.specs.declared.calls.Call.TheVariants as calls
 use Rattle.kabi_types.specs.declared.errnos.Errno.{Errno}
 use Rattle.kabi_types.specs.declared.errnos.Errno.TheVariants.{EAGAIN, EDEADLK}
 use Rattle.kabi_types.specs.declared.scripts.Script.{Script}
-use Rattle.lock_ranges.specs.declared.range.Range.{Range}
+use Rattle.kabi_types.specs.declared.ranges.Range.{Range}
 use Rattle.posix_defs.specs.Answer.{Answer, Blocked, failed}
 use Rattle.posix_defs.specs.Ending.{closed_by, die}
 use Rattle.posix_defs.specs.Locks.{Locks, ranges_of, without}

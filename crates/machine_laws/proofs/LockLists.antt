@@ -2,9 +2,9 @@
 use Rattle.std.proofs.Common.{◌≡◌, ◌≢◌, ℕ, ◌==◌, ◌&&◌, ◌||◌, not, nat_le, Bool, true, false, cond, List, [], ◌∷◌, ◌++◌, map, Option, None, Some, is_none, refl, ap, sym, ◌∙◌, subst, ◌⊎◌, inl, inr, append-nil}
 use Rattle.std.specs.List.{filter}
 use Rattle.std.proofs.lemmas.Bool.Decides.{eqb_tells}
-use Rattle.lock_ranges.specs.Ranges.{AreApart, IsCanonical, clashes, first_conflict, set}
-use Rattle.lock_ranges.specs.declared.range.Kind.{Kind}
-use Rattle.lock_ranges.specs.declared.range.Range.{Range}
+use Rattle.kabi_types.specs.Ranges.{AreApart, IsCanonical, clashes, first_conflict, set}
+use Rattle.kabi_types.specs.declared.ranges.Kind.{Kind}
+use Rattle.kabi_types.specs.declared.ranges.Range.{Range}
 use Rattle.lock_ranges.proofs.Conflicts.{apart_both, apart_held, apart_let_go}
 use Rattle.lock_ranges.proofs.Shape.{IsCanonical-set}
 use Rattle.posix_defs.specs.Locks.{Lock, Locks, Request, after_set, comes_first, first_in_way, first_of, first_with, is_in_way, is_of, lock_of, meets, ranges_of, stops, with_ranges, without}

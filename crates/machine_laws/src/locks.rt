@@ -6,7 +6,7 @@ ghost use Rattle.kabi_types.specs.declared.calls.Call.TheVariants.{Setlk, Setlkw
 ghost use Rattle.kabi_types.specs.declared.errnos.Errno.TheVariants.{EDEADLK, ENOMEM};
 ghost use Rattle.kabi_types.specs.declared.replies.Reply.TheVariants.{Fail};
 ghost use Rattle.kabi_types.specs.declared.scripts.Script.{Script};
-ghost use Rattle.lock_ranges.specs.Ranges.{IsCanonical, clashes, kind_at};
+ghost use Rattle.kabi_types.specs.Ranges.{IsCanonical, clashes, kind_at};
 ghost use Rattle.posix_defs.specs.Answer.{Blocked, Done, failed};
 ghost use Rattle.posix_defs.specs.Calls.OnLocks.{circles, leads, waits_for};
 ghost use Rattle.posix_defs.specs.Ending.{die};

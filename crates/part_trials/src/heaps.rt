@@ -8,7 +8,7 @@ use kheap_slabs::{
     Access, Block, Chunk, Desc, DescFlags, Descriptor, KHeap, Leaf, Lock, Name, Node, Page,
     PageEntry, Pipe, Proc, QueueParts, Sock, SockState, Target, Vnode,
 };
-use lock_ranges::{Kind, Range};
+use kabi_types::ranges::{Kind, Range};
 use std::test::Fail;
 
 fn proc_of(pid: u32) -> Proc {

@@ -1,7 +1,8 @@
 //! Ranges that are held, cut, joined and let go, and what is in the way of others, by hand.
 
 use kabi_types::Memory;
-use lock_ranges::{Kind, Range, Ranges};
+use kabi_types::ranges::{Kind, Range};
+use lock_ranges::Ranges;
 use std::alloc::Global;
 use std::process::Abort;
 use std::test::Fail;

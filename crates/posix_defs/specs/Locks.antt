@@ -1,9 +1,9 @@
 -- The record locks of files: which places each process holds of a file, and what is in the way of whom.
 use Rattle.std.specs.Prelude.{ℕ, ◌==◌, ◌&&◌, ◌||◌, not, nat_le, nat_lt, Bool, if◌then◌else◌, List, [], ◌∷◌, ◌++◌, map, Option, None, Some}
 use Rattle.std.specs.List.{filter, list_any}
-use Rattle.lock_ranges.specs.Ranges.{clashes, set}
-use Rattle.lock_ranges.specs.declared.range.Kind.{Kind}
-use Rattle.lock_ranges.specs.declared.range.Range.{Range}
+use Rattle.kabi_types.specs.Ranges.{clashes, set}
+use Rattle.kabi_types.specs.declared.ranges.Kind.{Kind}
+use Rattle.kabi_types.specs.declared.ranges.Range.{Range}
 
 -- places of a file that a process holds with a kind
 pub record Lock : Type 0 where

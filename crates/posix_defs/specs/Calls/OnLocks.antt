@@ -9,8 +9,8 @@ use Rattle.kabi_types.specs.declared.errnos.Errno.TheVariants.{EAGAIN, EBADF, ED
 use Rattle.kabi_types.specs.declared.replies.Reply.{Reply}
 use Rattle.kabi_types.specs.declared.replies.Reply.TheVariants.{Val, Pair}
 use Rattle.kabi_types.specs.declared.scripts.Script.{Script}
-use Rattle.lock_ranges.specs.declared.range.Kind.{Kind}
-use Rattle.lock_ranges.specs.declared.range.Kind.TheVariants.{Shared, Exclusive}
+use Rattle.kabi_types.specs.declared.ranges.Kind.{Kind}
+use Rattle.kabi_types.specs.declared.ranges.Kind.TheVariants.{Shared, Exclusive}
 use Rattle.posix_defs.specs.Locks.{Lock, Locks, Request, after_set, first_in_way, stops}
 use Rattle.posix_defs.specs.Tree.{Tree, is_directory}
 use Rattle.posix_defs.specs.Process.{is_alive}

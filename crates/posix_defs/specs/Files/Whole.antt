@@ -5,7 +5,7 @@ use Rattle.kabi_types.specs.Arguments.{most_descriptors}
 use Rattle.kabi_types.specs.declared.calls.Call.{Call}
 use Rattle.kabi_types.specs.declared.calls.Call.TheVariants as call
 use Rattle.kabi_types.specs.declared.scripts.Script.{Script}
-use Rattle.lock_ranges.specs.Ranges.{AreApart, IsCanonical}
+use Rattle.kabi_types.specs.Ranges.{AreApart, IsCanonical}
 use Rattle.posix_defs.specs.Locks.{ranges_of}
 use Rattle.posix_defs.specs.Pipe.{Pipe, capacity, opens_of}
 use Rattle.posix_defs.specs.SocketLinks.{AreLinked, AreHeld, NoneTwice}

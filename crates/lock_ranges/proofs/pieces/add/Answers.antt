@@ -1,5 +1,5 @@
 use Rattle.std.proofs.Common.{◌≡◌, ◌+◌, ◌-◌, List, ◌∷◌, ◌++◌, [], ap, sym, ◌∙◌, refl, length, arith}
-use Rattle.lock_ranges.specs.declared.range.Range.{Range}
+use Rattle.kabi_types.specs.declared.ranges.Range.{Range}
 use Rattle.lock_ranges.proofs.Joining.{added_in_last, added_last, as_it_was}
 use Rattle.lock_ranges.proofs.pieces.add.Goals as goal
 

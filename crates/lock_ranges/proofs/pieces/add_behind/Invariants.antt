@@ -1,5 +1,5 @@
 use Rattle.std.proofs.Common.{◌≡◌, drop}
-use Rattle.lock_ranges.specs.Ranges.{behind, joined}
+use Rattle.kabi_types.specs.Ranges.{behind, joined}
 use Rattle.lock_ranges.proofs.pieces.add_behind.Given as goal
 
 -- what is left to add leads where all did

@@ -1,5 +1,5 @@
 use Rattle.std.proofs.Common.{◌≡◌, ◌++◌, drop}
-use Rattle.lock_ranges.specs.Ranges.{before}
+use Rattle.kabi_types.specs.Ranges.{before}
 use Rattle.lock_ranges.proofs.pieces.before.Given as goal
 
 -- what is cut so far, and what is left to cut, is all that is to be cut

@@ -1,7 +1,7 @@
 use Rattle.std.proofs.Common.{◌∙◌, sym, subst, List, slice_index_or}
-use Rattle.lock_ranges.specs.declared.range.Kind.TheVariants.{Shared}
-use Rattle.lock_ranges.specs.declared.range.Range.{Range}
-use Rattle.lock_ranges.specs.Ranges.{IsCanonical}
+use Rattle.kabi_types.specs.declared.ranges.Kind.TheVariants.{Shared}
+use Rattle.kabi_types.specs.declared.ranges.Range.{Range}
+use Rattle.kabi_types.specs.Ranges.{IsCanonical}
 use Rattle.lock_ranges.proofs.Conflicts.{BeginsFirst, first_is_least, found_first}
 use Rattle.lock_ranges.proofs.ranges.Ranges.first_conflict.Goals as goal
 

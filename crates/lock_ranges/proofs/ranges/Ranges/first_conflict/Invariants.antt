@@ -1,5 +1,5 @@
 use Rattle.std.proofs.Common.{◌≡◌, drop}
-use Rattle.lock_ranges.specs.Ranges.{first_conflict}
+use Rattle.kabi_types.specs.Ranges.{first_conflict}
 use Rattle.lock_ranges.proofs.ranges.Ranges.first_conflict.Given as goal
 
 -- the first of what is left is the first of all

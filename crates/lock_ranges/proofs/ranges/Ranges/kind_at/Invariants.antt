@@ -1,5 +1,5 @@
 use Rattle.std.proofs.Common.{◌≡◌, drop}
-use Rattle.lock_ranges.specs.Ranges.{kind_at}
+use Rattle.kabi_types.specs.Ranges.{kind_at}
 use Rattle.lock_ranges.proofs.ranges.Ranges.kind_at.Given as goal
 
 -- what is left says what all say

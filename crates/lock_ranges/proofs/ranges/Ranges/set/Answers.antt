@@ -1,6 +1,6 @@
 use Rattle.std.proofs.Common.{◌≡◌, ap, sym, subst, ◌∙◌, List}
-use Rattle.lock_ranges.specs.declared.range.Range.{Range}
-use Rattle.lock_ranges.specs.Ranges.{IsCanonical, kind_at, set}
+use Rattle.kabi_types.specs.declared.ranges.Range.{Range}
+use Rattle.kabi_types.specs.Ranges.{IsCanonical, kind_at, set}
 use Rattle.lock_ranges.proofs.Shape.{IsCanonical-set, kind_at-set}
 use Rattle.lock_ranges.proofs.ranges.Ranges.set.Goals as goal
 

@@ -1,6 +1,6 @@
 use Rattle.std.proofs.Common.{◌≡◌, ◌∷◌, arith, refl, sym, ap, subst, ◌∙◌}
 use Rattle.kheap_laws.proofs.PaidLemmas.{IsPaid-trans}
-use Rattle.lock_ranges.specs.declared.range.Range.{Range}
+use Rattle.kabi_types.specs.declared.ranges.Range.{Range}
 use Rattle.posix_defs.specs.Locks.{lock_of}
 use Rattle.lock_table.specs.Chain.{HasLocks, IsLockChain}
 use Rattle.lock_table.specs.Setting.{let_go}

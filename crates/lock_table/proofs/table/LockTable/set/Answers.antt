@@ -1,5 +1,5 @@
 use Rattle.std.proofs.Common.{◌≡◌, None, Some, refl, sym, ap, subst, ◌∙◌}
-use Rattle.lock_ranges.specs.declared.range.Range.{Range}
+use Rattle.kabi_types.specs.declared.ranges.Range.{Range}
 use Rattle.posix_defs.specs.Locks.{after_set}
 use Rattle.lock_table.specs.Chain.{HoldsLocks}
 use Rattle.lock_table.proofs.Tables.{has_locks, holds_held, holds_less}

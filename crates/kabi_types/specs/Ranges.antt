@@ -1,9 +1,9 @@
 -- Ranges of places that are held with a kind: the list, and what it says of each place.
 use Rattle.std.specs.Prelude.{◌≡◌, ℕ, ◌+◌, ◌-◌, ◌<◌, ◌≤◌, ◌==◌, nat_le, nat_lt, min, max, Bool, true, false, ◌&&◌, if◌then◌else◌, List, [], ◌∷◌, ◌++◌, Option, None, Some}
 use Rattle.std.specs.List.{AllByRecursion}
-use Rattle.lock_ranges.specs.declared.range.Kind.{Kind}
-use Rattle.lock_ranges.specs.declared.range.Kind.TheVariants.{Shared, Exclusive}
-use Rattle.lock_ranges.specs.declared.range.Range.{Range}
+use Rattle.kabi_types.specs.declared.ranges.Kind.{Kind}
+use Rattle.kabi_types.specs.declared.ranges.Kind.TheVariants.{Shared, Exclusive}
+use Rattle.kabi_types.specs.declared.ranges.Range.{Range}
 
 -- the greatest place
 abbrev pub greatest : ℕ

@@ -1,5 +1,7 @@
+//! A range of places that is held with a kind, as of a file that a process has locked.
+
 ghost use Rattle.std.specs.Prelude.{◌≡◌};
-ghost use Rattle.lock_ranges.specs.Ranges.{conflicts, covers, touch};
+ghost use Rattle.kabi_types.specs.Ranges.{conflicts, covers, touch};
 
 /// How a place is held.
 #[derive(Clone, Copy, PartialEq, Eq)]
@@ -35,7 +37,7 @@ impl Range {
     }
 
     /// Whether another range begins right behind this one, with its kind.
-    pub(crate) fn touches(&self, next: &Range) -> bool
+    pub fn touches(&self, next: &Range) -> bool
         ensures { result ≡ touch self.now next.now }
     {
         self.kind == next.kind && self.last < next.start && next.start - self.last == 1
