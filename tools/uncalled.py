@@ -4,7 +4,7 @@
 Each public function of a crate in crates.txt has to be called by the code of some crate, its own or one above. What tests call
 doesn't count, be they in a crate of tests alone or beside the code. A function that isn't called is told with its file, and the
 status is 1, unless it is in EXCEPTIONS with its reason, or its crate in AWAITED. An exception that is called, or isn't there, is told
-too, and so is a crate in AWAITED on which one stands; with --all each is told with its reason. Laws, which are functions with nothing in their bodies, need no caller.
+too, and so is a crate in AWAITED on which one stands that isn't in it; with --all each is told with its reason. Laws, which are functions with nothing in their bodies, need no caller.
 
 A function is called where its name stands in a body: in its own crate, or in another that takes it from there by `use` or names
 the crate before it. Of a method just the name is looked at, in its crate and in all that stand on it, so one that has its name in
@@ -41,8 +41,9 @@ EXCEPTIONS = {
     ("priced_store", "run_maps"): "what who copies the store begins with: a script run over it",
 }
 
-# The crates on which none stands yet, each with what it waits for: all that they offer may stand without a caller.
+# The crates on which none stands yet but others of these, each with what it waits for: all that they offer may stand without a caller.
 AWAITED = {
+    "plain_memory": "a part of the second machine, which the checker of reports will ask",
     "plain_pipes": "a part of the second machine, which the checker of reports will ask",
 }
 
@@ -169,7 +170,7 @@ def main():
         elif "--all" in sys.argv[1:]:
             print(f"{crate}: {name}: {reason}")
     for crate, reason in AWAITED.items():
-        standing = [it for it in above.get(crate, []) if it in crates]
+        standing = [it for it in above.get(crate, []) if it in crates and it not in AWAITED]
         if crate not in crates:
             faults.append(f"{crate} isn't there: nothing waits for it")
         elif standing:

@@ -1,0 +1,24 @@
+-- Places of a list that a loop writes one after another.
+use Rattle.std.proofs.Common.{◌≡◌, ℕ, ◌+◌, ◌-◌, ◌<◌, ◌≤◌, List, ◌++◌, length, take, drop, replicate, set, sym, ap, ◌∙◌, arith}
+use Rattle.std.proofs.lemmas.List.{length-replicate, take_all}
+use Rattle.std.proofs.lemmas.List.Edits.{fill_from_more}
+use Rattle.posix_defs.specs.Memory.{with_range}
+
+module _ {X : Type 0} where
+  with_range_next : (xs : List X) (first n : ℕ) (x : X) → first + n < length xs → set (with_range xs first n x) (first + n) x ≡ with_range xs first (n + 1) x
+  with_range_next xs first n x lt =
+      let now : take n (replicate n x) ≡ replicate n x = take_all n (replicate n x) (omega (arith, length-replicate n x)) in
+      let later : take (n + 1) (replicate (n + 1) x) ≡ replicate (n + 1) x = take_all (n + 1) (replicate (n + 1) x) (omega (arith, length-replicate (n + 1) x)) in
+      ap (λ ys. set (take first xs ++ ys ++ drop (first + n) xs) (first + n) x) (sym now)
+      ∙ fill_from_more xs first n x lt
+      ∙ ap (λ ys. take first xs ++ ys ++ drop (first + (n + 1)) xs) later
+
+  pub range_goes_on : (xs ys : List X) (first page : ℕ) (x : X) → first ≤ page → page < length xs → ys ≡ with_range xs first (page - first) x
+      → set ys page x ≡ with_range xs first (page + 1 - first) x
+  range_goes_on xs ys first page x le lt is =
+      let here : first + (page - first) ≡ page = omega arith in
+      let more : page - first + 1 ≡ page + 1 - first = omega arith in
+      ap (λ zs. set zs page x) is
+      ∙ ap (λ p. set (with_range xs first (page - first) x) p x) (sym here)
+      ∙ with_range_next xs first (page - first) x (omega arith)
+      ∙ ap (λ n. with_range xs first n x) more
