@@ -41,8 +41,8 @@ use Rattle.store_objects.specs.Standing.{IsSound, StandsFor}
 use Rattle.store_objects.specs.Trees.{others_in}
 use Rattle.store_objects.specs.Walking.{Serves, WorldReached}
 use Rattle.store_objects.specs.declared.objects.Objects.{Objects}
-use Rattle.file_calls.proofs.CallingOpens.{kept_mid, moves, runs_mid, unchanged}
-use Rattle.file_calls.proofs.Reached.{NamesNumbers, leaves_numbers, some_on}
+use Rattle.store_objects.proofs.CallingOpens.{kept_mid, moves, runs_mid, unchanged}
+use Rattle.store_objects.proofs.Reached.{NamesNumbers, leaves_numbers, some_on}
 use Rattle.lock_calls.specs.Claiming.{claimed_by}
 use Rattle.lock_calls.specs.Setting.{ChangesLocks, HasTried, locks_after, told_of}
 use Rattle.lock_calls.proofs.Beside.{bound_so, chain_so, changes_so, hold_locked, listed_so, owners_so, queues_so}

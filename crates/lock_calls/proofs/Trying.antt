@@ -31,7 +31,7 @@ use Rattle.store_objects.specs.Objects.{AreKept, Runs}
 use Rattle.store_objects.specs.Standing.{IsSound, StandsFor}
 use Rattle.store_objects.specs.Walking.{Serves, WorldReached}
 use Rattle.store_objects.specs.declared.objects.Objects.{Objects}
-use Rattle.file_calls.proofs.Reached.{NamesNumbers, some_on}
+use Rattle.store_objects.proofs.Reached.{NamesNumbers, some_on}
 use Rattle.lock_calls.specs.Claiming.{claimed_by}
 use Rattle.lock_calls.specs.Setting.{ChangesLocks, HasTried, told_of, wait_told}
 use Rattle.lock_calls.specs.Waiting.{is_held_up}

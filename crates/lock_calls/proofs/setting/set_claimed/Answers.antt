@@ -3,7 +3,7 @@ use Rattle.kheap_laws.proofs.PaidLemmas.{IsPaid-nothing}
 use Rattle.proc_files.specs.Holding.{HoldFiles}
 use Rattle.store_objects.proofs.Keeping.{listed_in}
 use Rattle.store_objects.specs.declared.objects.Objects.{Objects}
-use Rattle.file_calls.proofs.CallingOpens.{holds_some, takes_none}
+use Rattle.store_objects.proofs.CallingOpens.{holds_some, takes_none}
 use Rattle.lock_calls.proofs.Beside.{hold_so}
 use Rattle.lock_calls.proofs.Locking.{claimed_so}
 use Rattle.lock_calls.proofs.setting.set_claimed.Goals as goal
