@@ -1,9 +1,11 @@
 -- Rows of who waits have a circle exactly where the machine has one.
 use Rattle.std.proofs.Common.{◌≡◌, ◌≢◌, ℕ, ◌<◌, ◌≤◌, ◌&&◌, Bool, true, false, List, [], ◌∷◌, Option, None, Some, refl, ap, sym, ◌∙◌, subst}
 use Rattle.std.specs.List.{range_with_len}
+use Rattle.std.proofs.lemmas.Bool.{and_parts}
 use Rattle.kabi_types.specs.declared.scripts.Script.{Script}
 use Rattle.machine_laws.specs.Chains.{Chain, among, goes_on, wait}
 use Rattle.machine_laws.proofs.Chains.{chain_of, leads_so, who_is_made}
+use Rattle.machine_laws.proofs.LockLists.{stopper_holds}
 use Rattle.posix_defs.specs.Calls.OnLocks.{Wanted, circles, is_stopped_by, waits_for, wanted_by}
 use Rattle.posix_defs.specs.Locks.{Locks, ranges_of}
 use Rattle.posix_defs.specs.Plain.{call_of, last_pid}
@@ -15,20 +17,16 @@ use Rattle.store_objects.specs.declared.objects.Objects.{Objects}
 use Rattle.store_objects.specs.Standing.{IsSound, StandsFor}
 use Rattle.wait_graph.specs.Chains.{IsChain, LeadsTo, WaitsFor}
 use Rattle.lock_calls.specs.Waiting.{AreRows, bit_if, pid_at, waits_at}
-use Rattle.lock_calls.proofs.Holders.{has_place, pid_between, stops_held}
-
-both_true : (a b : Bool) → (a && b) ≡ true → (a ≡ true) × (b ≡ true)
-both_true true b e = (refl, e)
-both_true false b e = cc
+use Rattle.lock_calls.proofs.Holders.{has_place, pid_between}
 
 one_is : (b : Bool) → bit_if b ≡ 1 → b ≡ true
 one_is true e = refl
 one_is false e = cc
 
 -- who is waited for holds places of some file
-stopper_holds : (locks : Locks) (pid other : ℕ) (wanted : Option Wanted) → is_stopped_by locks pid other wanted ≡ true → (node : ℕ) × (ranges_of locks other node ≢ [])
-stopper_holds locks pid other None e = cc
-stopper_holds locks pid other (Some wanted) e = (wanted.node, stops_held locks pid wanted.node other wanted.asked e)
+waited_holds : (locks : Locks) (pid other : ℕ) (wanted : Option Wanted) → is_stopped_by locks pid other wanted ≡ true → (node : ℕ) × (ranges_of locks other node ≢ [])
+waited_holds locks pid other None e = cc
+waited_holds locks pid other (Some wanted) e = (wanted.node, stopper_holds locks pid wanted.node other wanted.asked e)
 
 module _ (script : Script) (objects : Objects) (world : World) (stands : StandsFor script objects world) (sound : IsSound world.plain) (rows : List ℕ)
     (are : AreRows script objects rows) where
@@ -64,8 +62,8 @@ module _ (script : Script) (objects : Objects) (world : World) (stands : StandsF
   waited : (pid other : ℕ) → waits pid other ≡ true → (at : ℕ) × (pid_at listed at ≡ Some other)
   unfolding waits_for
   waited pid other is =
-      let stopped = both_true (is_alive world.plain.table pid) (is_stopped_by world.plain.files.locks pid other (wanted_by world.plain.files pid (call_of script world.plain pid))) is in
-      let held = stopper_holds world.plain.files.locks pid other (wanted_by world.plain.files pid (call_of script world.plain pid)) stopped.1 in
+      let stopped = and_parts (is_alive world.plain.table pid) (is_stopped_by world.plain.files.locks pid other (wanted_by world.plain.files pid (call_of script world.plain pid))) is in
+      let held = waited_holds world.plain.files.locks pid other (wanted_by world.plain.files pid (call_of script world.plain pid)) stopped.1 in
       has_place script objects world stands sound other held.0 held.1
 
   -- ---- chains

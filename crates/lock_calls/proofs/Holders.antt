@@ -1,9 +1,11 @@
 -- Who is waited for holds a lock, so has a place in the table.
 use Rattle.std.proofs.Common.{◌≡◌, ◌≢◌, ℕ, zero, suc, ◌<◌, ◌≤◌, ◌==◌, ◌&&◌, ◌||◌, not, Bool, true, false, cond, eqb-true, List, [], ◌∷◌, map, replicate, Option, None, Some, is_none, refl, ap, sym, ◌∙◌, arith}
 use Rattle.std.specs.List.{filter, list_any}
+use Rattle.std.proofs.lemmas.Bool.{and_right}
 use Rattle.kheap_slabs.specs.declared.objects.Proc.{Proc}
 use Rattle.kabi_types.specs.declared.scripts.Script.{Script}
 use Rattle.lock_table.specs.Holding.{asked_by}
+use Rattle.machine_laws.proofs.LockLists.{stopper_holds}
 use Rattle.open_laws.specs.Open.{descriptors_by}
 use Rattle.posix_defs.specs.Calls.OnLocks.{is_clear, is_stopped_by}
 use Rattle.posix_defs.specs.Files.State.{Files}
@@ -23,11 +25,7 @@ use Rattle.lock_calls.specs.Claiming.{wanted_in}
 use Rattle.lock_calls.specs.Waiting.{is_held_up, pid_at}
 use Rattle.lock_calls.specs.declared.waits.Wanted.{Wanted as WantedHere}
 
-both_true : (a b : Bool) → (a && b) ≡ true → (a ≡ true) × (b ≡ true)
-both_true true b e = (refl, e)
-both_true false b e = cc
-
--- ---- who stops another holds a range of the file
+-- ---- who holds no range of a file is in nobody's way there
 
 -- a lock of a process, of a file, is among its ranges of that
 has_range : (locks : Locks) (pid node : ℕ) → list_any (is_of pid node) locks ≡ true → ranges_of locks pid node ≢ []
@@ -39,32 +37,13 @@ has_range (lock ∷ locks) pid node e = go (is_of pid node lock) e (has_range lo
     go true f later none = cc
     go false f later none = later f none
 
-is_its : (locks : Locks) (pid node by : ℕ) (asked : Request) → stops locks pid node asked by ≡ true → list_any (is_of by node) locks ≡ true
-is_its [] pid node by asked e = cc
-is_its (lock ∷ locks) pid node by asked e =
-    go (lock.pid == by) (lock.node == node) (not (lock.pid == pid)) (meets lock.range asked) e (is_its locks pid node by asked)
-  where
-    go : (own of other met : Bool) → ((own && (other && (of && met))) || stops locks pid node asked by) ≡ true
-        → (stops locks pid node asked by ≡ true → list_any (is_of by node) locks ≡ true) → ((own && of) || list_any (is_of by node) locks) ≡ true
-    go true true other met f later = refl
-    go true false true met f later = later f
-    go true false false met f later = later f
-    go false of other met f later = later f
-
-pub stops_held : (locks : Locks) (pid node by : ℕ) (asked : Request) → stops locks pid node asked by ≡ true → ranges_of locks by node ≢ []
-stops_held locks pid node by asked e = has_range locks by node (is_its locks pid node by asked e)
-
--- nobody who holds no range of the file does
+-- who holds none stops nobody
 pub stops_none : (locks : Locks) (pid node by : ℕ) (asked : Request) → (ranges_of locks by node ≢ [] → ⊥) → stops locks pid node asked by ≡ false
 stops_none locks pid node by asked none = go (stops locks pid node asked by) refl
   where
     go : (b : Bool) → stops locks pid node asked by ≡ b → b ≡ false
-    go true is = absurd (none (stops_held locks pid node by asked is))
+    go true is = absurd (none (stopper_holds locks pid node by asked is))
     go false is = refl
-
-no_further : (a : Bool) → (a && false) ≡ false
-no_further true = refl
-no_further false = refl
 
 -- where nobody holds ranges of a file nothing is in the way there
 no_way : (locks : Locks) (pid node : ℕ) (asked : Request) → ((by : ℕ) → ranges_of locks by node ≢ [] → ⊥) → filter (is_in_way pid node asked) locks ≡ []
@@ -81,13 +60,13 @@ no_way (lock ∷ locks) pid node asked none = go (lock.node == node) refl (no_wa
     go true is rest = absurd (none lock.pid (has_range (lock ∷ locks) lock.pid node (by_own true is refl)))
     go false is rest =
         ap (λ b. cond b (lock ∷ filter (is_in_way pid node asked) locks) (filter (is_in_way pid node asked) locks))
-        (ap (λ a. not (lock.pid == pid) && (a && meets lock.range asked)) is ∙ no_further (not (lock.pid == pid)))
+        (ap (λ a. not (lock.pid == pid) && (a && meets lock.range asked)) is ∙ and_right (not (lock.pid == pid)) false refl)
         ∙ rest (λ by some. none by (λ e. some (sym (passed by) ∙ e)))
       where
         passed : (by : ℕ) → ranges_of (lock ∷ locks) by node ≡ ranges_of locks by node
         passed by =
             ap (λ b. map (λ (l : Lock). l.range) (cond b (lock ∷ filter (is_of by node) locks) (filter (is_of by node) locks)))
-            (ap (λ a. (lock.pid == by) && a) is ∙ no_further (lock.pid == by))
+            (ap (λ a. (lock.pid == by) && a) is ∙ and_right (lock.pid == by) false refl)
 
 pub clear_none : (locks : Locks) (pid node : ℕ) (asked : Request) → ((by : ℕ) → ranges_of locks by node ≢ [] → ⊥) → is_clear locks pid node asked ≡ true
 clear_none locks pid node asked none = ap (λ (ls : Locks). is_none (first_of ls)) (no_way locks pid node asked none)
