@@ -1,5 +1,5 @@
 -- Who waits for whom, as a row of bits for each place of the table of processes.
-use Rattle.std.specs.Prelude.{ℕ, ◌≡◌, ◌<◌, cond, not, Bool, false, List, Option, None, Some, IfSome, slice_get, slice_index}
+use Rattle.std.specs.Prelude.{ℕ, ◌≡◌, cond, not, Bool, false, List, Option, None, Some, IfSome, slice_get, slice_index}
 use Rattle.std.specs.Int.{bit_at}
 use Rattle.std.specs.Option.{option_map}
 use Rattle.kabi_types.specs.declared.scripts.Script.{Script}

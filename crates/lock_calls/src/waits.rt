@@ -1,6 +1,6 @@
 //! Who waits for whom.
 
-ghost use Rattle.std.specs.Prelude.{◌≡◌, ◌<◌, ◌≤◌, ◌×◌, ℕ, IsSome, None, Some, false, length, not, true};
+ghost use Rattle.std.specs.Prelude.{◌≡◌, ◌<◌, ◌≤◌, ℕ, IsSome, None, Some, false, length, not, true};
 ghost use Rattle.std.specs.Int.{bit_at};
 ghost use Rattle.kabi_types.specs.declared.calls.Call.{Call};
 ghost use Rattle.kheap_slabs.specs.Heap.{Heap};

@@ -1,4 +1,4 @@
-use Rattle.std.proofs.Common.{Ok, Err, refl, ap, sym, subst, ◌∙◌}
+use Rattle.std.proofs.Common.{Ok, Err, refl, ap, sym, subst}
 use Rattle.kheap_laws.proofs.PaidLemmas.{IsPaid-nothing}
 use Rattle.proc_files.specs.Holding.{HoldFiles}
 use Rattle.store_objects.proofs.Keeping.{listed_in}

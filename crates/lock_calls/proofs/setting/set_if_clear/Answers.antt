@@ -1,4 +1,4 @@
-use Rattle.std.proofs.Common.{◌≡◌, Bool, true, false, Option, None, Some, is_none, is_some, refl, ◌∙◌}
+use Rattle.std.proofs.Common.{◌≡◌, Bool, true, false, Option, None, Some, is_none, is_some, refl}
 use Rattle.std.specs.Option.{option_map}
 use Rattle.kheap_laws.proofs.PaidLemmas.{IsPaid-nothing}
 use Rattle.store_objects.proofs.CallingOpens.{takes_none}

@@ -1,4 +1,4 @@
-use Rattle.std.proofs.Common.{◌≡◌, ◌<◌, ◌≤◌, Some, eqb-true, length, refl, ap, ◌∙◌, arith}
+use Rattle.std.proofs.Common.{◌<◌, ◌≤◌, Some, eqb-true, length, refl, ap, ◌∙◌, arith}
 use Rattle.proc_table.specs.declared.places.Place.{Place}
 use Rattle.lock_calls.specs.Waiting.{pid_at}
 use Rattle.lock_calls.proofs.Rows.{found_behind, none_behind, place_pid}

@@ -1,4 +1,4 @@
-use Rattle.std.proofs.Common.{◌≡◌, IsSome, List, ap, sym, ◌∙◌, subst}
+use Rattle.std.proofs.Common.{IsSome, List, ap, sym, ◌∙◌, subst}
 use Rattle.proc_table.specs.Table.{key_of}
 use Rattle.proc_table.specs.declared.places.Place.{Place}
 use Rattle.lock_calls.specs.Waiting.{pid_at}
