@@ -168,6 +168,7 @@ module _ (objects : List (Option HeldLock)) (most : ℕ) (first : Option ℕ) (l
     -- fewer are left then
     pub cut_less : (now : Option Range) → Cuts objects most first (Some key) left pid node start last locks
         → chain_left most (chained_again objects key held first now) held.next < chain_left most objects (Some key)
+    unfolding here
     cut_less now cuts =
         let it = here cuts in
         let differ = others_differ cuts.done_keys it.behind it.all in
