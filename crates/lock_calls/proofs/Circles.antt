@@ -1,5 +1,7 @@
 -- Rows of who waits have a circle exactly where the machine has one.
-use Rattle.std.proofs.Common.{◌≡◌, ◌≢◌, ℕ, ◌≤◌, Bool, true, false, List, [], ◌∷◌, Option, None, Some, refl, ap, sym, ◌∙◌, subst}
+use Rattle.std.proofs.Common.{◌≡◌, ◌≢◌, ◌==◌, ℕ, ◌<◌, ◌≤◌, Bool, true, false, List, [], ◌∷◌, length, Option, None, Some, refl, ap, sym, ◌∙◌, subst, arith, eq-eqb, eqb-true}
+use Rattle.std.specs.Int.{bit_at}
+use Rattle.std.specs.Prelude.{◌↔◌}
 use Rattle.std.specs.List.{range_with_len}
 use Rattle.std.proofs.lemmas.Bool.{and_parts}
 use Rattle.kabi_types.specs.declared.scripts.Script.{Script}
@@ -18,6 +20,7 @@ use Rattle.store_objects.specs.Standing.{IsSound, StandsFor}
 use Rattle.wait_graph.specs.Chains.{IsChain, LeadsTo, WaitsFor}
 use Rattle.lock_calls.specs.Waiting.{AreRows, bit_if, pid_at, waits_at}
 use Rattle.lock_calls.proofs.Holders.{has_place, pid_between}
+use Rattle.lock_calls.proofs.Rows.{place_within}
 
 one_is : (b : Bool) → bit_if b ≡ 1 → b ≡ true
 one_is true e = refl
@@ -85,7 +88,7 @@ module _ (script : Script) (objects : Objects) (world : World) (stands : StandsF
 
   -- ---- circles
 
-  pub circle_is : (pid at : ℕ) → pid_at listed at ≡ Some pid → (told : Bool) → (told ≡ true → LeadsTo rows at at) → (LeadsTo rows at at → told ≡ true) → told ≡ circles script world.plain pid
+  circle_is : (pid at : ℕ) → pid_at listed at ≡ Some pid → (told : Bool) → (told ≡ true → LeadsTo rows at at) → (LeadsTo rows at at → told ≡ true) → told ≡ circles script world.plain pid
   unfolding circles
   circle_is pid at here true leads tells =
       let chain = leads refl in
@@ -95,3 +98,11 @@ module _ (script : Script) (objects : Objects) (world : World) (stands : StandsF
       go : (b : Bool) → circles script world.plain pid ≡ b → false ≡ b
       go true is = tells (rows_chain (chain_of waits pids pid pid is) at at here here)
       go false is = refl
+
+  -- the bits of all who are among 64 tell it
+  pub circling_is : length listed ≤ 64 → (circling : ℕ) → ((i : ℕ) → i < 64 → (bit_at circling i ≡ 1) ↔ LeadsTo rows i i)
+      → (at pid : ℕ) → pid_at listed at ≡ Some pid → (bit_at circling at == 1) ≡ circles script world.plain pid
+  circling_is few circling told at pid here =
+      let within : at < length listed = place_within listed at pid here in
+      let both = told at (omega (arith, within, few)) in
+      circle_is pid at here (bit_at circling at == 1) (λ yes. both.0 (eqb-true _ 1 yes)) (λ chain. eq-eqb _ 1 (both.1 chain))

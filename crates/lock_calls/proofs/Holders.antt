@@ -1,6 +1,6 @@
 -- Who is waited for holds a lock, so has a place in the table.
 use Rattle.std.proofs.Common.{◌≡◌, ◌≢◌, ℕ, zero, suc, ◌<◌, ◌≤◌, ◌==◌, ◌&&◌, ◌||◌, not, Bool, true, false, cond, eqb-true, List, [], ◌∷◌, map, replicate, Option, None, Some, is_none, refl, ap, sym, ◌∙◌, arith}
-use Rattle.std.specs.List.{filter, list_any}
+use Rattle.std.specs.List.{cons_option, filter, list_any}
 use Rattle.std.proofs.lemmas.Bool.{and_right}
 use Rattle.kheap_slabs.specs.declared.objects.Proc.{Proc}
 use Rattle.kabi_types.specs.declared.scripts.Script.{Script}
@@ -30,7 +30,7 @@ use Rattle.lock_calls.specs.declared.waits.Wanted.{Wanted as WantedHere}
 -- a lock of a process, of a file, is among its ranges of that
 has_range : (locks : Locks) (pid node : ℕ) → list_any (is_of pid node) locks ≡ true → ranges_of locks pid node ≢ []
 has_range [] pid node e none = cc
-has_range (lock ∷ locks) pid node e = go (is_of pid node lock) e (has_range locks pid node)
+has_range (lock ∷ locks) pid node e none = go (is_of pid node lock) e (has_range locks pid node) none
   where
     go : (b : Bool) → (b || list_any (is_of pid node) locks) ≡ true → (list_any (is_of pid node) locks ≡ true → ranges_of locks pid node ≢ [])
         → map (λ (l : Lock). l.range) (cond b (lock ∷ filter (is_of pid node) locks) (filter (is_of pid node) locks)) ≢ []
@@ -51,9 +51,9 @@ no_way [] pid node asked none = refl
 no_way (lock ∷ locks) pid node asked none = go (lock.node == node) refl (no_way locks pid node asked)
   where
     by_own : (b : Bool) → (lock.node == node) ≡ b → b ≡ true → list_any (is_of lock.pid node) (lock ∷ locks) ≡ true
-    by_own b is yes =
+    by_own b is own =
         ap (λ a. (a && (lock.node == node)) || list_any (is_of lock.pid node) locks) (eqb_same lock.pid lock.pid refl)
-        ∙ ap (λ a. a || list_any (is_of lock.pid node) locks) (is ∙ yes)
+        ∙ ap (λ a. a || list_any (is_of lock.pid node) locks) (is ∙ own)
 
     go : (b : Bool) → (lock.node == node) ≡ b → (((by : ℕ) → ranges_of locks by node ≢ [] → ⊥) → filter (is_in_way pid node asked) locks ≡ [])
         → filter (is_in_way pid node asked) (lock ∷ locks) ≡ []
@@ -106,12 +106,8 @@ place_found : (procs : List (Option Proc)) (listed : List Place) (pid : ℕ) (pr
 place_found procs [] pid proc stored found = cc
 place_found procs (place ∷ places) pid proc stored found =
     let at : IsAt procs place = stored_is procs place stored.0 in
-    by_first at.proc at.pid (at.proc.pid == pid) refl (place_found procs places pid proc stored.1) (ap (λ (o : Option Proc). proc_of (with o) pid) (sym at.is) ∙ found)
+    by_first at.proc at.pid (at.proc.pid == pid) refl (place_found procs places pid proc stored.1) (ap (λ (o : Option Proc). proc_of (cons_option o (procs_at procs places)) pid) (sym at.is) ∙ found)
   where
-    with : Option Proc → List Proc
-    with None = procs_at procs places
-    with (Some first) = first ∷ procs_at procs places
-
     by_first : (first : Proc) → first.pid ≡ place.pid → (b : Bool) → (first.pid == pid) ≡ b → (proc_of (procs_at procs places) pid ≡ Some proc → (at : ℕ) × (pid_at places at ≡ Some pid))
         → cond b (Some first) (proc_of (procs_at procs places) pid) ≡ Some proc → (at : ℕ) × (pid_at (place ∷ places) at ≡ Some pid)
     by_first first own true is behind e = (0, ap Some (sym own ∙ eqb-true first.pid pid is))
