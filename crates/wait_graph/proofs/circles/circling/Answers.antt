@@ -4,8 +4,8 @@ use Rattle.wait_graph.proofs.circles.circling.Goals as goal
 use Rattle.wait_graph.proofs.circles.circling.Goals.{then-circle, else-circle}
 
 no_both : (b : Bool) → b ≡ true → b ≡ false → ⊥
-no_both true yes no = cc
-no_both false yes no = cc
+no_both true is other = cc
+no_both false is other = cc
 
 pub loop-from-init : goal.loop-from-init
 loop-from-init c = IsTold-none c.args.edges.now
