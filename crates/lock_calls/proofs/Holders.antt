@@ -3,6 +3,7 @@ use Rattle.std.proofs.Common.{◌≡◌, ◌≢◌, ℕ, zero, suc, ◌<◌, ◌
 use Rattle.std.specs.List.{cons_option, filter, list_any}
 use Rattle.std.proofs.lemmas.Bool.{and_right}
 use Rattle.kheap_slabs.specs.declared.objects.Proc.{Proc}
+use Rattle.kabi_types.specs.Arguments.{most_descriptors}
 use Rattle.kabi_types.specs.declared.scripts.Script.{Script}
 use Rattle.lock_table.specs.Holding.{asked_by}
 use Rattle.machine_laws.proofs.LockLists.{stopper_holds}
@@ -129,7 +130,7 @@ has_place script objects world stands sound pid node some =
     by_proc : (o : Option Proc) → proc_of (procs_of objects) pid ≡ o → (at : ℕ) × (pid_at objects.procs.listed at ≡ Some pid)
     by_proc None is =
         never (ap (λ (o : Option Proc). list_any (opens_by world.plain.files node) (descriptors_by number (places_in (numbers_in objects.heap) o))) (sym is) ∙ opens)
-        (none_opens world.plain.files node number _)
+        (none_opens world.plain.files node number most_descriptors)
     by_proc (Some proc) is = place_found objects.heap.procs objects.procs.listed pid proc stands.kept.holds.stored is
 
 -- ---- pids of a table
