@@ -46,6 +46,10 @@ returns-in-Ok-clause-beside c = record {
       (sym (ap (λ (o : Objects). o.tree) c.set_if_clear.ensures.same));
 }
 
+pub returns-in-Ok-clause-stays : goal.returns-in-Ok-clause-stays
+returns-in-Ok-clause-stays c = λ numbers files have off.
+    ap (λ (o : Objects). o.tree) c.set_if_clear.ensures.same ∙ c.claimed-file.ensures.stays numbers files have off
+
 -- ---- or may not
 
 pub returns-in-Err-clause-tries : goal.returns-in-Err-clause-tries
