@@ -21,6 +21,7 @@ EXCEPTIONS = {
     ("lock_ranges", "all"): "ranges as a list of their own; the store keeps them as a chain in the heap, by the same definitions",
     ("lock_ranges", "kind_at"): "ranges as a list of their own; the store keeps them as a chain in the heap, by the same definitions",
     ("lock_ranges", "first_conflict"): "ranges as a list of their own; the store keeps them as a chain in the heap, by the same definitions",
+    ("lock_ranges", "set"): "ranges as a list of their own; the store keeps them as a chain in the heap, by the same definitions",
     ("run_pasts", "of"): "what an entry claims, told apart from the lines in which claims come in",
     ("claim_lines", "claim_of"): "what who checks a report line by line begins with",
     ("report_text", "event_line"): "one line of a run by itself; reports are written as a whole",

@@ -678,6 +678,8 @@ impl Sleepers {
     }
 
     /// A process's call doesn't sleep on: those are asked whom its turn may have woken.
+    // By itself it takes 10 to 15 instructions a turn more.
+    #[inline(always)]
     fn go_on(&mut self, script: &Script, objects: &Objects, pid: u32, call: &Call, came: Came)
         requires behind { (old new : World) × (told : TurnedOf) × IsBehind script.now objects.now old new pid call.now told self.old.told self.old.channels × (came ≡ came_of told) }
         requires none { self.old.stirred ≡ [] }

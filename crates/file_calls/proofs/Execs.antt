@@ -214,7 +214,7 @@ module _ (script : Script) (old : Objects) (heap : Heap) (fs : TreeView) (before
     started_from place new told is tells shed starting =
         let now = looked script old heap fs pays.only world in
         let next = started_in script new.tree now pid place in
-        let last : StandsFor script new next = starting now walked_in (record { nodes = sound.nodes; names = sound.names }) in
+        let last : StandsFor script new next = starting now walked_in sound in
         let works : directory_of world.plain.table pid ≡ proc.cwd = works_there script old world pid proc stands found_it in
         let at = path_led tree proc.cwd path stands.tree.stands.is_tree (works_in_directory script old world pid proc stands found_it up) in
         let ok = led_ok tree (node_led (resolve tree proc.cwd path)) script.programs place (sym is ∙ found_so ∙ ap (λ dir. exec_path tree dir path script.programs) works) in

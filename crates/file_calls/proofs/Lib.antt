@@ -1,6 +1,5 @@
 pub mod Waiting
 pub mod Purses
-pub mod Reached
 pub mod CallingOpens
 pub mod Opened
 pub mod Opens
@@ -12,7 +11,6 @@ pub mod Execs
 pub mod Kin
 pub mod Cached
 pub mod Sought
-pub mod Needed
 pub mod Calling
 pub mod CallingNames
 pub mod BytesCached

@@ -32,7 +32,7 @@ use Rattle.store_objects.proofs.Answered.{turned_files}
 use Rattle.store_objects.proofs.FileMoving.{stands_turned}
 use Rattle.store_objects.proofs.Staying.{memory_holding, moves_holding}
 use Rattle.file_calls.specs.Starting.{CachesShed, shed_in}
-use Rattle.file_calls.proofs.CallingOpens.{keeps_some}
+use Rattle.store_objects.proofs.CallingOpens.{keeps_some}
 
 module _ (script : Script) (old : Objects) (heap : Heap) (fs : TreeView) (table : List (Option ℕ)) (fifos locks : Option ℕ) (pid : ℕ) (kept : AreKept script old) (alive : IsAlive (procs_of old) pid)
     (changes : ChangesHolding old.heap heap old.procs pid) (listed : AreListed heap old.procs) (owners : HasItsOwners heap []) (chain : IsChain heap fifos) (locked : IsLockTable heap.locks locks) (places : length table ≡ length old.names)

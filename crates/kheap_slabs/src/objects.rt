@@ -1,5 +1,5 @@
-use kabi_types::{Control, Inode, Name27};
 use kabi_types::ranges::Range;
+use kabi_types::{Control, Inode, Name27};
 
 /// A process. It stays after its end until its parent has waited for it.
 #[derive(Clone, Copy)]

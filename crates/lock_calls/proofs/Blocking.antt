@@ -1,5 +1,5 @@
 -- Whether a `setlkw` blocks, by who is in its way and by circles.
-use Rattle.std.proofs.Common.{◌≡◌, ℕ, ℤ, ◌&&◌, not, Bool, true, false, cond, Option, None, Some, is_none, Result, Ok, Err, refl, ap, sym, ◌∙◌}
+use Rattle.std.proofs.Common.{◌≡◌, ℕ, ℤ, not, Bool, true, false, cond, Option, None, Some, is_none, Result, Ok, Err, refl, ap, sym, ◌∙◌}
 use Rattle.kabi_types.specs.Arguments.{argument_fault}
 use Rattle.kabi_types.specs.declared.calls.Call.{Call}
 use Rattle.kabi_types.specs.declared.calls.Call.TheVariants as call

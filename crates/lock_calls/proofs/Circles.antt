@@ -1,9 +1,13 @@
 -- Rows of who waits have a circle exactly where the machine has one.
-use Rattle.std.proofs.Common.{◌≡◌, ◌≢◌, ℕ, ◌<◌, ◌≤◌, ◌&&◌, Bool, true, false, List, [], ◌∷◌, Option, None, Some, refl, ap, sym, ◌∙◌, subst}
+use Rattle.std.proofs.Common.{◌≡◌, ◌≢◌, ◌==◌, ℕ, ◌<◌, ◌≤◌, Bool, true, false, List, [], ◌∷◌, length, Option, None, Some, refl, ap, sym, ◌∙◌, subst, arith, eq-eqb, eqb-true}
+use Rattle.std.specs.Int.{bit_at}
+use Rattle.std.specs.Prelude.{◌↔◌}
 use Rattle.std.specs.List.{range_with_len}
+use Rattle.std.proofs.lemmas.Bool.{and_parts}
 use Rattle.kabi_types.specs.declared.scripts.Script.{Script}
 use Rattle.machine_laws.specs.Chains.{Chain, among, goes_on, wait}
 use Rattle.machine_laws.proofs.Chains.{chain_of, leads_so, who_is_made}
+use Rattle.machine_laws.proofs.LockLists.{stopper_holds}
 use Rattle.posix_defs.specs.Calls.OnLocks.{Wanted, circles, is_stopped_by, waits_for, wanted_by}
 use Rattle.posix_defs.specs.Locks.{Locks, ranges_of}
 use Rattle.posix_defs.specs.Plain.{call_of, last_pid}
@@ -15,20 +19,17 @@ use Rattle.store_objects.specs.declared.objects.Objects.{Objects}
 use Rattle.store_objects.specs.Standing.{IsSound, StandsFor}
 use Rattle.wait_graph.specs.Chains.{IsChain, LeadsTo, WaitsFor}
 use Rattle.lock_calls.specs.Waiting.{AreRows, bit_if, pid_at, waits_at}
-use Rattle.lock_calls.proofs.Holders.{has_place, pid_between, stops_held}
-
-both_true : (a b : Bool) → (a && b) ≡ true → (a ≡ true) × (b ≡ true)
-both_true true b e = (refl, e)
-both_true false b e = cc
+use Rattle.lock_calls.proofs.Holders.{has_place, pid_between}
+use Rattle.lock_calls.proofs.Rows.{place_within}
 
 one_is : (b : Bool) → bit_if b ≡ 1 → b ≡ true
 one_is true e = refl
 one_is false e = cc
 
 -- who is waited for holds places of some file
-stopper_holds : (locks : Locks) (pid other : ℕ) (wanted : Option Wanted) → is_stopped_by locks pid other wanted ≡ true → (node : ℕ) × (ranges_of locks other node ≢ [])
-stopper_holds locks pid other None e = cc
-stopper_holds locks pid other (Some wanted) e = (wanted.node, stops_held locks pid wanted.node other wanted.asked e)
+waited_holds : (locks : Locks) (pid other : ℕ) (wanted : Option Wanted) → is_stopped_by locks pid other wanted ≡ true → (node : ℕ) × (ranges_of locks other node ≢ [])
+waited_holds locks pid other None e = cc
+waited_holds locks pid other (Some wanted) e = (wanted.node, stopper_holds locks pid wanted.node other wanted.asked e)
 
 module _ (script : Script) (objects : Objects) (world : World) (stands : StandsFor script objects world) (sound : IsSound world.plain) (rows : List ℕ)
     (are : AreRows script objects rows) where
@@ -64,8 +65,8 @@ module _ (script : Script) (objects : Objects) (world : World) (stands : StandsF
   waited : (pid other : ℕ) → waits pid other ≡ true → (at : ℕ) × (pid_at listed at ≡ Some other)
   unfolding waits_for
   waited pid other is =
-      let stopped = both_true (is_alive world.plain.table pid) (is_stopped_by world.plain.files.locks pid other (wanted_by world.plain.files pid (call_of script world.plain pid))) is in
-      let held = stopper_holds world.plain.files.locks pid other (wanted_by world.plain.files pid (call_of script world.plain pid)) stopped.1 in
+      let stopped = and_parts (is_alive world.plain.table pid) (is_stopped_by world.plain.files.locks pid other (wanted_by world.plain.files pid (call_of script world.plain pid))) is in
+      let held = waited_holds world.plain.files.locks pid other (wanted_by world.plain.files pid (call_of script world.plain pid)) stopped.1 in
       has_place script objects world stands sound other held.0 held.1
 
   -- ---- chains
@@ -87,7 +88,7 @@ module _ (script : Script) (objects : Objects) (world : World) (stands : StandsF
 
   -- ---- circles
 
-  pub circle_is : (pid at : ℕ) → pid_at listed at ≡ Some pid → (told : Bool) → (told ≡ true → LeadsTo rows at at) → (LeadsTo rows at at → told ≡ true) → told ≡ circles script world.plain pid
+  circle_is : (pid at : ℕ) → pid_at listed at ≡ Some pid → (told : Bool) → (told ≡ true → LeadsTo rows at at) → (LeadsTo rows at at → told ≡ true) → told ≡ circles script world.plain pid
   unfolding circles
   circle_is pid at here true leads tells =
       let chain = leads refl in
@@ -97,3 +98,11 @@ module _ (script : Script) (objects : Objects) (world : World) (stands : StandsF
       go : (b : Bool) → circles script world.plain pid ≡ b → false ≡ b
       go true is = tells (rows_chain (chain_of waits pids pid pid is) at at here here)
       go false is = refl
+
+  -- the bits of all who are among 64 tell it
+  pub circling_is : length listed ≤ 64 → (circling : ℕ) → ((i : ℕ) → i < 64 → (bit_at circling i ≡ 1) ↔ LeadsTo rows i i)
+      → (at pid : ℕ) → pid_at listed at ≡ Some pid → (bit_at circling at == 1) ≡ circles script world.plain pid
+  circling_is few circling told at pid here =
+      let within : at < length listed = place_within listed at pid here in
+      let both = told at (omega (arith, within, few)) in
+      circle_is pid at here (bit_at circling at == 1) (λ yes. both.0 (eqb-true _ 1 yes)) (λ chain. eq-eqb _ 1 (both.1 chain))

@@ -1,5 +1,5 @@
 -- What a request is answered, by what came of it.
-use Rattle.std.proofs.Common.{◌≡◌, ℕ, ℤ, Bool, cond, Option, None, Some, Ok, refl, ap, sym, ◌∙◌}
+use Rattle.std.proofs.Common.{◌≡◌, ℕ, ℤ, Bool, cond, Option, None, Some, Ok, refl, ap, sym}
 use Rattle.kabi_types.specs.declared.errnos.Errno.TheVariants.{EAGAIN, EDEADLK}
 use Rattle.kabi_types.specs.declared.scripts.Script.{Script}
 use Rattle.posix_defs.specs.Answer.{Answer, Blocked, failed, replied}

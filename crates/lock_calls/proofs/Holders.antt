@@ -1,9 +1,12 @@
 -- Who is waited for holds a lock, so has a place in the table.
 use Rattle.std.proofs.Common.{◌≡◌, ◌≢◌, ℕ, zero, suc, ◌<◌, ◌≤◌, ◌==◌, ◌&&◌, ◌||◌, not, Bool, true, false, cond, eqb-true, List, [], ◌∷◌, map, replicate, Option, None, Some, is_none, refl, ap, sym, ◌∙◌, arith}
-use Rattle.std.specs.List.{filter, list_any}
+use Rattle.std.specs.List.{cons_option, filter, list_any}
+use Rattle.std.proofs.lemmas.Bool.{and_right}
 use Rattle.kheap_slabs.specs.declared.objects.Proc.{Proc}
+use Rattle.kabi_types.specs.Arguments.{most_descriptors}
 use Rattle.kabi_types.specs.declared.scripts.Script.{Script}
 use Rattle.lock_table.specs.Holding.{asked_by}
+use Rattle.machine_laws.proofs.LockLists.{stopper_holds}
 use Rattle.open_laws.specs.Open.{descriptors_by}
 use Rattle.posix_defs.specs.Calls.OnLocks.{is_clear, is_stopped_by}
 use Rattle.posix_defs.specs.Files.State.{Files}
@@ -23,48 +26,25 @@ use Rattle.lock_calls.specs.Claiming.{wanted_in}
 use Rattle.lock_calls.specs.Waiting.{is_held_up, pid_at}
 use Rattle.lock_calls.specs.declared.waits.Wanted.{Wanted as WantedHere}
 
-both_true : (a b : Bool) → (a && b) ≡ true → (a ≡ true) × (b ≡ true)
-both_true true b e = (refl, e)
-both_true false b e = cc
-
--- ---- who stops another holds a range of the file
+-- ---- who holds no range of a file is in nobody's way there
 
 -- a lock of a process, of a file, is among its ranges of that
 has_range : (locks : Locks) (pid node : ℕ) → list_any (is_of pid node) locks ≡ true → ranges_of locks pid node ≢ []
 has_range [] pid node e none = cc
-has_range (lock ∷ locks) pid node e = go (is_of pid node lock) e (has_range locks pid node)
+has_range (lock ∷ locks) pid node e none = go (is_of pid node lock) e (has_range locks pid node) none
   where
     go : (b : Bool) → (b || list_any (is_of pid node) locks) ≡ true → (list_any (is_of pid node) locks ≡ true → ranges_of locks pid node ≢ [])
         → map (λ (l : Lock). l.range) (cond b (lock ∷ filter (is_of pid node) locks) (filter (is_of pid node) locks)) ≢ []
     go true f later none = cc
     go false f later none = later f none
 
-is_its : (locks : Locks) (pid node by : ℕ) (asked : Request) → stops locks pid node asked by ≡ true → list_any (is_of by node) locks ≡ true
-is_its [] pid node by asked e = cc
-is_its (lock ∷ locks) pid node by asked e =
-    go (lock.pid == by) (lock.node == node) (not (lock.pid == pid)) (meets lock.range asked) e (is_its locks pid node by asked)
-  where
-    go : (own of other met : Bool) → ((own && (other && (of && met))) || stops locks pid node asked by) ≡ true
-        → (stops locks pid node asked by ≡ true → list_any (is_of by node) locks ≡ true) → ((own && of) || list_any (is_of by node) locks) ≡ true
-    go true true other met f later = refl
-    go true false true met f later = later f
-    go true false false met f later = later f
-    go false of other met f later = later f
-
-pub stops_held : (locks : Locks) (pid node by : ℕ) (asked : Request) → stops locks pid node asked by ≡ true → ranges_of locks by node ≢ []
-stops_held locks pid node by asked e = has_range locks by node (is_its locks pid node by asked e)
-
--- nobody who holds no range of the file does
+-- who holds none stops nobody
 pub stops_none : (locks : Locks) (pid node by : ℕ) (asked : Request) → (ranges_of locks by node ≢ [] → ⊥) → stops locks pid node asked by ≡ false
 stops_none locks pid node by asked none = go (stops locks pid node asked by) refl
   where
     go : (b : Bool) → stops locks pid node asked by ≡ b → b ≡ false
-    go true is = absurd (none (stops_held locks pid node by asked is))
+    go true is = absurd (none (stopper_holds locks pid node by asked is))
     go false is = refl
-
-no_further : (a : Bool) → (a && false) ≡ false
-no_further true = refl
-no_further false = refl
 
 -- where nobody holds ranges of a file nothing is in the way there
 no_way : (locks : Locks) (pid node : ℕ) (asked : Request) → ((by : ℕ) → ranges_of locks by node ≢ [] → ⊥) → filter (is_in_way pid node asked) locks ≡ []
@@ -72,22 +52,22 @@ no_way [] pid node asked none = refl
 no_way (lock ∷ locks) pid node asked none = go (lock.node == node) refl (no_way locks pid node asked)
   where
     by_own : (b : Bool) → (lock.node == node) ≡ b → b ≡ true → list_any (is_of lock.pid node) (lock ∷ locks) ≡ true
-    by_own b is yes =
+    by_own b is own =
         ap (λ a. (a && (lock.node == node)) || list_any (is_of lock.pid node) locks) (eqb_same lock.pid lock.pid refl)
-        ∙ ap (λ a. a || list_any (is_of lock.pid node) locks) (is ∙ yes)
+        ∙ ap (λ a. a || list_any (is_of lock.pid node) locks) (is ∙ own)
 
     go : (b : Bool) → (lock.node == node) ≡ b → (((by : ℕ) → ranges_of locks by node ≢ [] → ⊥) → filter (is_in_way pid node asked) locks ≡ [])
         → filter (is_in_way pid node asked) (lock ∷ locks) ≡ []
     go true is rest = absurd (none lock.pid (has_range (lock ∷ locks) lock.pid node (by_own true is refl)))
     go false is rest =
         ap (λ b. cond b (lock ∷ filter (is_in_way pid node asked) locks) (filter (is_in_way pid node asked) locks))
-        (ap (λ a. not (lock.pid == pid) && (a && meets lock.range asked)) is ∙ no_further (not (lock.pid == pid)))
+        (ap (λ a. not (lock.pid == pid) && (a && meets lock.range asked)) is ∙ and_right (not (lock.pid == pid)) false refl)
         ∙ rest (λ by some. none by (λ e. some (sym (passed by) ∙ e)))
       where
         passed : (by : ℕ) → ranges_of (lock ∷ locks) by node ≡ ranges_of locks by node
         passed by =
             ap (λ b. map (λ (l : Lock). l.range) (cond b (lock ∷ filter (is_of by node) locks) (filter (is_of by node) locks)))
-            (ap (λ a. (lock.pid == by) && a) is ∙ no_further (lock.pid == by))
+            (ap (λ a. (lock.pid == by) && a) is ∙ and_right (lock.pid == by) false refl)
 
 pub clear_none : (locks : Locks) (pid node : ℕ) (asked : Request) → ((by : ℕ) → ranges_of locks by node ≢ [] → ⊥) → is_clear locks pid node asked ≡ true
 clear_none locks pid node asked none = ap (λ (ls : Locks). is_none (first_of ls)) (no_way locks pid node asked none)
@@ -127,12 +107,8 @@ place_found : (procs : List (Option Proc)) (listed : List Place) (pid : ℕ) (pr
 place_found procs [] pid proc stored found = cc
 place_found procs (place ∷ places) pid proc stored found =
     let at : IsAt procs place = stored_is procs place stored.0 in
-    by_first at.proc at.pid (at.proc.pid == pid) refl (place_found procs places pid proc stored.1) (ap (λ (o : Option Proc). proc_of (with o) pid) (sym at.is) ∙ found)
+    by_first at.proc at.pid (at.proc.pid == pid) refl (place_found procs places pid proc stored.1) (ap (λ (o : Option Proc). proc_of (cons_option o (procs_at procs places)) pid) (sym at.is) ∙ found)
   where
-    with : Option Proc → List Proc
-    with None = procs_at procs places
-    with (Some first) = first ∷ procs_at procs places
-
     by_first : (first : Proc) → first.pid ≡ place.pid → (b : Bool) → (first.pid == pid) ≡ b → (proc_of (procs_at procs places) pid ≡ Some proc → (at : ℕ) × (pid_at places at ≡ Some pid))
         → cond b (Some first) (proc_of (procs_at procs places) pid) ≡ Some proc → (at : ℕ) × (pid_at (place ∷ places) at ≡ Some pid)
     by_first first own true is behind e = (0, ap Some (sym own ∙ eqb-true first.pid pid is))
@@ -154,7 +130,7 @@ has_place script objects world stands sound pid node some =
     by_proc : (o : Option Proc) → proc_of (procs_of objects) pid ≡ o → (at : ℕ) × (pid_at objects.procs.listed at ≡ Some pid)
     by_proc None is =
         never (ap (λ (o : Option Proc). list_any (opens_by world.plain.files node) (descriptors_by number (places_in (numbers_in objects.heap) o))) (sym is) ∙ opens)
-        (none_opens world.plain.files node number _)
+        (none_opens world.plain.files node number most_descriptors)
     by_proc (Some proc) is = place_found objects.heap.procs objects.procs.listed pid proc stands.kept.holds.stored is
 
 -- ---- pids of a table

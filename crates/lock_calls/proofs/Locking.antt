@@ -41,8 +41,8 @@ use Rattle.store_objects.specs.Standing.{IsSound, StandsFor}
 use Rattle.store_objects.specs.Trees.{others_in}
 use Rattle.store_objects.specs.Walking.{Serves, WorldReached}
 use Rattle.store_objects.specs.declared.objects.Objects.{Objects}
-use Rattle.file_calls.proofs.CallingOpens.{kept_mid, moves, runs_mid, unchanged}
-use Rattle.file_calls.proofs.Reached.{NamesNumbers, leaves_numbers, some_on}
+use Rattle.store_objects.proofs.CallingOpens.{kept_mid, moves, runs_mid, unchanged}
+use Rattle.store_objects.proofs.Reached.{NamesNumbers, leaves_numbers, some_on}
 use Rattle.lock_calls.specs.Claiming.{claimed_by}
 use Rattle.lock_calls.specs.Setting.{ChangesLocks, HasTried, locks_after, told_of}
 use Rattle.lock_calls.proofs.Beside.{bound_so, chain_so, changes_so, hold_locked, listed_so, owners_so, queues_so}
@@ -177,8 +177,8 @@ some_set script old mid well some holds = record {
 }
 
 -- what may be claimed is what the machine says, since the store holds its files
-pub claimed_so : (script : Script) (old : Objects) (world : World) → IsWellFormed old.heap → StandsFor script old world → IsSound world.plain → {kind : Option Kind} {pid : ℕ} {fd : ℤ} {result : Result ℕ Errno}
+pub claimed_so : (script : Script) (old : Objects) (world : World) → IsWellFormed old.heap → StandsFor script old world → IsSound world.plain → (kind : Option Kind) (pid : ℕ) (fd : ℤ) (result : Result ℕ Errno)
     → ((numbers : Numbers) (others : ℕ → ℕ) (files : Files) → HoldFiles numbers others old.heap old.procs old.tree files → result ≡ claimed_by files kind (opened_at files pid fd))
     → (is : Result ℕ Errno) → result ≡ is → claimed_by world.plain.files kind (opened_at world.plain.files pid fd) ≡ is
-claimed_so script old world well stands sound tells is e =
+claimed_so script old world well stands sound kind pid fd result tells is e =
     sym (tells stands.files.numbers (others_in world.plain) world.plain.files (holds_files script old world stands well sound)) ∙ e

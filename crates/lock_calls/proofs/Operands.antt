@@ -1,8 +1,8 @@
 -- What the operands of a call ask for.
-use Rattle.std.proofs.Common.{◌≡◌, ℕ, zero, suc, ◌+◌, ◌-◌, ◌≤◌, ◌<◌, ◌×◌, ℤ, Bool, true, false, cond, nat_lt, Option, None, Some, is_none, refl, ap, sym, ◌∙◌, subst, arith}
+use Rattle.std.proofs.Common.{◌≡◌, ℕ, zero, suc, ◌+◌, ◌-◌, ◌≤◌, ◌&&◌, ℤ, Bool, true, false, cond, nat_lt, Option, None, Some, is_none, refl, ap, sym, ◌∙◌, subst, arith}
 use Rattle.std.specs.Option.{option_or}
-use Rattle.std.proofs.lemmas.Bool.{ltb-false}
-use Rattle.kabi_types.specs.Arguments.{argument_fault, count_of, greatest_place, invalid_unless, is_within, last_place, locked_fault}
+use Rattle.std.proofs.lemmas.Bool.{ltb-false, ne_eqb}
+use Rattle.kabi_types.specs.Arguments.{argument_fault, count_of, greatest_place, invalid_unless, is_from, is_within, last_place, locked_fault}
 use Rattle.kabi_types.specs.declared.calls.Call.TheVariants as call
 use Rattle.kabi_types.specs.declared.errnos.Errno.{Errno}
 use Rattle.kabi_types.specs.declared.errnos.Errno.TheVariants.{EOVERFLOW}
@@ -25,11 +25,14 @@ ends_within : (most : ℕ) (kind start length : ℤ) → locked_fault most kind 
 ends_within most kind start length right =
     ltb-false greatest_place (count_of start + (count_of length - 1))
     (none_over (nat_lt greatest_place (count_of start + (count_of length - 1)))
-    (rest_none (is_within 0 most kind) _ right))
+    (rest_none (is_within 0 most kind && (is_from 0 start && is_from 0 length)) (cond (nat_lt greatest_place (count_of start + (count_of length - 1))) (Some EOVERFLOW) None) right))
 
 in_order : (start length : ℕ) → start + (length - 1) ≤ greatest_place → (start ≤ last_place start length) × (last_place start length ≤ greatest_place)
 in_order start zero fits = (omega (arith, fits), omega arith)
-in_order start (suc n) fits = (omega (arith, fits), omega (arith, fits))
+in_order start (suc n) fits = (omega (arith, fits, last), omega (arith, fits, last))
+  where
+    last : last_place start (suc n) ≡ start + n
+    last = ap (λ b. cond b greatest_place (start + suc n - 1)) (ne_eqb (suc n) 0 (λ same. omega (arith, same))) ∙ omega arith
 
 -- so the places from their start to their last one are places
 pub right_places : (most : ℕ) (kind start length : ℤ) → locked_fault most kind start length ≡ None
@@ -67,12 +70,18 @@ module _ (fd kind start length : ℤ) where
       go false none = refl
 
   module _ (files : Files) (pid : ℕ) where
+    -- by whatever name the number goes on what they ask for
+    pub same_wanted : (asked : Request) (on : ℤ) → on ≡ fd → Some asked ≡ right_request fd kind start length
+        → wanted_on files asked (opened_at files pid on) ≡ wanted_on files (request_of kind start length) (opened_at files pid fd)
+    same_wanted asked on same e =
+        let right = right_so asked e in
+        ap (λ n. wanted_on files asked (opened_at files pid n)) same ∙ ap (λ it. wanted_on files it (opened_at files pid fd)) right.1
+
     pub right_wanted : (asked : Request) (on : ℤ) → on ≡ fd → Some asked ≡ right_request fd kind start length
         → wanted_on files asked (opened_at files pid on) ≡ wanted_by files pid (call.Setlkw fd kind start length)
     right_wanted asked on same e =
         let right = right_so asked e in
-        ap (λ n. wanted_on files asked (opened_at files pid n)) same ∙ ap (λ it. wanted_on files it (opened_at files pid fd)) right.1
-        ∙ sym (ap (λ b. cond b (wanted_on files (request_of kind start length) (opened_at files pid fd)) None) right.0)
+        same_wanted asked on same e ∙ sym (ap (λ b. cond b (wanted_on files (request_of kind start length) (opened_at files pid fd)) None) right.0)
 
     pub wrong_wanted : None ≡ right_request fd kind start length → None ≡ wanted_by files pid (call.Setlkw fd kind start length)
     wrong_wanted e = sym (ap (λ b. cond b (wanted_on files (request_of kind start length) (opened_at files pid fd)) None) (wrong_so e))

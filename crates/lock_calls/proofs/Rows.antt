@@ -15,7 +15,7 @@ abbrev pub AreBits : (Option ℕ → Bool) → List Place → ℕ → ℕ → Ty
 AreBits test listed k row = (at : ℕ) → bit_at row at ≡ bit_if (nat_lt at k && test (pid_at listed at))
 
 pub no_bits : (test : Option ℕ → Bool) (listed : List Place) → AreBits test listed 0 0
-no_bits test listed at = bit_at-zero at
+no_bits test listed at = bit_at-zero at ∙ sym (ap (λ b. bit_if (b && test (pid_at listed at))) (le-ltb at 0 (omega arith)))
 
 below_next : (at k : ℕ) → at ≢ k → nat_lt at k ≡ nat_lt at (k + 1)
 below_next at k apart = go (nat_lt at k) refl
@@ -89,6 +89,13 @@ one_row IsRow listed rows at row d room within here before k pid below is = elim
 
 none_some : {X : Type 0} (pid : ℕ) → None ≡ Some pid → X
 none_some pid e = cc
+
+-- who stands at a place stands among them
+pub place_within : (listed : List Place) (at pid : ℕ) → pid_at listed at ≡ Some pid → at < length listed
+place_within listed at pid is = elim (cases_lt at (length listed)) [
+  | inl below ↦ below
+  | inr beyond ↦ none_some pid (sym (no_place listed at beyond) ∙ is)
+]
 
 -- so all have
 pub all_rows : (IsRow : ℕ → ℕ → Type 0) (listed : List Place) (at : ℕ) (rows : List ℕ) → length listed ≤ at → HaveRows IsRow listed at rows

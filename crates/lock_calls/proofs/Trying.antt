@@ -1,5 +1,5 @@
 -- A call on locks has tried: it is told what came of it.
-use Rattle.std.proofs.Common.{◌≡◌, ℕ, ℤ, Bool, true, false, cond, ◌∷◌, Result, Ok, Err, refl, ap, sym, ◌∙◌, subst, arith}
+use Rattle.std.proofs.Common.{◌≡◌, ℕ, ℤ, Bool, true, false, cond, Result, Ok, Err, refl, ap, sym, ◌∙◌, subst, arith}
 use Rattle.kabi_types.specs.declared.calls.Call.{Call}
 use Rattle.kabi_types.specs.declared.errnos.Errno.{Errno}
 use Rattle.kabi_types.specs.declared.errnos.Errno.TheVariants.{EAGAIN, EDEADLK}
@@ -31,7 +31,7 @@ use Rattle.store_objects.specs.Objects.{AreKept, Runs}
 use Rattle.store_objects.specs.Standing.{IsSound, StandsFor}
 use Rattle.store_objects.specs.Walking.{Serves, WorldReached}
 use Rattle.store_objects.specs.declared.objects.Objects.{Objects}
-use Rattle.file_calls.proofs.Reached.{NamesNumbers, some_on}
+use Rattle.store_objects.proofs.Reached.{NamesNumbers, some_on}
 use Rattle.lock_calls.specs.Claiming.{claimed_by}
 use Rattle.lock_calls.specs.Setting.{ChangesLocks, HasTried, told_of, wait_told}
 use Rattle.lock_calls.specs.Waiting.{is_held_up}

@@ -1,5 +1,5 @@
 -- Places of a file have been set, or weren't.
-use Rattle.std.specs.Prelude.{ℕ, ℤ, pos, ◌≡◌, ◌×◌, if◌then◌else◌, Bool, true, false, Result, Ok, Err}
+use Rattle.std.specs.Prelude.{ℕ, ℤ, pos, ◌≡◌, Bool, true, false, Result, Ok, Err}
 use Rattle.kabi_types.specs.declared.errnos.Errno.{Errno}
 use Rattle.kabi_types.specs.declared.errnos.Errno.TheVariants.{EAGAIN, EDEADLK}
 use Rattle.kabi_types.specs.declared.replies.Reply.{Reply}

@@ -1,10 +1,10 @@
 -- Who waits for whom, as a row of bits for each place of the table of processes.
-use Rattle.std.specs.Prelude.{ℕ, ◌≡◌, ◌<◌, cond, not, Bool, false, List, Option, None, Some, IfSome, slice_get, slice_index}
+use Rattle.std.specs.Prelude.{ℕ, ◌≡◌, ◌==◌, cond, not, Bool, false, List, Option, None, Some, IfSome, slice_get, slice_index}
 use Rattle.std.specs.Int.{bit_at}
 use Rattle.std.specs.Option.{option_map}
 use Rattle.kabi_types.specs.declared.scripts.Script.{Script}
 use Rattle.lock_table.specs.Holding.{asked_by}
-use Rattle.posix_defs.specs.Calls.OnLocks.{Wanted as PlainWanted, is_clear, waits_for}
+use Rattle.posix_defs.specs.Calls.OnLocks.{Wanted as PlainWanted, circles, is_clear, waits_for}
 use Rattle.posix_defs.specs.Locks.{Locks, stops}
 use Rattle.posix_defs.specs.Plain.{Plain}
 use Rattle.posix_defs.specs.World.{World}
@@ -47,6 +47,12 @@ IsRowOf script objects pid row =
 abbrev pub AreRows : Script → Objects → List ℕ → Type 0
 AreRows script objects rows = (at pid : ℕ) → pid_at objects.procs.listed at ≡ Some pid → IsRowOf script objects pid (slice_index rows at)
 
--- the same, if they are known
+-- the bit of each process, at its place, tells whether a chain of waits leads from it back to itself
+abbrev pub AreCircling : Script → Objects → ℕ → Type 0
+AreCircling script objects circling =
+    (world : World) → StandsFor script objects world → IsSound world.plain → (at pid : ℕ) → pid_at objects.procs.listed at ≡ Some pid
+    → (bit_at circling at == 1) ≡ circles script world.plain pid
+
+-- the same, if it is known
 abbrev pub AreKnown : Script → Objects → Option Waits → Type 0
-AreKnown script objects waits = IfSome waits (λ known. AreRows script objects known.rows)
+AreKnown script objects waits = IfSome waits (λ known. AreCircling script objects known.circling)

@@ -1,6 +1,6 @@
 //! What is asked for: the places of a file, and the kind with which they are to be held.
 
-ghost use Rattle.std.specs.Prelude.{◌≡◌, ◌^◌, ◌<◌, ◌≤◌, ◌×◌, ℕ, None, IfSome};
+ghost use Rattle.std.specs.Prelude.{◌≡◌, ◌^◌, ◌<◌, ◌≤◌, ℕ, None, IfSome};
 ghost use Rattle.std.specs.Option.{option_map};
 ghost use Rattle.kabi_types.specs.Arguments.{count_of, locked_fault};
 ghost use Rattle.lock_table.specs.Holding.{IsAsked, asked_by};

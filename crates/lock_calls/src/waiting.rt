@@ -8,7 +8,7 @@ ghost use Rattle.posix_defs.specs.World.{World};
 ghost use Rattle.proc_table.specs.Table.{IsPlaced};
 ghost use Rattle.store_objects.specs.Objects.{AreKept};
 ghost use Rattle.store_objects.specs.Standing.{IsSound, StandsFor};
-ghost use Rattle.lock_calls.specs.Waiting.{AreKnown, AreRows};
+ghost use Rattle.lock_calls.specs.Waiting.{AreCircling, AreKnown};
 
 use crate::requests::right_range;
 use crate::waits::{Waits, is_held_up};
@@ -65,7 +65,7 @@ fn circles(script: &Script, objects: &Objects, waits: &mut Option<Waits>, place:
 fn known_or_found(script: &Script, objects: &Objects, waits: Option<Waits>) -> Waits
     requires kept { AreKept script.now objects.now }
     requires known { AreKnown script.now objects.now waits }
-    ensures { AreRows script.now objects.now result.rows }
+    ensures { AreCircling script.now objects.now result.circling }
 {
     match waits {
         Some(known) => known,

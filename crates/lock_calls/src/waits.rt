@@ -1,6 +1,6 @@
 //! Who waits for whom.
 
-ghost use Rattle.std.specs.Prelude.{◌≡◌, ◌<◌, ◌≤◌, ◌×◌, ℕ, IsSome, None, Some, false, length, not, true};
+ghost use Rattle.std.specs.Prelude.{◌≡◌, ◌<◌, ◌≤◌, ℕ, IsSome, None, Some, false, length, not, true};
 ghost use Rattle.std.specs.Int.{bit_at};
 ghost use Rattle.kabi_types.specs.declared.calls.Call.{Call};
 ghost use Rattle.kheap_slabs.specs.Heap.{Heap};
@@ -22,7 +22,7 @@ ghost use Rattle.proc_table.specs.Table.{IsPlaced, TableView, key_of};
 ghost use Rattle.store_objects.specs.Objects.{AreKept};
 ghost use Rattle.store_objects.specs.Standing.{IsSound, StandsFor};
 ghost use Rattle.lock_calls.specs.Claiming.{all_wanted};
-ghost use Rattle.lock_calls.specs.Waiting.{AreRows, IsRowOf, bit_if, is_held_up, pid_at, stops_at};
+ghost use Rattle.lock_calls.specs.Waiting.{AreCircling, AreRows, IsRowOf, bit_if, is_held_up, pid_at, stops_at};
 
 use crate::claiming::{may_hold, node_of};
 use crate::requests::right_range;
@@ -32,7 +32,7 @@ use proc_numbers::{Named, opened};
 use proc_table::Place;
 use prog_ctl::{Awaited, wait_here};
 use store_objects::Objects;
-use wait_graph::circle;
+use wait_graph::circling;
 
 /// How many processes may be there.
 const MOST: usize = 64;
@@ -44,37 +44,50 @@ struct Wanted {
     range: LockRange,
 }
 
-/// For each process that is there, at its place among these, those that hold what is in its way, as bits: none where its next call
-/// isn't a `setlkw` that gets so far.
+/// Of each process that is there, at its place among these, whether a chain of waits leads from it back to itself, as a bit.
 #[derive(Clone, Copy)]
 pub struct Waits {
-    rows: [u64; MOST],
+    circling: u64,
 }
 
 impl Waits {
-    /// Who waits for whom now.
+    /// Whom chains of waits lead back to now. It stands by itself, since it has room for all who wait.
+    #[inline(never)]
     pub fn of(script: &Script, objects: &Objects) -> Waits
         requires { AreKept script.now objects.now }
-        ensures { AreRows script.now objects.now result.rows }
+        ensures { AreCircling script.now objects.now result.circling }
     {
-        objects.heap_is_well_formed();
-        let mut rows = [0; MOST];
-        let mut at = 0;
-        for place in objects.procs.listed() {
-            rows[at] = row_of(script, objects, *place);
-            at += 1;
+        let rows = rows_of(script, objects);
+        Waits {
+            circling: circling(&rows),
         }
-        Waits { rows }
     }
 
     /// Whether a chain of waits leads from a process back to itself.
     pub fn circle(&self, objects: &Objects, pid: u32) -> bool
         requires { IsSome (key_of objects.now.procs.listed pid) }
-        ensures { (script : ScriptOf) (world : World) → AreRows script objects.now self.now.rows → StandsFor script objects.now world → IsSound world.plain
+        ensures { (script : ScriptOf) (world : World) → AreCircling script objects.now self.now.circling → StandsFor script objects.now world → IsSound world.plain
             → result ≡ circles script world.plain pid }
     {
-        circle(&self.rows, place_of(objects.procs.listed(), pid))
+        (self.circling >> place_of(objects.procs.listed(), pid)) & 1 == 1
     }
+}
+
+/// For each process that is there, at its place among these, those that hold what is in its way, as bits: none where its next call
+/// isn't a `setlkw` that gets so far.
+fn rows_of(script: &Script, objects: &Objects) -> [u64; MOST]
+    requires { AreKept script.now objects.now }
+    ensures rows { AreRows script.now objects.now result }
+    ensures few { length objects.now.procs.listed ≤ 64 }
+{
+    objects.heap_is_well_formed();
+    let mut rows = [0; MOST];
+    let mut at = 0;
+    for place in objects.procs.listed() {
+        rows[at] = row_of(script, objects, *place);
+        at += 1;
+    }
+    rows
 }
 
 /// For which places of a file a number asks; None where it would be refused before it waits. Whether the node is a directory isn't looked

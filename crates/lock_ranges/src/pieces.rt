@@ -1,8 +1,8 @@
 ghost use Rattle.std.specs.Prelude.{◌≡◌, IfOk, OnOk};
 ghost use Rattle.kabi_types.specs.Ranges.{added, before, behind, joined, set};
 
-use kabi_types::ranges::{Kind, Range};
 use kabi_types::Memory;
+use kabi_types::ranges::{Kind, Range};
 use std::alloc::Global;
 
 /// Some ranges once the places from the start to the last one are held with a kind, or let go.

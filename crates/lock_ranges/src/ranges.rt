@@ -3,8 +3,8 @@ ghost use Rattle.std.specs.List.{AllByRecursion};
 ghost use Rattle.kabi_types.specs.Ranges.{IsCanonical, conflicts, covers, first_conflict, greatest, kind_at, set};
 
 use crate::pieces::after_setting;
-use kabi_types::ranges::{Kind, Range};
 use kabi_types::Memory;
+use kabi_types::ranges::{Kind, Range};
 use std::alloc::Global;
 use std::marker::Model;
 

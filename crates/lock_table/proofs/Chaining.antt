@@ -1,18 +1,17 @@
 -- The chain of locks, by its keys.
-use Rattle.std.proofs.Common.{◌≡◌, ◌≢◌, ℕ, zero, suc, ◌+◌, ◌<◌, ◌≤◌, List, [], ◌∷◌, ◌++◌, length, Option, None, Some, IsSome, refl, sym, ap, subst, ◌∙◌, arith, inl, inr, ◌⊎◌, Contains}
-use Rattle.std.proofs.lemmas.Bool.{cases_eq}
-use Rattle.std.proofs.lemmas.List.Elements.{Contains-append_left, Contains-append_right}
+use Rattle.std.proofs.Common.{◌≡◌, ℕ, zero, suc, ◌≤◌, List, [], ◌∷◌, length, Option, None, Some, IsSome, refl, sym, ap, subst, ◌∙◌, arith, inl, inr, Contains}
+use Rattle.std.proofs.lemmas.List.Elements.{Contains-append_left}
 use Rattle.chunk_queue.proofs.AccountLemmas.{count-keys}
-use Rattle.chunk_queue.proofs.JoinedLemmas.{Contains-cons, Contains-cons_cases}
-use Rattle.kheap_laws.proofs.KeyLemmas.{AreKeysOf-changes, AreKeysOf-swap}
-use Rattle.kheap_laws.proofs.OnceLemmas.{Contains-single, IsOnce-cons, IsOnce-head}
+use Rattle.chunk_queue.proofs.JoinedLemmas.{Contains-cons}
+use Rattle.kheap_laws.proofs.KeyLemmas.{AreKeysOf-changes}
+use Rattle.kheap_laws.proofs.OnceLemmas.{Contains-single, IsOnce-cons}
 use Rattle.kheap_laws.proofs.OutsideLemmas.{KeepsOutside-put, KeepsOutside-without}
 use Rattle.kheap_slabs.specs.Keys.{AreKeysOf, IsOnce}
 use Rattle.kheap_slabs.specs.Objects.{object, InUse, count, put, without}
 use Rattle.kheap_slabs.specs.declared.objects.Lock.{Lock as HeldLock}
-use Rattle.kheap_slabs.proofs.ObjectLemmas.{InUse-put, InUse-within, object-put, object-put_other, object-without, object-without_other, object_of}
+use Rattle.kheap_slabs.proofs.ObjectLemmas.{InUse-put, InUse-within, object-put_other, object-without}
 use Rattle.posix_defs.specs.Locks.{Lock, Locks}
-use Rattle.lock_table.specs.Chain.{Chained, IsLockChain, held_of, plain_of}
+use Rattle.lock_table.specs.Chain.{Chained, IsLockChain, held_of}
 use Rattle.lock_table.specs.Walking.{chain_left, next_of}
 
 -- ---- keys that lead from the first one on

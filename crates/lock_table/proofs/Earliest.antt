@@ -1,13 +1,13 @@
 -- The first lock in the way: of a list that is gone through from its head, and of any other list of the same locks.
-use Rattle.std.proofs.Common.{◌≡◌, ℕ, ◌<◌, ◌≤◌, Bool, true, false, ◌&&◌, ◌||◌, cond, eqb, leb, ltb, not, List, [], ◌∷◌, ◌++◌, map, Option, None, Some, refl, ap, sym, subst, ◌∙◌, inl, inr, ◌⊎◌, arith}
+use Rattle.std.proofs.Common.{◌≡◌, ℕ, ◌<◌, ◌≤◌, Bool, true, false, ◌&&◌, ◌||◌, cond, eqb, leb, not, List, [], ◌∷◌, Option, None, Some, refl, ap, sym, subst, ◌∙◌, inl, inr, ◌⊎◌, arith}
 use Rattle.std.specs.List.{AllByRecursion, filter}
-use Rattle.std.proofs.lemmas.Bool.{and_from, and_parts, cases_Bool, cases_lt, eq-eqb, eqb-true, le-leb, le-ltb, lt-leb, lt-ltb, ne_eqb, or_from}
+use Rattle.std.proofs.lemmas.Bool.{and_from, and_parts, cases_lt, eq-eqb, eqb-true, le-leb, le-ltb, lt-leb, lt-ltb}
 use Rattle.kabi_types.specs.Ranges.{IsCanonical, LiesBefore}
 use Rattle.kabi_types.specs.declared.ranges.Range.{Range}
 use Rattle.posix_defs.specs.Locks.{Lock, Locks, Request, comes_first, first_in_way, first_of, first_with, is_in_way, is_of, meets, ranges_of}
-use Rattle.lock_table.specs.Holding.{earlier, earliest, sooner}
+use Rattle.lock_table.specs.Holding.{earliest, sooner}
 use Rattle.lock_table.specs.Reordered.{IsReordered}
-use Rattle.lock_table.proofs.Reordering.{IsIn, all_at, all_still, back, filtered, in_filter, in_map, in_still, into_filter}
+use Rattle.lock_table.proofs.Reordering.{IsIn, all_at, back, filtered, in_filter, in_map, in_still, into_filter}
 
 -- ---- the order of locks
 

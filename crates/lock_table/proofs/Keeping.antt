@@ -1,15 +1,14 @@
 -- What is left of locks where places are let go, in whatever order they stand.
-use Rattle.std.proofs.Common.{◌≡◌, ℕ, ◌+◌, ◌<◌, ◌≤◌, ◌&&◌, Bool, true, false, cond, eqb, ltb, leb, not, min, max, List, [], ◌∷◌, ◌++◌, append_assoc, length, map, Option, None, Some, refl, ap, sym, subst, ◌∙◌, inl, inr, ◌⊎◌, arith}
+use Rattle.std.proofs.Common.{◌≡◌, ℕ, ◌+◌, ◌<◌, ◌≤◌, ◌&&◌, Bool, true, false, cond, eqb, ltb, not, List, [], ◌∷◌, ◌++◌, append_assoc, map, Option, None, Some, refl, ap, sym, subst, ◌∙◌, inl, inr, arith}
 use Rattle.std.specs.List.{AllByRecursion, filter}
-use Rattle.std.proofs.lemmas.Bool.{and_left, and_parts, cases_Bool, cases_lt, eqb-true, le-ltb, lt-ltb, ltb-true}
+use Rattle.std.proofs.lemmas.Bool.{and_left, and_parts, cases_Bool, eqb-true, le-ltb, ltb-true}
 use Rattle.std.proofs.lemmas.List.{append-nil, map-append}
 use Rattle.kabi_types.specs.Ranges.{IsCanonical, LiesBefore, before, behind, beyond, greatest, until}
 use Rattle.kabi_types.specs.declared.ranges.Range.{Range}
-use Rattle.lock_ranges.proofs.Meaning.{before_cut, before_out, behind_cut, behind_out}
 use Rattle.posix_defs.specs.Locks.{Lock, Locks, is_of, lock_of, ranges_of, without}
 use Rattle.lock_table.specs.Reordered.{IsReordered, empty, more, swap, trans}
 use Rattle.lock_table.specs.Setting.{cut, is_over, kept_by, left_of, let_go, over, over_by, stays, with_range}
-use Rattle.lock_table.proofs.Reordering.{as_often, back, before_others, behind_others, each_still, each_to, from_middle, interleaved, mapped, one_if, same_list, same_lists, times, times_more, times_none, to_front}
+use Rattle.lock_table.proofs.Reordering.{as_often, behind_others, each_still, each_to, interleaved, mapped, one_if, same_list, same_lists, times, times_more, times_none, to_front}
 
 -- ---- a process's lock of a file, or another one
 

@@ -1,19 +1,18 @@
 -- What is held and let go of locks, in whatever order they stand, is what is set of the ranges of a process.
-use Rattle.std.proofs.Common.{◌≡◌, ◌≢◌, ℕ, ◌+◌, ◌-◌, ◌<◌, ◌≤◌, ◌&&◌, Bool, true, false, cond, eqb, not, min, max, List, [], ◌∷◌, ◌++◌, append_assoc, map, Option, None, Some, refl, ap, sym, subst, ◌∙◌, inl, inr, ◌⊎◌, arith}
-use Rattle.std.specs.List.{AllByRecursion, filter}
+use Rattle.std.proofs.Common.{◌≡◌, ◌≢◌, ℕ, ◌+◌, ◌-◌, ◌≤◌, ◌&&◌, Bool, true, false, cond, eqb, not, min, max, List, [], ◌∷◌, ◌++◌, append_assoc, map, None, Some, refl, ap, sym, subst, ◌∙◌, inl, inr, ◌⊎◌, arith}
+use Rattle.std.specs.List.{AllByRecursion}
 use Rattle.std.proofs.lemmas.Bool.{and_from, and_left, and_right, and_parts, cases_Bool, cases_eq, cases_lt, eq-eqb, eqb-true, ne_eqb}
 use Rattle.std.proofs.lemmas.List.{append-nil, map-append}
 use Rattle.kabi_types.specs.Ranges.{IsCanonical, before, behind, greatest, set}
 use Rattle.lock_ranges.specs.Widening.{Begins, Ends, IsAmong, IsWidened, LiesWithin, reaches}
-use Rattle.kabi_types.specs.declared.ranges.Kind.{Kind}
 use Rattle.kabi_types.specs.declared.ranges.Range.{Range}
-use Rattle.lock_ranges.proofs.Shape.{IsCanonical-set, weaker}
+use Rattle.lock_ranges.proofs.Shape.{IsCanonical-set}
 use Rattle.lock_ranges.proofs.Widening.{set_held, set_none}
 use Rattle.posix_defs.specs.Locks.{Lock, Locks, Request, after_set, is_of, lock_of, ranges_of, with_ranges, without}
 use Rattle.lock_table.specs.Reordered.{IsReordered, more, trans}
-use Rattle.lock_table.specs.Setting.{held_wide, let_go, taking_in, widened, widened_by}
+use Rattle.lock_table.specs.Setting.{held_wide, let_go, taking_in, widened}
 use Rattle.lock_table.proofs.Keeping.{let_go_is, ranges_other, ranges_own}
-use Rattle.lock_table.proofs.Reordering.{all_still, among_still, back, behind_others, filtered, from_middle, mapped, same_lists}
+use Rattle.lock_table.proofs.Reordering.{all_still, among_still, back, filtered, from_middle, mapped}
 
 -- ---- what is asked for, with what it reaches
 

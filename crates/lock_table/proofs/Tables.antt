@@ -1,19 +1,17 @@
 -- What a table of locks stands for, before and after its calls.
-use Rattle.std.proofs.Common.{◌≡◌, ℕ, ◌+◌, ◌<◌, ◌≤◌, ◌↔◌, ◌&&◌, eqb, Bool, List, [], ◌∷◌, length, Option, None, Some, refl, ap, sym, subst, ◌∙◌, arith, replicate}
-use Rattle.std.specs.List.{list_any}
+use Rattle.std.proofs.Common.{◌≡◌, ℕ, ◌≤◌, ◌↔◌, ◌&&◌, eqb, List, [], ◌∷◌, length, Option, None, Some, refl, ap, sym, subst, ◌∙◌, arith, replicate}
 use Rattle.std.specs.Option.{option_map}
 use Rattle.chunk_queue.proofs.AccountLemmas.{count-keys}
 use Rattle.kabi_types.specs.Counts.{with_count}
 use Rattle.kabi_types.specs.declared.classes.Class.TheVariants as class
 use Rattle.kheap_laws.proofs.PaidLemmas.{CanPay-kept, IsPaid-nothing}
 use Rattle.kheap_slabs.specs.Heap.{Heap}
-use Rattle.kheap_slabs.specs.Objects.{object, count}
+use Rattle.kheap_slabs.specs.Objects.{count}
 use Rattle.kheap_slabs.specs.Paid.{CanPay, TakesNothing}
 use Rattle.kheap_slabs.specs.Purse.{Purse}
 use Rattle.kheap_slabs.specs.declared.objects.Lock.{Lock as HeldLock}
 use Rattle.kheap_slabs.proofs.ObjectLemmas.{object-none, object_of}
 use Rattle.kabi_types.specs.Ranges.{greatest}
-use Rattle.kabi_types.specs.declared.ranges.Kind.{Kind}
 use Rattle.kabi_types.specs.declared.ranges.Range.{Range}
 use Rattle.posix_defs.specs.Locks.{Locks, Request, after_set, first_in_way, is_in_way, stops, without}
 use Rattle.lock_table.specs.Chain.{Chained, HasLocks, HoldsLocks, IsLockChain, IsLockTable, plain_of}

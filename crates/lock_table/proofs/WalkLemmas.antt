@@ -1,5 +1,5 @@
 -- The chain is walked from its first one on, and made anew.
-use Rattle.std.proofs.Common.{◌≡◌, ◌≢◌, ℕ, suc, ◌+◌, ◌<◌, ◌≤◌, List, [], ◌∷◌, ◌++◌, length, Option, None, Some, IsSome, refl, sym, ap, subst, ◌∙◌, arith, inl, inr, Contains}
+use Rattle.std.proofs.Common.{◌≡◌, ◌≢◌, ℕ, suc, ◌+◌, ◌<◌, List, [], ◌∷◌, ◌++◌, length, Option, None, Some, IsSome, refl, sym, ap, subst, ◌∙◌, arith, Contains}
 use Rattle.std.proofs.lemmas.List.{append-nil}
 use Rattle.std.proofs.lemmas.List.Elements.{Contains-append_left, Contains-append_right}
 use Rattle.kheap_laws.proofs.KeyLemmas.{AreKeysOf-swap}
@@ -168,6 +168,7 @@ module _ (objects : List (Option HeldLock)) (most : ℕ) (first : Option ℕ) (l
     -- fewer are left then
     pub cut_less : (now : Option Range) → Cuts objects most first (Some key) left pid node start last locks
         → chain_left most (chained_again objects key held first now) held.next < chain_left most objects (Some key)
+    unfolding here
     cut_less now cuts =
         let it = here cuts in
         let differ = others_differ cuts.done_keys it.behind it.all in

@@ -1,5 +1,5 @@
 -- What is asked for and what is told, as the calls of the table have them, and the first lock in the way.
-use Rattle.std.specs.Prelude.{◌≤◌, ℕ, Bool, if◌then◌else◌, List, [], ◌∷◌, Option, None, Some}
+use Rattle.std.specs.Prelude.{◌≤◌, ℕ, if◌then◌else◌, [], ◌∷◌, Option, None, Some}
 use Rattle.kabi_types.specs.Ranges.{greatest}
 use Rattle.posix_defs.specs.Calls.OnLocks.{kind_asked, kind_told}
 use Rattle.posix_defs.specs.Locks.{Lock, Locks, Request, comes_first, is_in_way}

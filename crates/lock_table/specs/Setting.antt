@@ -1,5 +1,5 @@
 -- How places are let go and held, one lock after the other, in whatever order they stand.
-use Rattle.std.specs.Prelude.{ℕ, nat_lt, min, max, Bool, ◌&&◌, if◌then◌else◌, List, [], ◌∷◌, Option, None, Some}
+use Rattle.std.specs.Prelude.{ℕ, nat_lt, min, max, Bool, ◌&&◌, if◌then◌else◌, [], ◌∷◌, Option, None, Some}
 use Rattle.kabi_types.specs.Ranges.{beyond, until}
 use Rattle.lock_ranges.specs.Widening.{reaches}
 use Rattle.kabi_types.specs.declared.ranges.Range.{Range}

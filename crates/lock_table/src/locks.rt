@@ -7,10 +7,10 @@ ghost use Rattle.posix_defs.specs.Calls.OnLocks.{kind_asked, kind_told};
 ghost use Rattle.posix_defs.specs.Locks.{comes_first, is_in_way, is_of, meets};
 ghost use Rattle.lock_table.specs.Chain.{plain_of};
 ghost use Rattle.lock_table.specs.Holding.{asked_by, earlier, info_of};
-ghost use Rattle.lock_table.specs.Setting.{is_over, kept_by, left_of, over_by, widened_by};
+ghost use Rattle.lock_table.specs.Setting.{kept_by, left_of, over_by, widened_by};
 
-use kheap_slabs::Lock;
 use kabi_types::ranges::{Kind, Range};
+use kheap_slabs::Lock;
 
 /// Places of a file, from a start to a last one, that are to be held or let go.
 #[derive(Clone, Copy)]

@@ -1,11 +1,10 @@
-ghost use Rattle.std.specs.Prelude.{◌≡◌, ◌+◌, ◌≤◌, ◌<◌, ◌∷◌, [], List, Option, None, Some, is_none};
+ghost use Rattle.std.specs.Prelude.{◌≡◌, ◌+◌, ◌≤◌, ◌∷◌, [], None, Some, is_none};
 ghost use Rattle.std.specs.Option.{option_map};
 ghost use Rattle.kabi_types.specs.Counts.{with_count};
 ghost use Rattle.kabi_types.specs.declared.classes.Class.TheVariants as class;
 ghost use Rattle.kheap_slabs.specs.Objects.{object};
 ghost use Rattle.kheap_slabs.specs.Paid.{CanPay, IsPaid, TakesNothing};
-ghost use Rattle.kabi_types.specs.Ranges.{greatest};
-ghost use Rattle.posix_defs.specs.Locks.{Lock as PlainLock, Locks, Request, after_set, first_in_way, is_in_way, lock_of, stops, without};
+ghost use Rattle.posix_defs.specs.Locks.{Locks, after_set, first_in_way, lock_of, stops, without};
 ghost use Rattle.lock_table.specs.Chain.{HasLocks, HoldsLocks, IsLockChain, IsLockTable, plain_of};
 ghost use Rattle.lock_table.specs.Holding.{IsAsked, asked_by, earliest, info_of};
 ghost use Rattle.lock_table.specs.Setting.{cut, held_wide, let_go, over, widened};
@@ -15,8 +14,8 @@ use crate::locks::{
     LockInfo, LockRange, earlier, kept_by, over_by, stands_in_way, told, widened_by,
 };
 use kabi_types::Class;
-use kheap_slabs::{KHeap, Lock, Purse};
 use kabi_types::ranges::Range;
+use kheap_slabs::{KHeap, Lock, Purse};
 use std::marker::Model;
 
 /// Which ranges of files processes hold: the key of the first Lock of the chain.

@@ -1,5 +1,5 @@
 -- Where nobody holds a lock nobody does afterwards, unless one is asked for; and who has ended holds none.
-use Rattle.std.proofs.Common.{◌≡◌, ◌≢◌, ℕ, zero, suc, ℤ, Bool, true, false, cond, List, [], ◌∷◌, length, Option, None, Some, Result, Ok, Err, refl, ap, sym, ◌∙◌, subst}
+use Rattle.std.proofs.Common.{◌≡◌, ℕ, zero, suc, ℤ, Bool, true, false, cond, List, [], ◌∷◌, length, Option, None, Some, Result, Ok, Err, refl, ap, sym, ◌∙◌}
 use Rattle.std.specs.List.{filter, range_with_len}
 use Rattle.kabi_types.specs.Arguments.{count_of, locked_fault}
 use Rattle.kabi_types.specs.declared.calls.Call.{Call}

@@ -7,7 +7,7 @@ use Rattle.kabi_types.specs.declared.ranges.Kind.{Kind}
 use Rattle.kabi_types.specs.declared.ranges.Range.{Range}
 use Rattle.lock_ranges.proofs.Conflicts.{apart_both, apart_held, apart_let_go}
 use Rattle.lock_ranges.proofs.Shape.{IsCanonical-set}
-use Rattle.posix_defs.specs.Locks.{Lock, Locks, Request, after_set, comes_first, first_in_way, first_of, first_with, is_in_way, is_of, lock_of, meets, ranges_of, stops, with_ranges, without}
+use Rattle.posix_defs.specs.Locks.{Lock, Locks, Request, after_set, comes_first, first_of, first_with, is_in_way, is_of, lock_of, meets, ranges_of, stops, with_ranges, without}
 use Rattle.posix_defs.specs.Files.State.{let_go}
 use Rattle.posix_defs.specs.Calls.OnLocks.{is_clear}
 use Rattle.machine_laws.specs.FileSteps.{ArePlaces}

@@ -1,6 +1,6 @@
 -- In every machine that is reached nobody holds what another can't let it hold, and who holds some of a file has it open.
 use Rattle.std.proofs.Common.{◌≡◌, ◌≢◌, ℕ, zero, suc, ◌<◌, ◌≤◌, ◌+◌, ◌==◌, ℤ, pos, negsuc, Bool, true, false, cond, List, [], ◌∷◌, ◌++◌, length, Option, None, Some, refl, ap, sym, ◌∙◌, subst, inl, inr, arith}
-use Rattle.std.specs.List.{filter, list_any, range_with_len}
+use Rattle.std.specs.List.{filter, range_with_len}
 use Rattle.std.proofs.lemmas.Bool.Decides.{eqb_tells}
 use Rattle.std.proofs.lemmas.List.{get_or-set_same, get_or-set_other}
 use Rattle.std.proofs.lemmas.List.Folds.{list_any_at}
@@ -28,7 +28,7 @@ use Rattle.machine_laws.proofs.Inductions.{answers_keep, by_induction}
 use Rattle.machine_laws.proofs.Items.{pushed_front}
 use Rattle.machine_laws.proofs.LockLists.{AreHeldApart, going_apart, held_before, key, nobody_holds, none_of_it, ranges_set_others, setting_apart}
 use Rattle.machine_laws.proofs.Naming.{are_free, by_named, target_descriptions}
-use Rattle.machine_laws.proofs.Places.{IsNaming, free_at, naming, not_some, opener_made, others_after, own_after, some_same, there_within}
+use Rattle.machine_laws.proofs.Places.{free_at, naming, not_some, opener_made, others_after, own_after, some_same, there_within}
 use Rattle.machine_laws.proofs.SharedOffsets.{stay_open}
 use Rattle.machine_laws.proofs.Shutting.{close_one, length_with, past_open, released_same, same_of}
 

@@ -3,12 +3,12 @@
 ghost use Rattle.std.specs.Prelude.{◌≡◌, ◌+◌, ◌≤◌};
 ghost use Rattle.kheap_slabs.specs.Heap.{live_bytes};
 
+use kabi_types::ranges::{Kind, Range};
 use kabi_types::{Control, Inode, Name27};
 use kheap_slabs::{
     Access, Block, Chunk, Desc, DescFlags, Descriptor, KHeap, Leaf, Lock, Name, Node, Page,
     PageEntry, Pipe, Proc, QueueParts, Sock, SockState, Target, Vnode,
 };
-use kabi_types::ranges::{Kind, Range};
 use std::test::Fail;
 
 fn proc_of(pid: u32) -> Proc {

@@ -47,13 +47,28 @@ fn set(rt: &impl Abort, heap: &mut KHeap, locks: &mut LockTable, ask: &Ask)
     ensures { IsLockTable heap.new.locks locks.new }
 {
     let (pid, node, kind, start, last) = *ask;
-    assert!(rt; kind <= 2 && start <= last && last <= LAST);
-    assert!(rt; heap.live() + 128 <= heap.heap());
+    assert!(rt; kind <= 2);
+    assert!(rt; start <= last);
+    assert!(rt; last <= LAST);
+    let live = heap.live();
+    assert!(rt; live <= 8192);
+    assert!(rt; live + 128 <= heap.heap());
     let mut purse = Purse::of(Need {
         lock: 2,
         ..Need::default()
     });
-    locks.set(heap, &mut purse, node, pid, &range_of(ask));
+    let range = LockRange { kind, start, last };
+    locks.set(heap, &mut purse, node, pid, &range);
+}
+
+fn take_one(rt: &impl Abort, heap: &mut KHeap, locks: &mut LockTable, step: &Step)
+    requires { IsLockTable heap.old.locks locks.old }
+    ensures { IsLockTable heap.new.locks locks.new }
+{
+    match step {
+        Step::Set(ask) => set(rt, heap, locks, ask),
+        Step::Drop(pid, node) => locks.drop_of(heap, *node, *pid),
+    }
 }
 
 fn take(rt: &impl Abort, heap: &mut KHeap, locks: &mut LockTable, steps: &[Step])
@@ -61,10 +76,7 @@ fn take(rt: &impl Abort, heap: &mut KHeap, locks: &mut LockTable, steps: &[Step]
     ensures { IsLockTable heap.new.locks locks.new }
 {
     for step in steps {
-        match step {
-            Step::Set(ask) => set(rt, heap, locks, ask),
-            Step::Drop(pid, node) => locks.drop_of(heap, *node, *pid),
-        }
+        take_one(rt, heap, locks, step);
     }
 }
 
@@ -85,7 +97,7 @@ fn check(rt: &impl Abort, alloc: Global, row: &Row) -> Result<(), Memory> {
     let mut locks = LockTable::new();
     take(rt, &mut heap, &mut locks, steps);
     let first = locks.conflict(&heap, ask.1, ask.0, &range_of(ask));
-    assert!(rt; is_told(first, told) && heap.live() == 64 * *many);
+    assert!(rt; is_told(first, told) && heap.live() / 64 == *many);
     assert!(rt; locks.is_empty() == (*many == 0));
     drop(heap);
     drop(locks);

@@ -74,7 +74,7 @@ module _ (script : Script) (old : Objects) (heap : Heap) (kept : IsKept heap old
         next = answered_in script base pid reply;
         stands = follows.done reply refl base
             (stands_mid script old heap kept rest names world stands next account leads controls
-            (record { family = leaves.family; works = leaves.works; nodes = record { tree = leaves.nodes.tree; opens = leaves.nodes.opens; names = leaves.nodes.names } })
+            (record { family = leaves.family; works = leaves.works; nodes = record { tree = leaves.nodes.tree; opens = leaves.nodes.opens; names = leaves.nodes.names }; locks = leaves.locks })
             (settled_after world.plain (answered script next pid reply) (touched world.account pid which reply)));
         tells = (refl, refl);
         account = refl;
@@ -92,7 +92,7 @@ module _ (script : Script) (old : Objects) (heap : Heap) (kept : IsKept heap old
         next = partly_in base pid moved;
         stands = follows.part moved refl leaves.0 base
             (stands_mid script old heap kept rest names world stands next account leads controls
-            (record { family = leaves.1.family; works = leaves.1.works; nodes = record { tree = leaves.1.nodes.tree; opens = leaves.1.nodes.opens; names = leaves.1.nodes.names } })
+            (record { family = leaves.1.family; works = leaves.1.works; nodes = record { tree = leaves.1.nodes.tree; opens = leaves.1.nodes.opens; names = leaves.1.nodes.names }; locks = leaves.1.locks })
             (settled_after world.plain after world.account));
         tells = (refl, refl);
         account = refl;
@@ -106,7 +106,7 @@ module _ (script : Script) (old : Objects) (heap : Heap) (kept : IsKept heap old
       led_blocked script new world pid which (follows.sleeps refl world
       (stands_mid script old heap kept rest names world stands world.plain world.account
       (subst (λ plain. QueuesStandFor stands.files.numbers heap old.procs plain world.account) is.1 leads) refl
-      (record { family = λ family. family; works = refl; nodes = record { tree = refl; opens = refl; names = λ place. refl } }) stands.files.settled))) leads
+      (record { family = λ family. family; works = refl; nodes = record { tree = refl; opens = refl; names = λ place. refl }; locks = refl }) stands.files.settled))) leads
   told_world world stands answer (turned.Ended status) next is leads controls leaves follows = absurd is
   told_world world stands answer turned.Gone next is leads controls leaves follows = absurd is
 

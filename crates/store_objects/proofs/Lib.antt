@@ -47,3 +47,6 @@ pub mod Answered
 pub mod Serving
 pub mod Beginning
 pub mod StoreFiles
+pub mod CallingOpens
+pub mod Reached
+pub mod Needed

@@ -10,6 +10,19 @@ pub fn circle(edges: &[u64; 64], from: u32) -> bool
     (reached_from(edges, from) >> from) & 1 == 1
 }
 
+/// From which of 64 a chain of one or more waits leads back to them, as bits.
+pub fn circling(edges: &[u64; 64]) -> u64
+    ensures { (i : ℕ) → i < 64 → (bit_at result i ≡ 1) ↔ LeadsTo edges.now i i }
+{
+    let mut circling = 0;
+    for from in 0..64 {
+        if circle(edges, from) {
+            circling |= 1 << from;
+        }
+    }
+    circling
+}
+
 /// Those to whom a chain of one or more waits leads from one of 64, as bits.
 fn reached_from(edges: &[u64; 64], from: u32) -> u64
     requires { from < 64 }

@@ -3,4 +3,4 @@
 
 mod circles;
 
-pub use circles::circle;
+pub use circles::{circle, circling};

@@ -10,9 +10,9 @@ use Rattle.store_objects.proofs.Replying.{no_frames}
 use Rattle.store_objects.proofs.Keeping.{listed_in}
 use Rattle.store_objects.proofs.Paying.{uses_nothing, uses_then}
 use Rattle.store_objects.proofs.Within.{within_same}
-use Rattle.file_calls.proofs.CallingOpens.{closes_follow, holds_some_names, kept_mid, mid, runs_mid, serves_naming}
+use Rattle.store_objects.proofs.CallingOpens.{closes_follow, holds_some_names, kept_mid, mid, runs_mid, serves_naming}
 use Rattle.file_calls.proofs.Purses.{can_pay, may_close, uses_back}
-use Rattle.file_calls.proofs.Reached.{closed_off, first_off, leaves_numbers}
+use Rattle.store_objects.proofs.Reached.{closed_off, first_off, leaves_numbers}
 use Rattle.call_run.proofs.closing.close.Goals as goal
 
 pub close_number-closed-requires-clause-listed : goal.close_number-closed-requires-clause-listed

@@ -19,9 +19,9 @@ use Rattle.store_objects.proofs.StoreFiles.{holds_names}
 use Rattle.store_objects.proofs.Keeping.{listed_in}
 use Rattle.store_objects.proofs.Paying.{uses_both, uses_nothing, uses_paid}
 use Rattle.store_objects.proofs.Within.{within_turns}
-use Rattle.file_calls.proofs.CallingOpens.{closes_follow, holds_some_names, kept_mid, mid, runs_mid, serves_naming}
+use Rattle.store_objects.proofs.CallingOpens.{closes_follow, holds_some_names, kept_mid, mid, runs_mid, serves_naming}
 use Rattle.file_calls.proofs.Purses.{can_pay, may_close, uses_back, room_kept}
-use Rattle.file_calls.proofs.Reached.{leaves_numbers, second_off, stays_replaced}
+use Rattle.store_objects.proofs.Reached.{leaves_numbers, second_off, stays_replaced}
 use Rattle.call_run.proofs.closing.dup2.Goals as goal
 
 pub dup_number-made-requires-clause-listed : goal.dup_number-made-requires-clause-listed

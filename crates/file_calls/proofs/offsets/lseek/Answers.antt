@@ -23,7 +23,7 @@ use Rattle.store_objects.proofs.StoreFiles.{holds_names}
 use Rattle.store_objects.proofs.Keeping.{listed_in}
 use Rattle.store_objects.proofs.Within.{within_nothing}
 use Rattle.file_calls.proofs.Calling.{AnswersSo, HasChanged, holds_some, kept_changed, leaves_others, mid_of, runs_changed, serves_changed}
-use Rattle.file_calls.proofs.Needed.{of_two}
+use Rattle.store_objects.proofs.Needed.{of_two}
 use Rattle.file_calls.proofs.Sought.{told_within}
 use Rattle.file_calls.proofs.offsets.lseek.Goals as goal
 

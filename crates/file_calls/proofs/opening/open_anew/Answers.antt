@@ -17,7 +17,8 @@ use Rattle.store_objects.specs.Objects.{procs_of}
 use Rattle.store_objects.proofs.StoreFiles.{works_somewhere}
 use Rattle.store_objects.proofs.Keeping.{listed_in}
 use Rattle.store_objects.proofs.Within.{within_paid}
-use Rattle.file_calls.proofs.CallingOpens.{alive_who_runs, bound_still, kept_mid, locked_still, mid, runs_mid, serves_opening}
+use Rattle.file_calls.proofs.CallingOpens.{serves_opening}
+use Rattle.store_objects.proofs.CallingOpens.{alive_who_runs, bound_still, kept_mid, locked_still, mid, runs_mid}
 use Rattle.file_calls.proofs.Opens.{leaf_left, leaves_open, one_left, pipe_left}
 use Rattle.file_calls.proofs.opening.open_anew.Goals as goal
 

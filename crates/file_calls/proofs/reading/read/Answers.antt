@@ -20,7 +20,7 @@ use Rattle.store_objects.specs.Standing.{IsSound, StandsFor}
 use Rattle.store_objects.proofs.Within.{within_paid}
 use Rattle.file_calls.proofs.Calling.{HasMoved, Leads, alive_who_runs, holds_some, is_kept, kept_moved, leaves_others, mid_of, runs_moved, serves_moved}
 use Rattle.file_calls.proofs.Kin.{read_kin}
-use Rattle.file_calls.proofs.Needed.{of_two, pages_for}
+use Rattle.store_objects.proofs.Needed.{of_two, pages_for}
 use Rattle.file_calls.proofs.BytesCached.{bytes_cached}
 use Rattle.file_calls.proofs.reading.read.Goals as goal
 

@@ -4,7 +4,7 @@ use Rattle.store_objects.proofs.Keeping.{listed_in}
 use Rattle.store_objects.proofs.Paying.{uses_nothing, uses_paid}
 use Rattle.path_calls.proofs.Walked.{kept_mid, looked, runs_mid}
 use Rattle.store_objects.specs.Trees.{pins_in}
-use Rattle.file_calls.proofs.CallingOpens.{alive_who_runs}
+use Rattle.store_objects.proofs.CallingOpens.{alive_who_runs}
 use Rattle.file_calls.proofs.Execs.{exec_fits, failed_in, found_of, room_behind, stands_then, started_from, uses_behind, walked_in}
 use Rattle.file_calls.proofs.Programs.{are_programs, started_within}
 use Rattle.file_calls.proofs.starting.exec.Goals as goal

@@ -1,6 +1,6 @@
 use Rattle.store_objects.proofs.Keeping.{listed_in}
 use Rattle.store_objects.proofs.FileMoving.{kept_turned, runs_turned}
-use Rattle.file_calls.proofs.CallingOpens.{holds_some_names}
+use Rattle.store_objects.proofs.CallingOpens.{holds_some_names}
 use Rattle.file_calls.proofs.Purses.{can_pay, may_close, uses_back}
 use Rattle.file_calls.proofs.Shed.{caches_shed, moves_shed, stands_shed}
 use Rattle.file_calls.proofs.starting.shed.Goals as goal

@@ -3,7 +3,7 @@ use Rattle.memfs_ops.specs.FileTree.{TreeView}
 use Rattle.store_objects.specs.Standing.{StandsFor}
 use Rattle.store_objects.proofs.Paying.{uses_nothing, uses_then}
 use Rattle.file_calls.specs.Starting.{forgotten_in, shed_in, started_in}
-use Rattle.file_calls.proofs.CallingOpens.{alive_who_runs}
+use Rattle.store_objects.proofs.CallingOpens.{alive_who_runs}
 use Rattle.file_calls.proofs.Purses.{room_still}
 use Rattle.file_calls.proofs.Shed.{caches_between}
 use Rattle.store_objects.proofs.Callers.{placed_on}

@@ -9,8 +9,8 @@ use Rattle.proc_files.proofs.OpenFiles.{used_reads}
 use Rattle.store_objects.proofs.Replying.{no_frames}
 use Rattle.store_objects.proofs.Keeping.{listed_in}
 use Rattle.store_objects.proofs.Within.{within_nothing}
-use Rattle.file_calls.proofs.CallingOpens.{holds_some, kept_mid, mid, runs_mid, serves_holding, takes_none, unchanged}
-use Rattle.file_calls.proofs.Reached.{first_off, leaves_numbers}
+use Rattle.store_objects.proofs.CallingOpens.{holds_some, kept_mid, mid, runs_mid, serves_holding, takes_none, unchanged}
+use Rattle.store_objects.proofs.Reached.{first_off, leaves_numbers}
 use Rattle.file_calls.proofs.telling.fstat.Goals as goal
 
 pub stat_number-told-requires-clause-listed : goal.stat_number-told-requires-clause-listed

@@ -19,7 +19,7 @@ use Rattle.store_objects.specs.Standing.{IsSound, StandsFor}
 use Rattle.store_objects.proofs.Within.{within_paid}
 use Rattle.file_calls.proofs.Calling.{HasMoved, Leads, alive_who_runs, holds_some, is_kept, kept_moved, leaves_others, mid_of, runs_moved, serves_moved}
 use Rattle.file_calls.proofs.Kin.{pwrite_kin}
-use Rattle.file_calls.proofs.Needed.{of_three}
+use Rattle.store_objects.proofs.Needed.{of_three}
 use Rattle.file_calls.proofs.writing.pwrite.Goals as goal
 
 moved : (script : Script) (old : Objects) (heap : Heap) (fs : TreeView) (pid : ℕ) (fd addr n at as_addr as_n as_at : ℤ) (count : Result ℕ Errno) (said : Reply) → as_addr ≡ addr → as_n ≡ n → as_at ≡ at

@@ -19,7 +19,7 @@ use Rattle.store_objects.specs.Standing.{IsSound, StandsFor}
 use Rattle.store_objects.proofs.Within.{within_paid}
 use Rattle.file_calls.proofs.Calling.{HasMoved, Leads, alive_who_runs, holds_some, is_kept, kept_moved, leaves_others, mid_of, runs_moved, serves_moved}
 use Rattle.file_calls.proofs.Kin.{write_kin}
-use Rattle.file_calls.proofs.Needed.{of_two}
+use Rattle.store_objects.proofs.Needed.{of_two}
 use Rattle.file_calls.proofs.Unbroken.{serves_write}
 use Rattle.file_calls.proofs.writing.write.Goals as goal
 

@@ -10,6 +10,7 @@ use Rattle.call_run.specs.contracts.store.Store.TheInside as inside
 use Rattle.fifo_nodes.proofs.table.FifoTable.TheSendSync as fifos
 use Rattle.kabi_types.proofs.scripts.Script.TheSendSync as script
 use Rattle.kheap_slabs.proofs.kheap.KHeap.TheSendSync as kheap
+use Rattle.lock_table.proofs.table.LockTable.TheSendSync as locks
 use Rattle.proc_table.proofs.tables.ProcTable.TheSendSync as procs
 use Rattle.store_objects.specs.contracts.objects.Objects as held
 use Rattle.victim_core.proofs.scores.Score.TheSendSync as score
@@ -19,7 +20,7 @@ use Rattle.kres_tool.proofs.threads.run_threads.Goals as goal
 -- the store may cross threads, since each of its fields may
 pub run_workers-requires-send-T : goal.run_workers-requires-send-T
 run_workers-requires-send-T g c κs within =
-    let objects : IsSend held.the_field.row = struct_send (declared.shape held.the_type) (kheap.the_send, (procs.the_send, (c.a_tree_of_files_crosses_threads.ensures, (names.the_send, (fifos.the_send, tt))))) in
+    let objects : IsSend held.the_field.row = struct_send (declared.shape held.the_type) (kheap.the_send, (procs.the_send, (c.a_tree_of_files_crosses_threads.ensures, (names.the_send, (fifos.the_send, (locks.the_send, tt)))))) in
     let buffers : IsSend held_buffers.the_field.row = struct_send (declared.shape held_buffers.the_type) (search (sendable, crosses) depth 20, (search (sendable, crosses) depth 20, tt)) in
     let fields : IsSend (inside.the_field (param 2 g.row.F) (param 3 g.row.G) g.F.Scorer g.G.Scorer).row =
     struct_send (declared.shape (inside.the_type (param 2 g.row.F) (param 3 g.row.G) g.F.Scorer g.G.Scorer))

@@ -1,7 +1,7 @@
-use Rattle.std.proofs.Common.{◌≡◌, Bool, true, false, Option, None, Some, is_none, is_some, refl, ◌∙◌}
+use Rattle.std.proofs.Common.{◌≡◌, Bool, true, false, Option, None, Some, is_none, is_some, refl}
 use Rattle.std.specs.Option.{option_map}
 use Rattle.kheap_laws.proofs.PaidLemmas.{IsPaid-nothing}
-use Rattle.file_calls.proofs.CallingOpens.{takes_none}
+use Rattle.store_objects.proofs.CallingOpens.{takes_none}
 use Rattle.lock_table.specs.Holding.{info_of}
 use Rattle.lock_table.specs.declared.locks.LockInfo.{LockInfo}
 use Rattle.posix_defs.specs.Locks.{Lock}

@@ -9,8 +9,8 @@ use Rattle.posix_defs.specs.Answer.{Blocked, failed}
 use Rattle.posix_defs.specs.Calls.OnLocks.{circles, granted_or, request_of, setlkw}
 use Rattle.posix_defs.specs.Calls.Opened.{opened_at}
 use Rattle.store_objects.proofs.Replying.{no_frames}
-use Rattle.file_calls.proofs.Needed.{of_three}
-use Rattle.file_calls.proofs.Reached.{first_off}
+use Rattle.store_objects.proofs.Needed.{of_three}
+use Rattle.store_objects.proofs.Reached.{first_off}
 use Rattle.lock_calls.specs.Claiming.{claimed_by}
 use Rattle.lock_calls.specs.Waiting.{is_held_up}
 use Rattle.lock_calls.proofs.Blocking.{held_answer, wanted_claim}

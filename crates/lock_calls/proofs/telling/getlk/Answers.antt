@@ -10,9 +10,9 @@ use Rattle.store_objects.proofs.Keeping.{listed_in}
 use Rattle.store_objects.proofs.Replying.{no_frames}
 use Rattle.store_objects.proofs.StoreFiles.{holds_files}
 use Rattle.store_objects.specs.Trees.{others_in}
-use Rattle.file_calls.proofs.CallingOpens.{holds_some}
-use Rattle.file_calls.proofs.Needed.{of_three}
-use Rattle.file_calls.proofs.Reached.{first_off}
+use Rattle.store_objects.proofs.CallingOpens.{holds_some}
+use Rattle.store_objects.proofs.Needed.{of_three}
+use Rattle.store_objects.proofs.Reached.{first_off}
 use Rattle.lock_calls.specs.Claiming.{file_by}
 use Rattle.lock_calls.specs.Setting.{first_told}
 use Rattle.lock_calls.proofs.Granting.{getlk_is}

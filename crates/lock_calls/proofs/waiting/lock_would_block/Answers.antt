@@ -1,4 +1,5 @@
-use Rattle.std.proofs.Common.{◌≡◌, not, false, ap, sym, ◌∙◌, w64}
+use Rattle.std.proofs.Common.{◌≡◌, ℤ, not, false, ap, sym, ◌∙◌, w64}
+use mir.Val.{of_z, to_z}
 use Rattle.std.specs.Option.{option_map}
 use Rattle.std.proofs.lemmas.Int.{to_z-of_z}
 use Rattle.kabi_types.specs.declared.calls.Call.TheVariants as call
@@ -23,27 +24,39 @@ is_held_up-requires-clause-kept c = (c.args.script.now, c.requires.kept)
 
 pub returns-in_default-clause-blocks : goal.returns-in_default-clause-blocks
 returns-in_default-clause-blocks c = λ world stands sound.
-    of_four (λ fd kind start length. false ≡ blocks (machine c.args.script.now world.plain c.args.place.pid (call.Setlkw fd kind start length))) _ _ _ _
+    let fd : ℤ = to_z w64 (of_z w64 c.args.fd) in
+    let kind : ℤ = to_z w64 (of_z w64 c.args.kind) in
+    let start : ℤ = to_z w64 (of_z w64 c.args.start) in
+    let length : ℤ = to_z w64 (of_z w64 c.args.length) in
+    of_four (λ fd kind start length. false ≡ blocks (machine c.args.script.now world.plain c.args.place.pid (call.Setlkw fd kind start length))) fd kind start length
     c.args.fd c.args.kind c.args.start c.args.length (to_z-of_z w64 c.args.fd c.ranges.fd) (to_z-of_z w64 c.args.kind c.ranges.kind) (to_z-of_z w64 c.args.start c.ranges.start) (to_z-of_z w64 c.args.length c.ranges.length)
-    (sym (wrong_goes c.args.script.now world.plain c.args.place.pid _ _ _ _ (wrong_so _ _ _ _ (ap (option_map asked_by) (sym c.in_default.is) ∙ c.right_range.ensures.request))))
+    (sym (wrong_goes c.args.script.now world.plain c.args.place.pid fd kind start length (wrong_so fd kind start length (ap (option_map asked_by) (sym c.in_default.is) ∙ c.right_range.ensures.request))))
 
 pub returns-then-is_held_up-clause-blocks : goal.returns-then-is_held_up-clause-blocks
 returns-then-is_held_up-clause-blocks c = λ world stands sound.
-    let right = right_so _ _ _ _ (asked_by c.in-Some.range) (ap (option_map asked_by) (sym c.in-Some.is) ∙ c.right_range.ensures.request) in
-    of_four (λ fd kind start length. not c.circles.result ≡ blocks (machine c.args.script.now world.plain c.args.place.pid (call.Setlkw fd kind start length))) _ _ _ _
+    let fd : ℤ = to_z w64 (of_z w64 c.args.fd) in
+    let kind : ℤ = to_z w64 (of_z w64 c.args.kind) in
+    let start : ℤ = to_z w64 (of_z w64 c.args.start) in
+    let length : ℤ = to_z w64 (of_z w64 c.args.length) in
+    let right = right_so fd kind start length (asked_by c.in-Some.range) (ap (option_map asked_by) (sym c.in-Some.is) ∙ c.right_range.ensures.request) in
+    of_four (λ fd kind start length. not c.circles.result ≡ blocks (machine c.args.script.now world.plain c.args.place.pid (call.Setlkw fd kind start length))) fd kind start length
     c.args.fd c.args.kind c.args.start c.args.length (to_z-of_z w64 c.args.fd c.ranges.fd) (to_z-of_z w64 c.args.kind c.ranges.kind) (to_z-of_z w64 c.args.start c.ranges.start) (to_z-of_z w64 c.args.length c.ranges.length)
     (ap not (c.circles.ensures.circles world stands sound)
-    ∙ sym (held_blocks c.args.script.now world.plain c.args.place.pid _ _ _ _ right.0
+    ∙ sym (held_blocks c.args.script.now world.plain c.args.place.pid fd kind start length right.0
     (sym (ap (λ n. is_held_up world.plain.files.locks c.args.place.pid (wanted_on world.plain.files (asked_by c.in-Some.range) (opened_at world.plain.files c.args.place.pid n))) c.opened-on.ensures.number
-    ∙ ap (λ asked. is_held_up world.plain.files.locks c.args.place.pid (wanted_on world.plain.files asked (opened_at world.plain.files c.args.place.pid _))) right.1)
+    ∙ ap (λ asked. is_held_up world.plain.files.locks c.args.place.pid (wanted_on world.plain.files asked (opened_at world.plain.files c.args.place.pid fd))) right.1)
     ∙ sym (c.is_held_up.ensures c.args.script.now world stands sound) ∙ c.if-is_held_up.true)))
 
 pub returns-else-is_held_up-clause-blocks : goal.returns-else-is_held_up-clause-blocks
 returns-else-is_held_up-clause-blocks c = λ world stands sound.
-    let right = right_so _ _ _ _ (asked_by c.in-Some.range) (ap (option_map asked_by) (sym c.in-Some.is) ∙ c.right_range.ensures.request) in
-    of_four (λ fd kind start length. false ≡ blocks (machine c.args.script.now world.plain c.args.place.pid (call.Setlkw fd kind start length))) _ _ _ _
+    let fd : ℤ = to_z w64 (of_z w64 c.args.fd) in
+    let kind : ℤ = to_z w64 (of_z w64 c.args.kind) in
+    let start : ℤ = to_z w64 (of_z w64 c.args.start) in
+    let length : ℤ = to_z w64 (of_z w64 c.args.length) in
+    let right = right_so fd kind start length (asked_by c.in-Some.range) (ap (option_map asked_by) (sym c.in-Some.is) ∙ c.right_range.ensures.request) in
+    of_four (λ fd kind start length. false ≡ blocks (machine c.args.script.now world.plain c.args.place.pid (call.Setlkw fd kind start length))) fd kind start length
     c.args.fd c.args.kind c.args.start c.args.length (to_z-of_z w64 c.args.fd c.ranges.fd) (to_z-of_z w64 c.args.kind c.ranges.kind) (to_z-of_z w64 c.args.start c.ranges.start) (to_z-of_z w64 c.args.length c.ranges.length)
-    (sym (free_goes c.args.script.now world.plain c.args.place.pid _ _ _ _ right.0
+    (sym (free_goes c.args.script.now world.plain c.args.place.pid fd kind start length right.0
     (sym (ap (λ n. is_held_up world.plain.files.locks c.args.place.pid (wanted_on world.plain.files (asked_by c.in-Some.range) (opened_at world.plain.files c.args.place.pid n))) c.opened-on.ensures.number
-    ∙ ap (λ asked. is_held_up world.plain.files.locks c.args.place.pid (wanted_on world.plain.files asked (opened_at world.plain.files c.args.place.pid _))) right.1)
+    ∙ ap (λ asked. is_held_up world.plain.files.locks c.args.place.pid (wanted_on world.plain.files asked (opened_at world.plain.files c.args.place.pid fd))) right.1)
     ∙ sym (c.is_held_up.ensures c.args.script.now world stands sound) ∙ c.if-is_held_up.false)))

@@ -1,4 +1,5 @@
-use Rattle.std.proofs.Common.{◌≡◌, ap, sym, ◌∙◌, w64}
+use Rattle.std.proofs.Common.{◌≡◌, ℤ, None, ap, sym, ◌∙◌, w64}
+use mir.Val.{of_z, to_z}
 use Rattle.std.specs.Option.{option_map}
 use Rattle.std.proofs.lemmas.Int.{to_z-of_z}
 use Rattle.kabi_types.specs.declared.calls.Call.TheVariants as call
@@ -17,13 +18,21 @@ opened-on-requires-clause-owners c = c.requires.kept.1.owners
 
 pub returns-in_default : goal.returns-in_default
 returns-in_default c = λ script world stands.
-    of_four (λ fd kind start length. all_wanted world.plain.files.tree _ ≡ wanted_by world.plain.files c.args.place.pid (call.Setlkw fd kind start length)) _ _ _ _
+    let fd : ℤ = to_z w64 (of_z w64 c.args.fd) in
+    let kind : ℤ = to_z w64 (of_z w64 c.args.kind) in
+    let start : ℤ = to_z w64 (of_z w64 c.args.start) in
+    let length : ℤ = to_z w64 (of_z w64 c.args.length) in
+    of_four (λ fd kind start length. all_wanted world.plain.files.tree None ≡ wanted_by world.plain.files c.args.place.pid (call.Setlkw fd kind start length)) fd kind start length
     c.args.fd c.args.kind c.args.start c.args.length (to_z-of_z w64 c.args.fd c.ranges.fd) (to_z-of_z w64 c.args.kind c.ranges.kind) (to_z-of_z w64 c.args.start c.ranges.start) (to_z-of_z w64 c.args.length c.ranges.length)
-    (wrong_wanted _ _ _ _ world.plain.files c.args.place.pid (ap (option_map asked_by) (sym c.in_default.is) ∙ c.right_range.ensures.request))
+    (wrong_wanted fd kind start length world.plain.files c.args.place.pid (ap (option_map asked_by) (sym c.in_default.is) ∙ c.right_range.ensures.request))
 
 pub returns : goal.returns
 returns c = λ script world stands.
-    of_four (λ fd kind start length. all_wanted world.plain.files.tree c.wanted_on.result ≡ wanted_by world.plain.files c.args.place.pid (call.Setlkw fd kind start length)) _ _ _ _
+    let fd : ℤ = to_z w64 (of_z w64 c.args.fd) in
+    let kind : ℤ = to_z w64 (of_z w64 c.args.kind) in
+    let start : ℤ = to_z w64 (of_z w64 c.args.start) in
+    let length : ℤ = to_z w64 (of_z w64 c.args.length) in
+    of_four (λ fd kind start length. all_wanted world.plain.files.tree c.wanted_on.result ≡ wanted_by world.plain.files c.args.place.pid (call.Setlkw fd kind start length)) fd kind start length
     c.args.fd c.args.kind c.args.start c.args.length (to_z-of_z w64 c.args.fd c.ranges.fd) (to_z-of_z w64 c.args.kind c.ranges.kind) (to_z-of_z w64 c.args.start c.ranges.start) (to_z-of_z w64 c.args.length c.ranges.length)
     (c.wanted_on.ensures c.args.objects.now.heap c.args.objects.now.procs c.args.place.pid stands.files.numbers world.plain.files c.opened-on.ensures.opened stands.files.opened
-    ∙ right_wanted _ _ _ _ world.plain.files c.args.place.pid (asked_by c.in-Some.range) c.opened-on.result.fd c.opened-on.ensures.number (ap (option_map asked_by) (sym c.in-Some.is) ∙ c.right_range.ensures.request))
+    ∙ right_wanted fd kind start length world.plain.files c.args.place.pid (asked_by c.in-Some.range) c.opened-on.result.fd c.opened-on.ensures.number (ap (option_map asked_by) (sym c.in-Some.is) ∙ c.right_range.ensures.request))

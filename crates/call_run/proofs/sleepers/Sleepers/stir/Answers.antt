@@ -27,8 +27,8 @@ touch-requires-clause-free c = none_is c.args.objects.now.locks c.is_empty.resul
 pub ask_all-requires-clause-stands : goal.ask_all-requires-clause-stands
 ask_all-requires-clause-stands c = let b = c.requires.behind in (b.1, let behind = b.3 in behind.stands)
 
-pub ask_all-in-Everybody-requires-clause-stands : goal.ask_all-in-Everybody-requires-clause-stands
-ask_all-in-Everybody-requires-clause-stands c = let b = c.requires.behind in (b.1, let behind = b.3 in behind.stands)
+pub ask_all-requires-in-Everybody-clause-stands : goal.ask_all-requires-in-Everybody-clause-stands
+ask_all-requires-in-Everybody-clause-stands c = let b = c.requires.behind in (b.1, let behind = b.3 in behind.stands)
 
 -- where a lock is held all are asked
 pub returns-then-not-is_empty-clause-minded : goal.returns-then-not-is_empty-clause-minded

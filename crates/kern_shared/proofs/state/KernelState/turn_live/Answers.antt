@@ -7,7 +7,8 @@ use Rattle.posix_defs.specs.Turn.{TurnsTo}
 use Rattle.posix_defs.specs.World.{live_of}
 use Rattle.kern_shared.specs.Lists.{awake_after, dozing_after}
 use Rattle.kern_shared.proofs.Picking.{lives_in_world}
-use Rattle.kern_shared.proofs.Turned.{call_there, left_over, most_live, paid, room_for_entry, turn_here, turned_now}
+use Rattle.kern_shared.specs.Attends.{TellsSpent}
+use Rattle.kern_shared.proofs.Turned.{call_there, left_over, most_live, paid, room_for_entry, tells_step, turn_here, turned_now}
 use Rattle.kern_shared.proofs.state.KernelState.turn_live.Goals as goal
 
 pub overflow_add-all : goal.overflow_add-all
@@ -30,6 +31,17 @@ turn-turned-requires-clause-may g c =
       subst (λ (sc : Script). live_of s.world + bound c.args.call.now + reserve ≤ sc.heap) (sym s.named) enough.1,
     )
 
+pub overflow_sub-all : goal.overflow_sub-all
+overflow_sub-all g c =
+    let s = c.requires.may.2 in
+    let may = turn_here g.T.Turner.stands g.T.Turner.script g.T.Turner.beside _ _ _ _ _ s c.requires.may.1 c.requires.may.3 c.args.pid c.args.call.now c.requires.may.4 in
+    let after = c.turn-turned.ensures.turned s.world s.stands in
+    let turns = subst (λ sc. TurnsTo sc s.world c.args.pid c.args.call.now c.turn-turned.result after.0) s.named after.2 in
+    let live : c.live-2.result ≡ live_of after.0 = c.live-2.ensures.bytes after.0 after.1 in
+    let before : c.live.result ≡ live_of s.world = c.live.ensures.bytes s.world s.stands in
+    let less = most_live g.L.RunName.script s.world c.args.pid c.args.call.now c.turn-turned.result after.0 (lives_in_world g.T.Turner.stands g.T.Turner.script g.T.Turner.beside _ _ _ _ _ s c.args.pid may.alive) turns in
+    omega (arith, less, before, live, c.bound.ensures.value)
+
 pub sort_anew-requires-clause-awake : goal.sort_anew-requires-clause-awake
 sort_anew-requires-clause-awake g c =
     let room = room_for_entry g.T.Turner.stands g.T.Turner.script g.T.Turner.beside _ _ _ _ _ c.requires.may.2 c.requires.may.4.below in
@@ -39,6 +51,9 @@ pub sort_anew-requires-clause-dozing : goal.sort_anew-requires-clause-dozing
 sort_anew-requires-clause-dozing g c =
     let room = room_for_entry g.T.Turner.stands g.T.Turner.script g.T.Turner.beside _ _ _ _ _ c.requires.may.2 c.requires.may.4.below in
     omega (arith, room.2, c.args.self.now.dozing.ok.0)
+
+pub returns-clause-tells : goal.returns-clause-tells
+returns-clause-tells g c = λ items below. subst (TellsSpent g.L.RunName.steps items) (sym c.told_of-answer.ensures) (tells_step g.L.RunName.steps items c.turn-turned.result below)
 
 pub returns-clause-takes_in : goal.returns-clause-takes_in
 returns-clause-takes_in g c =

@@ -1,8 +1,8 @@
-use Rattle.std.proofs.Common.{◌≡◌, IsSome, List, ap, sym, ◌∙◌, subst}
+use Rattle.std.proofs.Common.{ℕ, ◌==◌, IsSome, List, ap, sym, ◌∙◌, subst}
+use Rattle.std.proofs.lemmas.Nat.Bits.{shr_and_one}
 use Rattle.proc_table.specs.Table.{key_of}
 use Rattle.proc_table.specs.declared.places.Place.{Place}
 use Rattle.lock_calls.specs.Waiting.{pid_at}
-use Rattle.lock_calls.proofs.Circles.{circle_is}
 use Rattle.lock_calls.proofs.waits.Waits.circle.Goals as goal
 
 pub place_of-requires-clause-there : goal.place_of-requires-clause-there
@@ -10,5 +10,5 @@ place_of-requires-clause-there c = subst (λ (places : List Place). IsSome (key_
 
 pub returns : goal.returns
 returns c = λ script world are stands sound.
-    circle_is script c.args.objects.now world stands sound c.args.self.now.rows are c.args.pid c.place_of.result
-    (ap (λ (places : List Place). pid_at places c.place_of.result) (sym c.listed.ensures.places) ∙ c.place_of.ensures.place) c.circle.result c.circle.ensures.0 c.circle.ensures.1
+    ap (λ (bit : ℕ). bit == 1) (shr_and_one c.args.self.now.circling c.place_of.result)
+    ∙ are world stands sound c.place_of.result c.args.pid (ap (λ (places : List Place). pid_at places c.place_of.result) (sym c.listed.ensures.places) ∙ c.place_of.ensures.place)

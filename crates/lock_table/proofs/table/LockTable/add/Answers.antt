@@ -2,7 +2,7 @@ use Rattle.std.proofs.Common.{◌≡◌, ◌∷◌, Some, sym, ap, subst}
 use Rattle.kabi_types.specs.declared.classes.Class.TheVariants as class
 use Rattle.kheap_laws.proofs.PaidLemmas.{CanPay-kept, IsPaid-spend}
 use Rattle.kheap_slabs.specs.Heap.{Heap}
-use Rattle.kheap_slabs.specs.Objects.{object, put}
+use Rattle.kheap_slabs.specs.Objects.{object}
 use Rattle.kheap_slabs.specs.Paid.{IsPaid}
 use Rattle.kheap_slabs.specs.Purse.{Purse}
 use Rattle.posix_defs.specs.Locks.{Lock, lock_of}

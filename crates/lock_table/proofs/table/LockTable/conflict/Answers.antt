@@ -1,6 +1,5 @@
-use Rattle.std.proofs.Common.{ap, sym, ◌∙◌}
+use Rattle.std.proofs.Common.{ap, ◌∙◌}
 use Rattle.std.specs.Option.{option_map}
-use Rattle.lock_table.specs.Chain.{plain_of}
 use Rattle.lock_table.specs.Holding.{asked_by, info_of}
 use Rattle.lock_table.proofs.Tables.{first_is, has_locks, told_is}
 use Rattle.lock_table.proofs.table.LockTable.conflict.Goals as goal

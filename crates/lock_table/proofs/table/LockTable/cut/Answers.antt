@@ -1,4 +1,4 @@
-use Rattle.std.proofs.Common.{◌≡◌, ◌<◌, Some, None, refl, sym, ap, subst, ◌∙◌}
+use Rattle.std.proofs.Common.{◌<◌, Some, None, refl, sym, ap, subst}
 use Rattle.kheap_laws.proofs.PaidLemmas.{TakesNothing-refl, TakesNothing-trans}
 use Rattle.kheap_slabs.specs.Heap.{Heap}
 use Rattle.kheap_slabs.specs.Objects.{count}
@@ -15,27 +15,27 @@ chain-init c = record {
   takes = TakesNothing-refl c.args.heap.now;
 }
 
-pub get_lock-lock-requires : goal.get_lock-lock-requires
-get_lock-lock-requires c =
+pub get_lock-requires : goal.get_lock-requires
+get_lock-requires c =
     cut_used c.chain.heap.locks (count c.args.heap.now.locks) c.chain.first c.chain.over c.args.pid c.args.node c.args.start c.args.last c.requires.0 c.in-Some.key
     (subst (λ at. Cuts c.chain.heap.locks (count c.args.heap.now.locks) c.chain.first at c.chain.over c.args.pid c.args.node c.args.start c.args.last c.requires.0) c.in-Some.is (c.chain.invariant.cuts c.requires.0 c.requires.1))
 
 pub chain-preserved : goal.chain-preserved
 chain-preserved c = record {
   cuts = λ locks chain.
-      cuts_step c.chain.heap.locks c.chain_again.new.heap.locks (count c.args.heap.now.locks) c.chain.first c.chain_again.result c.in-Some.key c.get_lock-lock.result.now c.chain.over c.over_by.result
-      c.kept_by-range.result c.args.pid c.args.node c.args.start c.args.last locks c.get_lock-lock.ensures c.kept_by-range.ensures (ap (λ (h : Heap). h.locks) c.chain_again.ensures.kept) c.chain_again.ensures.first c.over_by.ensures
+      cuts_step c.chain.heap.locks c.chain_again-first.new.heap.locks (count c.args.heap.now.locks) c.chain.first c.chain_again-first.result c.in-Some.key c.get_lock.result.now c.chain.over c.over_by-over.result
+      c.kept_by-range.result c.args.pid c.args.node c.args.start c.args.last locks c.get_lock.ensures c.kept_by-range.ensures (ap (λ (h : Heap). h.locks) c.chain_again-first.ensures.kept) c.chain_again-first.ensures.first c.over_by-over.ensures
       (subst (λ at. Cuts c.chain.heap.locks (count c.args.heap.now.locks) c.chain.first at c.chain.over c.args.pid c.args.node c.args.start c.args.last locks) c.in-Some.is (c.chain.invariant.cuts locks chain));
-  kept = kept_through c.args.heap.now c.chain.heap c.chain_again.new.heap (chained_again c.chain.heap.locks c.in-Some.key c.get_lock-lock.result.now c.chain.first c.kept_by-range.result) c.chain.invariant.kept c.chain_again.ensures.kept;
-  takes = TakesNothing-trans c.args.heap.now c.chain.heap c.chain_again.new.heap c.chain.invariant.takes c.chain_again.ensures.takes;
+  kept = kept_through c.args.heap.now c.chain.heap c.chain_again-first.new.heap (chained_again c.chain.heap.locks c.in-Some.key c.get_lock.result.now c.chain.first c.kept_by-range.result) c.chain.invariant.kept c.chain_again-first.ensures.kept;
+  takes = TakesNothing-trans c.args.heap.now c.chain.heap c.chain_again-first.new.heap c.chain.invariant.takes c.chain_again-first.ensures.takes;
 }
 
 pub chain-smaller : goal.chain-smaller
 chain-smaller c =
     let before = chain_left (count c.args.heap.now.locks) c.chain.heap.locks in
-    subst (λ at. chain_left (count c.args.heap.now.locks) c.chain_again.new.heap.locks c.get_lock-lock.result.now.next < before at) (sym c.in-Some.is)
-    (subst (λ os. chain_left (count c.args.heap.now.locks) os c.get_lock-lock.result.now.next < before (Some c.in-Some.key)) (sym (ap (λ (h : Heap). h.locks) c.chain_again.ensures.kept))
-    (cut_less c.chain.heap.locks (count c.args.heap.now.locks) c.chain.first c.chain.over c.args.pid c.args.node c.args.start c.args.last c.requires.0 c.in-Some.key c.get_lock-lock.result.now c.get_lock-lock.ensures c.kept_by-range.result
+    subst (λ at. chain_left (count c.args.heap.now.locks) c.chain_again-first.new.heap.locks c.get_lock.result.now.next < before at) (sym c.in-Some.is)
+    (subst (λ os. chain_left (count c.args.heap.now.locks) os c.get_lock.result.now.next < before (Some c.in-Some.key)) (sym (ap (λ (h : Heap). h.locks) c.chain_again-first.ensures.kept))
+    (cut_less c.chain.heap.locks (count c.args.heap.now.locks) c.chain.first c.chain.over c.args.pid c.args.node c.args.start c.args.last c.requires.0 c.in-Some.key c.get_lock.result.now c.get_lock.ensures c.kept_by-range.result
     (subst (λ at. Cuts c.chain.heap.locks (count c.args.heap.now.locks) c.chain.first at c.chain.over c.args.pid c.args.node c.args.start c.args.last c.requires.0) c.in-Some.is (c.chain.invariant.cuts c.requires.0 c.requires.1))))
 
 pub returns-clause-chain : goal.returns-clause-chain

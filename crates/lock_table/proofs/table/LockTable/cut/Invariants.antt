@@ -8,7 +8,7 @@ use Rattle.lock_table.proofs.table.LockTable.cut.Given as goal
 
 abbrev pub invariant-chain : goal.invariant-chain
 invariant-chain l = record {
-  cuts : (locks : Locks) → IsLockChain l.initial.heap.locks l.self locks
+  cuts : (locks : Locks) → IsLockChain l.initial.heap.locks l.fn.self locks
       → Cuts l.heap.locks (count l.initial.heap.locks) l.first l.at l.over l.pid l.node l.start l.last locks;
   kept : l.heap ≡ record l.initial.heap { locks = l.heap.locks };
   takes : TakesNothing l.initial.heap l.heap;

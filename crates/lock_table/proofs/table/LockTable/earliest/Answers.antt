@@ -1,4 +1,4 @@
-use Rattle.std.proofs.Common.{◌≡◌, ◌<◌, List, ◌∷◌, Option, Some, None, refl, sym, ap, subst, ◌∙◌}
+use Rattle.std.proofs.Common.{◌≡◌, ◌<◌, None, refl, sym, ap, subst, ◌∙◌}
 use Rattle.std.specs.Option.{option_map}
 use Rattle.kheap_slabs.specs.Objects.{count}
 use Rattle.posix_defs.specs.Locks.{Locks}
@@ -24,9 +24,9 @@ chain-preserved c = λ locks chain.
     let total = earliest c.args.pid c.args.node (asked_by c.args.range.now) None locks in
     let P = λ (rest : Locks). earliest c.args.pid c.args.node (asked_by c.args.range.now) (option_map plain_of c.chain.first) rest ≡ total in
     walks_on c.args.heap.now.locks c.in-Some.key c.get_lock-lock.result.now c.get_lock-lock.ensures P
-    (λ rest. earliest c.args.pid c.args.node (asked_by c.args.range.now) (option_map plain_of c.earlier.result) rest ≡ total)
+    (λ rest. earliest c.args.pid c.args.node (asked_by c.args.range.now) (option_map plain_of c.earlier-first.result) rest ≡ total)
     (subst (λ at. Walks c.args.heap.now.locks at P) c.in-Some.is (c.chain.invariant locks chain))
-    (λ rest so. ap (λ f. earliest c.args.pid c.args.node (asked_by c.args.range.now) f rest) c.earlier.ensures ∙ so)
+    (λ rest so. ap (λ f. earliest c.args.pid c.args.node (asked_by c.args.range.now) f rest) c.earlier-first.ensures ∙ so)
 
 pub chain-smaller : goal.chain-smaller
 chain-smaller c =

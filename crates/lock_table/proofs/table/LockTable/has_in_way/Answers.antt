@@ -1,7 +1,6 @@
-use Rattle.std.proofs.Common.{◌≡◌, ◌<◌, List, ◌∷◌, ◌||◌, Option, Some, None, refl, sym, ap, subst, ◌∙◌}
+use Rattle.std.proofs.Common.{◌≡◌, ◌<◌, ◌||◌, refl, sym, ap, subst, ◌∙◌}
 use Rattle.kheap_slabs.specs.Objects.{count}
 use Rattle.posix_defs.specs.Locks.{Locks, stops}
-use Rattle.lock_table.specs.Chain.{plain_of}
 use Rattle.lock_table.specs.Holding.{asked_by}
 use Rattle.lock_table.specs.Walking.{Walks, chain_left}
 use Rattle.lock_table.proofs.WalkLemmas.{walk_at, walk_less, walk_used, walked, walks_from, walks_on}

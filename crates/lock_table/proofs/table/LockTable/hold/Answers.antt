@@ -1,8 +1,8 @@
-use Rattle.std.proofs.Common.{◌≡◌, ◌∷◌, arith, refl, sym, ap, subst, ◌∙◌}
+use Rattle.std.proofs.Common.{◌∷◌, subst}
 use Rattle.kheap_laws.proofs.PaidLemmas.{IsPaid-trans}
 use Rattle.kabi_types.specs.declared.ranges.Range.{Range}
 use Rattle.posix_defs.specs.Locks.{lock_of}
-use Rattle.lock_table.specs.Chain.{HasLocks, IsLockChain}
+use Rattle.lock_table.specs.Chain.{IsLockChain}
 use Rattle.lock_table.specs.Setting.{let_go}
 use Rattle.lock_table.proofs.Tables.{kept_on, spent_on}
 use Rattle.lock_table.proofs.table.LockTable.hold.Goals as goal

@@ -1,4 +1,4 @@
-use Rattle.std.proofs.Common.{◌≡◌, [], refl, sym, ap, subst, ◌∙◌}
+use Rattle.std.proofs.Common.{[], refl, sym, subst, ◌∙◌}
 use Rattle.kheap_laws.proofs.PaidLemmas.{IsPaid-nothing, IsPaid-trans}
 use Rattle.lock_table.specs.Chain.{IsLockChain}
 use Rattle.lock_table.specs.Setting.{cut, with_range}

@@ -1,7 +1,6 @@
-use Rattle.std.proofs.Common.{◌≡◌, ◌<◌, List, ◌∷◌, Option, Some, None, refl, sym, ap, subst, ◌∙◌}
+use Rattle.std.proofs.Common.{◌≡◌, ◌<◌, refl, sym, ap, subst, ◌∙◌}
 use Rattle.kheap_slabs.specs.Objects.{count}
 use Rattle.posix_defs.specs.Locks.{Locks}
-use Rattle.lock_table.specs.Chain.{plain_of}
 use Rattle.lock_table.specs.Setting.{widened}
 use Rattle.lock_table.specs.Walking.{Walks, chain_left}
 use Rattle.lock_table.proofs.WalkLemmas.{walk_less, walk_used, walked, walks_from, walks_on}
@@ -22,9 +21,9 @@ chain-preserved c = λ locks chain.
     let total = widened c.args.pid c.args.node c.args.asked c.args.asked locks in
     let P = λ (rest : Locks). widened c.args.pid c.args.node c.args.asked c.chain.wide rest ≡ total in
     walks_on c.args.heap.now.locks c.in-Some.key c.get_lock-lock.result.now c.get_lock-lock.ensures P
-    (λ rest. widened c.args.pid c.args.node c.args.asked c.widened_by.result rest ≡ total)
+    (λ rest. widened c.args.pid c.args.node c.args.asked c.widened_by-wide.result rest ≡ total)
     (subst (λ at. Walks c.args.heap.now.locks at P) c.in-Some.is (c.chain.invariant locks chain))
-    (λ rest so. ap (λ w. widened c.args.pid c.args.node c.args.asked w rest) c.widened_by.ensures ∙ so)
+    (λ rest so. ap (λ w. widened c.args.pid c.args.node c.args.asked w rest) c.widened_by-wide.ensures ∙ so)
 
 pub chain-smaller : goal.chain-smaller
 chain-smaller c =

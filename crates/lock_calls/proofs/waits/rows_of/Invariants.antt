@@ -1,7 +1,7 @@
 use Rattle.std.proofs.Common.{◌≡◌, length}
 use Rattle.lock_calls.specs.Waiting.{IsRowOf}
 use Rattle.lock_calls.proofs.Rows.{HaveRows}
-use Rattle.lock_calls.proofs.waits.Waits.of.Given as goal
+use Rattle.lock_calls.proofs.waits.rows_of.Given as goal
 
 -- the processes of the places before it have their rows
 abbrev pub invariant-loop-place : goal.invariant-loop-place
