@@ -67,8 +67,8 @@ ROWS = [
     ("asleep in `read`, while one writes and reads a pipe", (0, 8, 62), of_pipe(["r12 = read r2 r1 8"]), ASLEEP, 1700, 110),
     ("asleep in `poll` of eight, while one asks for a file's bytes and its name", (0, 8, 62), reads_beside, ASLEEP, 1700, 110),
     ("asleep in `waitpid`, while one asks for its pid", (0, 8, 62), waits, ASLEEP, 1300, 110),
-    ("asleep in `setlkw` for one place, while one asks for its pid", (0, 8, 30), wait_for_places, ASLEEP, 28600, 2500),
-    ("asleep with thirty descriptors each, while one moves a name", (0, 8, 62), moves_beside, ASLEEP, 13600, 600),
+    ("asleep in `setlkw` for one place, while one asks for its pid", (0, 8, 30), wait_for_places, ASLEEP, 24700, 2350),
+    ("asleep with thirty descriptors each, while one moves a name", (0, 8, 62), moves_beside, ASLEEP, 12200, 600),
     *OF_DISKS,
 ]
 
