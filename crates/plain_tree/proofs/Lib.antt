@@ -4,4 +4,5 @@ pub mod Trees
 pub mod Climbing
 pub mod Overwriting
 pub mod Rooms
+pub mod Reading
 pub mod Leading

@@ -1,5 +1,5 @@
 -- What a write and a change of size come to, by how much there is room for.
-use Rattle.std.proofs.Common.{◌≡◌, ℕ, ◌<◌, ◌≤◌, ◌≢◌, List, length, take, Ok, Err, leb, ltb, eqb, eq-eqb, sym, ap, ◌∙◌}
+use Rattle.std.proofs.Common.{◌≡◌, ℕ, ◌-◌, ◌<◌, ◌≤◌, ◌≢◌, List, length, min, take, Ok, Err, leb, ltb, eqb, eq-eqb, sym, ap, ◌∙◌, arith}
 use Rattle.std.proofs.lemmas.Bool.{cond-false, cond-true, le-leb, le-ltb, lt-leb, lt-ltb, ne_eqb}
 use Rattle.kabi_types.specs.declared.errnos.Errno.TheVariants.{EFBIG, ENOSPC}
 use Rattle.posix_defs.specs.DiskFormat.{blocks_of, greatest_size}
@@ -10,6 +10,10 @@ use Rattle.posix_defs.specs.TreeChanges.{blocks_for, resize, with_bytes, write}
 -- how many of these bytes fit
 abbrev pub fit : Tree → ℕ → ℕ → List ℕ → ℕ
 fit tree number at bytes = fitting (blocks_for tree number) at (length bytes)
+
+-- so many fit where so many are told
+pub as_many_fit : (capacity most at n count some : ℕ) → most ≡ capacity → n ≡ count → some ≡ min (most - at) count → min n (capacity - at) ≡ some
+as_many_fit capacity most at n count some held same is = omega (arith, held, same, is)
 
 pub write_far : (tree : Tree) (number at : ℕ) (bytes : List ℕ) → greatest_size ≤ at → Err EFBIG ≡ write tree number at bytes
 write_far tree number at bytes far = sym (cond-true (leb greatest_size at) _ _ (le-leb greatest_size at far))
