@@ -45,6 +45,7 @@ EXCEPTIONS = {
 AWAITED = {
     "plain_memory": "a part of the second machine, which the checker of reports will ask",
     "plain_pipes": "a part of the second machine, which the checker of reports will ask",
+    "plain_sockets": "a part of the second machine, which the checker of reports will ask",
 }
 
 # The part of crates.txt that names the crates which are tests alone.

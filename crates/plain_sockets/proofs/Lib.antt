@@ -1,0 +1,4 @@
+pub mod PlaceLemmas
+pub mod TurnLemmas
+pub mod StageLemmas
+pub mod StepLemmas

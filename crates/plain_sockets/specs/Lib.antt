@@ -1,0 +1,4 @@
+pub mod Held
+pub mod Stages
+pub mod Inside
+pub mod Accepting
