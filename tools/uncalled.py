@@ -43,6 +43,7 @@ EXCEPTIONS = {
 
 # The crates on which none stands yet but others of these, each with what it waits for: all that they offer may stand without a caller.
 AWAITED = {
+    "plain_frames": "a part of the second machine, which the checker of reports will ask",
     "plain_memory": "a part of the second machine, which the checker of reports will ask",
     "plain_pipes": "a part of the second machine, which the checker of reports will ask",
     "plain_sockets": "a part of the second machine, which the checker of reports will ask",

@@ -1,0 +1,10 @@
+use Rattle.std.proofs.Common.{◌≡◌, ◌+◌, ◌-◌, ◌<◌, ◌≤◌, ◌++◌, take, drop, true, false, length, set, refl, sym, ap, ◌∙◌, arith}
+use Rattle.posix_defs.specs.Memory.{Frames, Unmapped, Zero, is_place, no_places, place_at, places_of, with_places, with_range, written_at, written_from}
+use Rattle.plain_frames.proofs.PlaceLemmas.{given}
+use Rattle.plain_frames.proofs.frames.Frames.fork.Given as goal
+
+abbrev pub invariant-loop-page : goal.invariant-loop-page
+invariant-loop-page l = record {
+  kept : length l.self.places ≡ length l.initial.self.places;
+  so_far : l.self ≡ given l.initial.self l.parent l.child l.page;
+}

@@ -1,0 +1,9 @@
+use Rattle.std.proofs.Common.{◌≡◌, ◌+◌, ◌-◌, ◌<◌, ◌≤◌, ◌++◌, take, drop, true, false, length, set, refl, sym, ap, ◌∙◌, arith}
+use Rattle.posix_defs.specs.Memory.{Frames, Unmapped, Zero, is_place, no_places, place_at, places_of, with_places, with_range, written_at, written_from}
+use Rattle.plain_frames.proofs.frames.Frames.unmap.Given as goal
+
+abbrev pub invariant-loop-page : goal.invariant-loop-page
+invariant-loop-page l = record {
+  kept : length l.self.places ≡ length l.initial.self.places;
+  written : l.self ≡ with_places l.initial.self l.pid (with_range (places_of l.initial.self l.pid) l.first (l.page - l.first) Unmapped);
+}
