@@ -46,6 +46,7 @@ AWAITED = {
     "plain_frames": "a part of the second machine, which the checker of reports will ask",
     "plain_memory": "a part of the second machine, which the checker of reports will ask",
     "plain_pipes": "a part of the second machine, which the checker of reports will ask",
+    "plain_processes": "a part of the second machine, which the checker of reports will ask",
     "plain_sockets": "a part of the second machine, which the checker of reports will ask",
 }
 

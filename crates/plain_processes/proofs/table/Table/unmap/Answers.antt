@@ -1,0 +1,11 @@
+use Rattle.std.proofs.Common.{Some, ap, sym}
+use Rattle.posix_defs.specs.Memory.{without_pages}
+use Rattle.posix_defs.specs.Process.{memory_in, remembering}
+use Rattle.plain_processes.proofs.TableLemmas.{turned_in}
+use Rattle.plain_processes.proofs.table.Table.unmap.Goals as goal
+
+pub returns : goal.returns
+returns c =
+    turned_in c.self.inside.processes c.args.self.now c.args.pid c.place-place.result c.get_mut-process.result.now c.unmap.new.self
+    (λ there. remembering (without_pages (memory_in there) c.args.first c.args.count) there)
+    c.self.view_is c.place-place.ensures.place c.get_mut-process.ensures.value (ap Some (sym c.unmap.ensures))
