@@ -134,7 +134,7 @@ kept_stands from (Some process ∷ table) (suc i) none lt =
     let rest = kept_stands (from + 1) table i none (omega arith) in (suc rest.0, omega (arith, rest.1), rest.2, omega (arith, rest.3))
 
 -- their places are pids' but one
-pub places_small : (table : Table) (made : ℕ) → made ≡ length table → made < 2 ^ 32 → All (λ kept. kept.place + 1 < 2 ^ 32) (there_from 0 table)
+pub places_small : (table : Table) (made : ℕ) → made ≡ length table → made < 2 ^ 32 → All (λ (kept : Kept Process). kept.place + 1 < 2 ^ 32) (there_from 0 table)
 places_small table made is small = λ k d lt.
     let stands = kept_stands 0 table k d lt in omega (arith, stands.1, stands.3, is, small)
 
@@ -162,7 +162,7 @@ pub left_self : (table : Table) (pid : ℕ) → is_alive table pid ≡ true → 
 left_self table zero alive apart = refl
 left_self table (suc before) alive apart =
     let own : is_child_of (suc before) (at table before) ≡ false = not_own (suc before) (at table before) (λ same. apart (ap parent_in (get_some table before) ∙ same)) in
-    let lt : before < length table = alive_within table (suc before) before refl alive in
+    let lt : before < length table = alive_within table (suc before) before (omega arith) alive in
     get_some (map (left_behind (suc before)) table) before
     ∙ own_place table (suc before) before lt
     ∙ no_child_stays (suc before) (at table before) own
@@ -177,8 +177,8 @@ die_other table zero status apart = refl
 die_other table (suc zero) status apart = absurd (apart refl)
 die_other table (suc (suc before)) status apart = refl
 
-pub died_first : (table : Table) (pid status : ℕ) → pid ≡ 1 → map (λ _. None) table ≡ die_in table pid status
-died_first table pid status is = sym (ap (λ n. die_in table n status) is)
+pub died_first : (table : Table) (pid status : ℕ) → pid ≡ 1 → die_in table pid status ≡ map (λ _. None) table
+died_first table pid status is = ap (λ n. die_in table n status) is
 
 pub died : (places table left : Table) (pid place status : ℕ) (before after : Process) → is_alive table pid ≡ true → parent_of table pid ≢ pid → pid ≢ 1
     → left ≡ map (left_behind pid) table → places ≡ left → place + 1 ≡ pid → at places place ≡ Some before
@@ -191,13 +191,16 @@ died places table left pid place status before after alive apart other is stands
 
 -- ---- all end
 
-all_gone : (table : Table) → replicate (length table) None ≡ map (λ _. None) table
+abbrev nobody : Table → Table
+nobody table = map (λ _. None) table
+
+all_gone : (table : Table) → ◌≡◌ {A = Table} (replicate (length table) None) (nobody table)
 all_gone [] = refl
-all_gone (there ∷ table) = ap (λ rest. None ∷ rest) (all_gone table)
+all_gone (there ∷ table) = ap (λ (rest : Table). None ∷ rest) (all_gone table)
 
 pub emptied_on : (places now next : Table) (place : ℕ) → place < length places → now ≡ with_range places 0 place None → next ≡ without now place
     → next ≡ with_range places 0 (place + 1) None
 emptied_on places now next place lt is left = left ∙ range_further places now place None lt is
 
 pub all_emptied : (places table now : Table) (place : ℕ) → places ≡ table → place ≡ length places → now ≡ with_range places 0 place None → now ≡ map (λ _. None) table
-all_emptied places table now place stands all is = is ∙ range_whole places place None all ∙ all_gone places ∙ ap (map (λ _. None)) stands
+all_emptied places table now place stands all is = is ∙ range_whole places place None all ∙ all_gone places ∙ ap nobody stands

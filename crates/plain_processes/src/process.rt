@@ -105,21 +105,23 @@ impl Process {
     pub(crate) fn ignores(&self, signal: u32) -> bool
         ensures { result ≡ ignores_signal self.now signal }
     {
-        match signal {
-            SIGPIPE => self.ignores_broken_pipe,
-            SIGTERM => self.ignores_terminate,
-            _ => false,
+        if signal == SIGPIPE {
+            return self.ignores_broken_pipe;
         }
+        if signal == SIGTERM {
+            return self.ignores_terminate;
+        }
+        false
     }
 
     // It ignores this signal from now on, or doesn't.
     pub(crate) fn ignore(&mut self, signal: u32, ignored: bool)
         ensures { self.new ≡ record self.old { ignores = with_disposition self.old.ignores signal ignored } }
     {
-        match signal {
-            SIGPIPE => self.ignores_broken_pipe = ignored,
-            SIGTERM => self.ignores_terminate = ignored,
-            _ => {}
+        if signal == SIGPIPE {
+            self.ignores_broken_pipe = ignored;
+        } else if signal == SIGTERM {
+            self.ignores_terminate = ignored;
         }
     }
 
