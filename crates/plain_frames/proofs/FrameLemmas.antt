@@ -48,7 +48,7 @@ pub whole_at : (rows : List Places) (counts : List ℕ) (nodes : ℕ) (frames : 
     → pid ≤ length frames.places → length (places_of frames pid) ≡ 256
 whole_at rows counts nodes frames zero keeps is some there = absurd (omega arith)
 whole_at rows counts nodes frames (suc before) keeps is some there =
-    let same : rows ≡ frames.places = ap (λ f. f.places) is in
+    let same : rows ≡ frames.places = ap (λ (f : Frames). f.places) is in
     let lt : before < length rows = omega (arith, ap length same) in
     ap (λ all. length (get_or all before no_places)) (sym same) ∙ keeps.whole before no_places lt
 

@@ -22,7 +22,7 @@ places_of_at frames (suc before) i is = let same : before ≡ i = omega arith in
 pub row_at : (rows : List Places) (counts : List ℕ) (frames : Frames) (pid i : ℕ) (row : Places) → frames_of rows counts ≡ frames → i + 1 ≡ pid → pid ≤ length frames.places
     → row ≡ get_or rows i row → row ≡ places_of frames pid
 row_at rows counts frames pid i row is at_pid there reads =
-    let same : rows ≡ frames.places = ap (λ f. f.places) is in
+    let same : rows ≡ frames.places = ap (λ (f : Frames). f.places) is in
     let lt : i < length rows = omega (arith, ap length same) in
     get_or_read rows i row lt reads no_places ∙ ap (λ all. get_or all i no_places) same ∙ sym (places_of_at frames pid i at_pid)
 

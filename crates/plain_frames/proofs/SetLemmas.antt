@@ -12,7 +12,7 @@ use Rattle.plain_frames.proofs.PlaceLemmas.{placed_at, row_at}
 module _ (rows : List Places) (counts : List ℕ) (nodes : ℕ) (keeps : IsCounted rows counts nodes) (frames : Frames) (stands : frames_of rows counts ≡ frames)
     (pid i : ℕ) (at_pid : i + 1 ≡ pid) (there : pid ≤ length frames.places) (row : Places) (reads : row ≡ get_or rows i row) where
   within : i < length rows
-  within = omega (arith, ap (λ f. length f.places) stands)
+  within = omega (arith, ap (λ (f : Frames). length f.places) stands)
 
   here : row ≡ get_or rows i no_places
   here = get_or_read rows i row within reads no_places
@@ -45,7 +45,7 @@ module _ (rows : List Places) (counts : List ℕ) (nodes : ℕ) (keeps : IsCount
   -- the place that a page gets, and the one that it had
   module _ (page : ℕ) (in_page : page < 256) (slot new old : Place) (copied : new ≡ slot) (was : old ≡ place_at row page) where
     pub made_in : IsMade slot frames.made → IsMade new (length counts)
-    made_in so = subst (λ s. IsMade s (length counts)) (sym copied) (subst (IsMade slot) (sym (ap (λ f. f.made) stands)) so)
+    made_in so = subst (λ s. IsMade s (length counts)) (sym copied) (subst (IsMade slot) (sym (ap (λ (f : Frames). f.made) stands)) so)
 
     old_is : old ≡ place_at (get_or rows i no_places) page
     old_is = was ∙ ap (λ r. place_at r page) here

@@ -1,5 +1,5 @@
 use Rattle.std.proofs.Common.{◌≡◌, ◌+◌, ◌-◌, ◌≤◌, length, refl, set, subst, sym, ap, ◌∙◌, arith}
-use Rattle.posix_defs.specs.Memory.{Zero, places_of}
+use Rattle.posix_defs.specs.Memory.{Frames, Zero, places_of}
 use Rattle.plain_frames.specs.Slots.{IsMade}
 use Rattle.plain_frames.proofs.PlaceLemmas.{length-with, ranged_all, ranged_none, ranged_on}
 use Rattle.plain_frames.proofs.frames.Frames.map.Goals as goal
@@ -19,7 +19,7 @@ pub loop-page-preserved : goal.loop-page-preserved
 loop-page-preserved c =
     let now = c.loop-page.self in
     record {
-      kept = ap (λ f. length f.places) c.in_ok-set.ensures.set ∙ length-with now c.args.pid (set (places_of now c.args.pid) c.loop-page.page c.zero.result) ∙ c.loop-page.invariant.kept;
+      kept = ap (λ (f : Frames). length f.places) c.in_ok-set.ensures.set ∙ length-with now c.args.pid (set (places_of now c.args.pid) c.loop-page.page c.zero.result) ∙ c.loop-page.invariant.kept;
       written = rw (c.in_ok-set.ensures.set, c.zero.ensures)
           (ranged_on c.args.self.now now c.args.pid c.args.first c.loop-page.page Zero c.requires.first c.requires.there c.rows_are_whole.ensures c.loop-page.auto.page (omega (arith, c.requires.within)) c.loop-page.invariant.written);
     }

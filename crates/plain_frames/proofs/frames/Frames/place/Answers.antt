@@ -1,6 +1,6 @@
 use Rattle.std.proofs.Common.{◌≡◌, ◌<◌, length, get_or, ap, ◌∙◌, arith}
 use Rattle.std.proofs.lemmas.List.{get_or_read}
-use Rattle.posix_defs.specs.Memory.{Places, no_places, place_at}
+use Rattle.posix_defs.specs.Memory.{Frames, Places, no_places, place_at}
 use Rattle.plain_frames.proofs.FrameLemmas.{named_made}
 use Rattle.plain_frames.proofs.PlaceLemmas.{row_at}
 use Rattle.plain_frames.proofs.frames.Frames.place.Goals as goal
@@ -14,6 +14,6 @@ returns-clause-is c =
 pub returns-clause-named : goal.returns-clause-named
 returns-clause-named c =
     let rows = c.self.inside.rows.items in
-    let lt : c.index.result < length rows = omega (arith, ap (λ f. length f.places) c.self.view_is, c.requires.there, c.index.ensures) in
+    let lt : c.index.result < length rows = omega (arith, ap (λ (f : Frames). length f.places) c.self.view_is, c.requires.there, c.index.ensures) in
     let here : c.index-2.result.now ≡ get_or rows c.index.result no_places = get_or_read rows c.index.result c.index-2.result.now lt c.index-2.ensures no_places in
     rw (c.at.ensures, here, ← c.self.view_is) (named_made rows c.self.inside.tally c.self.inside.nodes c.index.result c.args.page c.self.invariant lt)
