@@ -1,4 +1,4 @@
-use Rattle.std.proofs.Common.{◌≡◌, ◌+◌, drop, refl, ap, sym, ◌∙◌, subst, arith}
+use Rattle.std.proofs.Common.{◌+◌, drop, refl, ap, sym, ◌∙◌, subst, arith}
 use Rattle.posix_defs.specs.SocketLinks.{AreLinked, AreLoose}
 use Rattle.posix_defs.specs.Sockets.{all_gone}
 use Rattle.plain_bytes.specs.Many.{queues_of}

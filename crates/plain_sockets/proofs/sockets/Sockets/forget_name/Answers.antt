@@ -15,4 +15,3 @@ returns-in-Some-clause-sockets c =
 pub returns-in-None-clause-sockets : goal.returns-in-None-clause-sockets
 returns-in-None-clause-sockets c =
     sym (no_name_to_free (sockets_in c.args.self.now) c.args.number (nobody_bound c.args.number (sockets_in c.args.self.now) (sym c.in-None.ensures)))
-

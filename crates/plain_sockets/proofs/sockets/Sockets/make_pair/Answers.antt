@@ -1,4 +1,4 @@
-use Rattle.std.proofs.Common.{length, Some, arith}
+use Rattle.std.proofs.Common.{Some, arith}
 use Rattle.plain_sockets.specs.Held.{sockets_in}
 use Rattle.plain_sockets.proofs.StepLemmas.{longer_by_one, paired}
 use Rattle.plain_sockets.proofs.TurnLemmas.{fades_follow, fades_further}

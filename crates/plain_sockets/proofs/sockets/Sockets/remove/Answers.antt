@@ -1,5 +1,4 @@
-use Rattle.std.proofs.Common.{◌≡◌, ◌-◌, Some, ap, sym, ◌∙◌, subst, arith}
-use Rattle.kept_places.specs.Places.{at}
+use Rattle.std.proofs.Common.{◌-◌, ap, sym, ◌∙◌, subst, arith}
 use Rattle.plain_bytes.specs.Many.{AreKept}
 use Rattle.plain_bytes.proofs.KeptLemmas.{has_chunks, kept_gone}
 use Rattle.plain_sockets.specs.Held.{OnlyFades, queue_of, sockets_in}
