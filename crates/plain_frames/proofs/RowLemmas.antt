@@ -1,7 +1,7 @@
 -- The places of a process, as they are kept.
-use Rattle.std.proofs.Common.{◌≡◌, ℕ, zero, suc, Option, None, Some, ◌+◌, ◌*◌, ◌<◌, ◌≤◌, Bool, true, false, ◌==◌, List, [], ◌∷◌, length, get_or, set, take, drop, replicate, refl, sym, ap, ◌∙◌, inl, inr, cond, arith}
+use Rattle.std.proofs.Common.{◌≡◌, ℕ, zero, suc, Option, None, Some, Result, Ok, Err, ◌+◌, ◌*◌, ◌<◌, ◌≤◌, Bool, true, false, ◌==◌, List, [], ◌∷◌, length, get_or, set, take, drop, replicate, refl, sym, ap, ◌∙◌, inl, inr, cond, arith}
 use Rattle.std.specs.List.{count_by}
-use Rattle.std.specs.Prelude.{slice_get}
+use Rattle.std.specs.Prelude.{OnErr}
 use Rattle.std.proofs.lemmas.Bool.{cases_lt, false≢true}
 use Rattle.std.proofs.lemmas.Bool.Decides.{eqb_tells}
 use Rattle.std.proofs.lemmas.List.{get_or-replicate, get_or_past, length-replicate, nil_from_length, length-set}
@@ -59,15 +59,6 @@ pub frames_row : (items : List Place) → count_by names_any items ≡ frames_in
 frames_row [] = sym frames-no_places
 frames_row (place ∷ items) = refl
 
-missing : (items : List Place) (page : ℕ) → slice_get items page ≡ None → get_or items page Unmapped ≡ Unmapped
-missing [] page none = refl
-missing (place ∷ items) zero none = absurd (cc)
-missing (place ∷ items) (suc page) none = missing items page none
-
--- a page that nothing is kept of isn't mapped
-pub at_none : (items : List Place) (page : ℕ) → slice_get items page ≡ None → Unmapped ≡ place_at (places_in items) page
-at_none items page none = sym (at-places_in items page ∙ missing items page none)
-
 pub full : (items : List Place) (n : ℕ) → items ≡ replicate n Unmapped → n ≡ 256 → items ≡ no_places
 unfolding no_places
 full items n is all = is ∙ ap (λ k. replicate k Unmapped) all
@@ -83,16 +74,21 @@ row_set items page slot row some =
 
 -- ---- the first page that is mapped
 
+-- what holds anyway holds where memory was wanting
+pub told_err : {T E P : Type 0} (result : Result T E) → P → OnErr result P
+told_err (Ok value) holds = tt
+told_err (Err error) holds = holds
+
 pub none_from : (items : List Place) (len : ℕ) (empty : Bool) → len ≡ length items → empty ≡ (len == 0) → empty ≡ true → length items ≡ 0
 none_from items len empty same is holds = elim (eqb_tells len 0) [
-  | inl (yes, none) ↦ sym same ∙ none
-  | inr (no, some) ↦ absurd (false≢true (sym no ∙ sym is ∙ holds))
+  | inl (holds_so, none) ↦ sym same ∙ none
+  | inr (fails_so, some) ↦ absurd (false≢true (sym fails_so ∙ sym is ∙ holds))
 ]
 
 pub some_from : (items : List Place) (len : ℕ) (empty : Bool) → len ≡ length items → empty ≡ (len == 0) → empty ≡ false → 0 < length items
 some_from items len empty same is fails = elim (eqb_tells len 0) [
-  | inl (yes, none) ↦ absurd (false≢true (sym fails ∙ is ∙ yes))
-  | inr (no, some) ↦ omega (arith, same, some)
+  | inl (holds_so, none) ↦ absurd (false≢true (sym fails ∙ is ∙ holds_so))
+  | inr (fails_so, some) ↦ omega (arith, same, some)
 ]
 
 pub full_some : (items : List Place) → items ≡ no_places → 0 < length items

@@ -45,9 +45,11 @@ impl Row {
     pub(crate) fn at(&self, page: u32) -> Slot
         ensures { result ≡ place_at self.now page }
     {
-        match self.slots.get(page as usize) {
-            Some(slot) => slot.copy(),
-            None => Slot::unmapped(),
+        let place = page as usize;
+        if place < self.slots.len() {
+            self.slots[place].copy()
+        } else {
+            Slot::unmapped()
         }
     }
 

@@ -1,12 +1,12 @@
 use Rattle.std.proofs.Common.{◌≡◌, ◌<◌, length, arith}
-use Rattle.plain_frames.proofs.RowLemmas.{empty_unmapped, first_set, full_row, full_some, length_some, none_from, row_set, set_row, some_from}
+use Rattle.plain_frames.proofs.RowLemmas.{empty_unmapped, first_set, full_row, full_some, length_some, none_from, row_set, set_row, some_from, told_err}
 use Rattle.plain_frames.proofs.rows.Row.set.Goals as goal
 
 pub returns-in_err-slots-clause-unmapped : goal.returns-in_err-slots-clause-unmapped
 returns-in_err-slots-clause-unmapped c =
     let slots = c.self.inside.slots in
     let len : slots.len ≡ length slots.items = omega (arith, slots.ok) in
-    rw (← c.self.view_is) (empty_unmapped slots.items c.args.page (none_from slots.items slots.len c.is_empty.result len c.is_empty.ensures c.if-is_empty.true))
+    rw (← c.self.view_is) (told_err c.from_residual.result (empty_unmapped slots.items c.args.page (none_from slots.items slots.len c.is_empty.result len c.is_empty.ensures c.if-is_empty.true)))
 
 pub index_mut-requires : goal.index_mut-requires
 index_mut-requires c =
