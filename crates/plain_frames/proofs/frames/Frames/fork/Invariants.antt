@@ -1,5 +1,4 @@
-use Rattle.std.proofs.Common.{◌≡◌, ◌+◌, ◌-◌, ◌<◌, ◌≤◌, ◌++◌, take, drop, true, false, length, set, refl, sym, ap, ◌∙◌, arith}
-use Rattle.posix_defs.specs.Memory.{Frames, Unmapped, Zero, is_place, no_places, place_at, places_of, with_places, with_range, written_at, written_from}
+use Rattle.std.proofs.Common.{◌≡◌, length}
 use Rattle.plain_frames.proofs.PlaceLemmas.{given}
 use Rattle.plain_frames.proofs.frames.Frames.fork.Given as goal
 

@@ -1,4 +1,4 @@
-use Rattle.std.proofs.Common.{◌≡◌, ◌+◌, ◌-◌, ◌≤◌, length, refl, sym, ap, ◌∙◌, arith}
+use Rattle.std.proofs.Common.{◌≡◌, ◌+◌, ◌-◌, refl, sym, ap, ◌∙◌, arith}
 use Rattle.posix_defs.specs.Memory.{written_from}
 use Rattle.plain_frames.proofs.PlaceLemmas.{put_on}
 use Rattle.plain_frames.proofs.frames.Frames.put.Goals as goal

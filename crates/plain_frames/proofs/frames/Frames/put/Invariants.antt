@@ -1,5 +1,5 @@
-use Rattle.std.proofs.Common.{◌≡◌, ◌+◌, ◌-◌, ◌<◌, ◌≤◌, ◌++◌, take, drop, true, false, length, set, refl, sym, ap, ◌∙◌, arith}
-use Rattle.posix_defs.specs.Memory.{Frames, Unmapped, Zero, is_place, no_places, place_at, places_of, with_places, with_range, written_at, written_from}
+use Rattle.std.proofs.Common.{◌≡◌, ◌+◌, ◌-◌, length}
+use Rattle.posix_defs.specs.Memory.{written_from}
 use Rattle.plain_frames.proofs.frames.Frames.put.Given as goal
 
 abbrev pub invariant-loop-page : goal.invariant-loop-page

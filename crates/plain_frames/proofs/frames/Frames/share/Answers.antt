@@ -1,6 +1,6 @@
-use Rattle.std.proofs.Common.{◌≡◌, false, subst, sym, ap, ◌∙◌}
+use Rattle.std.proofs.Common.{sym, ap, ◌∙◌}
 use Rattle.std.proofs.lemmas.Bool.{false≢true}
-use Rattle.posix_defs.specs.Memory.{is_place, place_at, places_of}
+use Rattle.posix_defs.specs.Memory.{is_place}
 use Rattle.plain_frames.specs.Counted.{with_place}
 use Rattle.plain_frames.proofs.frames.Frames.share.Goals as goal
 

@@ -1,4 +1,4 @@
-use Rattle.std.proofs.Common.{◌≡◌, ◌<◌, ◌≤◌, length, set, subst, sym, ap, ◌∙◌, arith}
+use Rattle.std.proofs.Common.{◌<◌, ◌≤◌, length, set, subst, sym, ap, ◌∙◌, arith}
 use Rattle.posix_defs.specs.Memory.{Frame, Frames, places_of}
 use Rattle.plain_frames.specs.Counted.{wants_frame, with_place}
 use Rattle.plain_frames.specs.Slots.{IsMade}
