@@ -72,8 +72,10 @@ ranged_on frames now pid first page slot some there whole le lt is =
 
 -- at its beginning, and at its end
 range_none : {X : Type 0} (xs : List X) (first n : ℕ) (x : X) → n ≡ 0 → with_range xs first n x ≡ xs
-range_none xs first n x none =
-    let begun : take first xs ++ drop (first + 0) xs ≡ xs = ap (λ (k : ℕ). take first xs ++ drop k xs) (add-zero first) ∙ take-append-drop first xs in
+range_none {X} xs first n x none =
+    let begun : (take first xs ++ []) ++ drop (first + 0) xs ≡ xs =
+    ap (λ (front : List X). front ++ drop (first + 0) xs) (append-nil (take first xs))
+    ∙ ap (λ (k : ℕ). take first xs ++ drop k xs) (add-zero first) ∙ take-append-drop first xs in
     subst (λ (k : ℕ). with_range xs first k x ≡ xs) (sym none) begun
 
 pub ranged_none : (frames : Frames) (pid first n : ℕ) (slot : Place) → n ≡ 0 → frames ≡ with_places frames pid (with_range (places_of frames pid) first n slot)
