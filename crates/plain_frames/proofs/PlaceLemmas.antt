@@ -1,6 +1,7 @@
 -- The frames, as the pages of one process get other places one after another.
-use Rattle.std.proofs.Common.{◌≡◌, ◌≢◌, ℕ, zero, suc, ◌+◌, ◌-◌, ◌<◌, ◌≤◌, Bool, true, false, cond, List, [], ◌∷◌, ◌++◌, length, get_or, set, take, drop, replicate, refl, sym, ap, ◌∙◌, subst, inl, inr, arith, add-zero}
+use Rattle.std.proofs.Common.{◌≡◌, ◌≢◌, ℕ, zero, suc, ◌+◌, ◌-◌, ◌<◌, ◌≤◌, Bool, true, false, cond, List, [], ◌∷◌, ◌++◌, length, get_or, set, take, drop, replicate, refl, sym, ap, ◌∙◌, subst, inl, inr, arith, rules}
 use Rattle.std.proofs.lemmas.Bool.{cond-false, cond-true, false≢true}
+use Rattle.std.proofs.lemmas.Grind.{common_steps}
 use Rattle.std.proofs.lemmas.List.{append-nil, append_assoc, drop_all, drop_more, get_or-set_other, get_or-set_same, get_or_append_left, get_or_push, get_or_read, length-append, length-set, length-take-le, set-get_or, set-set, set_at, take-append-drop, take_all, take_more}
 use Rattle.posix_defs.specs.ByPid.{with_pid}
 use Rattle.posix_defs.specs.Memory.{Frames, Place, Places, Unmapped, Zero, Frame, after_clear, after_fork, after_unmap, fresh_at, is_place, kept_from, no_places, place_at, places_of, with_places, with_range, without_dead, written_as, written_at, written_from}
@@ -72,11 +73,7 @@ ranged_on frames now pid first page slot some there whole le lt is =
 
 -- at its beginning, and at its end
 range_none : {X : Type 0} (xs : List X) (first n : ℕ) (x : X) → n ≡ 0 → with_range xs first n x ≡ xs
-range_none {X} xs first n x none =
-    let begun : (take first xs ++ []) ++ drop (first + 0) xs ≡ xs =
-    ap (λ (front : List X). front ++ drop (first + 0) xs) (append-nil (take first xs))
-    ∙ ap (λ (k : ℕ). take first xs ++ drop k xs) (add-zero first) ∙ take-append-drop first xs in
-    subst (λ (k : ℕ). with_range xs first k x ≡ xs) (sym none) begun
+range_none xs first n x none = first_of (grind (arith, common_steps), search rules)
 
 pub ranged_none : (frames : Frames) (pid first n : ℕ) (slot : Place) → n ≡ 0 → frames ≡ with_places frames pid (with_range (places_of frames pid) first n slot)
 ranged_none frames pid first n slot none = sym (ap (with_places frames pid) (range_none (places_of frames pid) first n slot none) ∙ with_same frames pid)
